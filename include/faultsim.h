@@ -83,6 +83,13 @@ enum {
     FS_WORDS_IDLE       /* the source has a bit past the last test */
 };
 
+/* Which faults have a line in a report. */
+enum {
+    FS_LINES_NONE,
+    FS_LINES_ALL,       /* as --list */
+    FS_LINES_UNDETECTED /* as --undetected */
+};
+
 /* Stands in place of a first test if no test detects. */
 #define FS_NONE UINT32_MAX
 
@@ -126,6 +133,11 @@ uint32_t fs_stems_of(fs_job *job, uint32_t *stems, size_t stems_len);
  * has less room than that, the status is FS_RANGE, and `wanted` tells how much it takes. */
 uint32_t fs_name_of(fs_job *job, uint32_t signal, uint8_t *text, size_t text_len, size_t *wanted);
 
+/* Tells the name of a fault, as each line of `faultsim faults` begins: `stem G1 sa0`, `pin G2 1 sa1`,
+ * `data Q str`; no 0 follows it. `wanted` tells how many bytes it has, as of fs_name_of. */
+uint32_t fs_fault_text(fs_job *job, uint32_t fault, uint8_t *text, size_t text_len,
+                       size_t *wanted);
+
 /* Tells the place of a signal in a test, from 0. The status is FS_RANGE if the signal is a gate's,
  * or out of range. */
 uint32_t fs_source_of(fs_job *job, uint32_t signal, uint32_t *place);
@@ -133,14 +145,36 @@ uint32_t fs_source_of(fs_job *job, uint32_t signal, uint32_t *place);
 /* Tells the fault-free value of a signal: bit k of `word` is its value in test 64 * block + k. */
 uint32_t fs_word(fs_job *job, uint32_t block, uint32_t signal, uint64_t *word);
 
-/* Tells for each class of a list the first test that detects it, or FS_NONE. The lengths are
- * equal. */
+/* Tells the signal of each observer, and in `wanted` how many observers there are: the OUTPUT lines in
+ * order, then the data pins of the flip-flops, in the order of the DFF lines. If the array has less
+ * room than that, the status is FS_RANGE, and `wanted` tells how much it takes. */
+uint32_t fs_observers_of(fs_job *job, uint32_t *signals, size_t signals_len, size_t *wanted);
+
+/* Tells the fault-free values of the observers: words[block * observers + o] is the word of observer
+ * o, as fs_word tells it. words_len is the number of blocks times that of observers. */
+uint32_t fs_responses(fs_job *job, uint64_t *words, size_t words_len);
+
+/* Tells for each class of a list the first test that detects it, or FS_NONE. The list may have any
+ * order, and a class more than once. The lengths are equal. On any status but FS_DONE `firsts` is as
+ * it was. */
 uint32_t fs_simulate(fs_job *job, const uint32_t *classes, size_t classes_len, uint32_t *firsts,
                      size_t firsts_len);
 
 /* Tells which tests of a block detect a class: bit k of `lanes` is 1 exactly if test
  * 64 * block + k does. */
 uint32_t fs_detecting(fs_job *job, uint32_t class_number, uint32_t block, uint64_t *lanes);
+
+/* Tells how many tests detect each class of a list; no more than `most` are counted of a class. The
+ * lengths are equal. It takes no memory. */
+uint32_t fs_detections(fs_job *job, const uint32_t *classes, size_t classes_len, uint32_t most,
+                       uint32_t *counts, size_t counts_len);
+
+/* Tells the report that `faultsim run` writes of the job, and in `wanted` how many bytes it has; no 0
+ * follows it. `lines` tells which faults have a line, and with `classes` a last line tells the
+ * coverage of the classes. If the text has less room, the status is FS_RANGE, and `wanted` tells how
+ * much it takes. Each call simulates all classes. */
+uint32_t fs_report(fs_job *job, uint32_t lines, bool classes, uint8_t *text, size_t text_len,
+                   size_t *wanted);
 
 /* All in one call, without a handle: tells the first test of a text that detects each fault of a
  * circuit, or FS_NONE, and in `faults` the number of faults. If firsts_len is not that number, the

@@ -66,6 +66,33 @@ static void wrong(fs_job *job) {
     MUST(fs_name_of(job, 5, name, 1, &wanted) == FS_RANGE && wanted == 2 && name[0] == '?');
     MUST(fs_name_of(job, 5, name, 3, &wanted) == FS_DONE && !memcmp(name, "10?", 3));
     MUST(fs_name_of(job, 11, name, 3, &wanted) == FS_RANGE);
+    uint8_t fault_text[12] = "???????????";
+    MUST(fs_fault_text(job, 0, fault_text, 9, &wanted) == FS_RANGE && wanted == 10);
+    MUST(fs_fault_text(job, 0, fault_text, 11, &wanted) == FS_DONE);
+    MUST(!memcmp(fault_text, "stem 1 sa0?", 11));
+    MUST(fs_fault_text(job, 34, fault_text, 11, &wanted) == FS_RANGE);
+    uint32_t asked[3] = {1, 0, 1}, counts[3] = {7, 7, 7}, found[3];
+    MUST(fs_detections(job, asked, 3, 5, counts, 3) == FS_DONE);
+    MUST(fs_simulate(job, asked, 3, found, 3) == FS_DONE && found[0] == found[2]);
+    for (int i = 0; i < 3; i++)
+        MUST(counts[i] == (found[i] != FS_NONE));
+    MUST(fs_detections(job, asked, 3, 0, counts, 3) == FS_DONE && counts[0] == 0);
+    asked[0] = 1000;
+    counts[0] = 7;
+    MUST(fs_detections(job, asked, 3, 5, counts, 3) == FS_RANGE && counts[0] == 7);
+    uint32_t signals[2];
+    uint64_t shown[2];
+    MUST(fs_observers_of(job, signals, 1, &wanted) == FS_RANGE && wanted == 2);
+    MUST(fs_observers_of(job, signals, 2, &wanted) == FS_DONE);
+    MUST(fs_name_of(job, signals[1], name, 3, &wanted) == FS_DONE && !memcmp(name, "23", 2));
+    /* Under 11111 NAND(10, 16) is 1, and NAND(16, 19) is 0. */
+    MUST(fs_responses(job, shown, 1) == FS_RANGE && fs_responses(job, shown, 2) == FS_DONE);
+    MUST((shown[0] & 1) == 1 && (shown[1] & 1) == 0);
+    uint8_t report[32];
+    MUST(fs_report(job, FS_LINES_ALL, false, report, 32, &wanted) == FS_RANGE && wanted > 32);
+    MUST(fs_report(job, FS_LINES_NONE, false, report, 32, &wanted) == FS_DONE);
+    MUST(wanted == 18 && !memcmp(report, "14 of 34 (41.17%)\n", 18));
+    MUST(fs_report(job, 3, false, report, 32, &wanted) == FS_RANGE);
     uint32_t place = 7;
     MUST(fs_source_of(job, 4, &place) == FS_DONE && place == 4);
     MUST(fs_source_of(job, 5, &place) == FS_RANGE && place == 4);

@@ -54,6 +54,18 @@ static uint32_t set_words(void) {
 
 static uint32_t simulate(void) { return fs_simulate(&job, classes, n.classes, firsts, n.classes); }
 
+static uint32_t fault_text(void) {
+    uint8_t text[16];
+    size_t wanted;
+    return fs_fault_text(&job, 0, text, sizeof text, &wanted);
+}
+
+static uint32_t report(void) {
+    uint8_t text[64];
+    size_t wanted;
+    return fs_report(&job, FS_LINES_NONE, true, text, sizeof text, &wanted);
+}
+
 static uint32_t in_one(void) {
     return fs_firsts(FS_STUCK_AT, (const uint8_t *)C17, sizeof C17 - 1,
                      (const uint8_t *)"11111\n", 6, firsts, 34, &faults, &fault);
@@ -93,6 +105,8 @@ int main(void) {
     for (uint32_t i = 0; i < n.classes; i++)
         classes[i] = i;
     refused += refuse("fs_simulate", simulate);
+    refused += refuse("fs_fault_text", fault_text);
+    refused += refuse("fs_report", report);
     refused += refuse("fs_job_share", share_it);
     refused += refuse("fs_firsts", in_one);
     fs_job_free(&second);

@@ -69,24 +69,47 @@ static char *some_tests(int count) {
     return text;
 }
 
+/* The stems of the classes, for the order of the shares. */
+static const uint32_t *stem_at;
+
+static int by_stem(const void *one, const void *other) {
+    uint32_t a = stem_at[*(const uint32_t *)one], b = stem_at[*(const uint32_t *)other];
+    return (a > b) - (a < b);
+}
+
+/* Shares out all classes by whole regions, so that no two threads simulate one region. */
 static void simulate(fs_job *job, size_t threads, const fs_sizes *n, uint32_t *firsts) {
-    uint32_t *classes = room(n->classes, sizeof *classes);
+    uint32_t *classes = room(n->classes, sizeof *classes), *stems = room(n->classes, sizeof *stems);
+    uint32_t *found = room(n->classes, sizeof *found);
+    if (fs_stems_of(job, stems, n->classes))
+        end("no stems");
     for (uint32_t i = 0; i < n->classes; i++)
         classes[i] = i;
+    stem_at = stems;
+    qsort(classes, n->classes, sizeof *classes, by_stem);
     struct part *parts = room(threads, sizeof *parts);
     pthread_t *ids = room(threads, sizeof *ids);
+    size_t from = 0;
     for (size_t i = 0; i < threads; i++) {
-        size_t from = n->classes * i / threads, to = n->classes * (i + 1) / threads;
+        size_t to = n->classes * (i + 1) / threads;
+        to = to < from ? from : to;
+        while (to > from && to < n->classes && stems[classes[to]] == stems[classes[to - 1]])
+            to++;
         parts[i].classes = classes + from;
-        parts[i].firsts = firsts + from;
+        parts[i].firsts = found + from;
         parts[i].count = to - from;
+        from = to;
         if (fs_job_share(job, &parts[i].job) || pthread_create(&ids[i], NULL, run, &parts[i]))
             end("no thread");
     }
     for (size_t i = 0; i < threads; i++)
         if (pthread_join(ids[i], NULL) || parts[i].status)
             end("a part failed");
+    for (uint32_t i = 0; i < n->classes; i++)
+        firsts[classes[i]] = found[i];
     free(classes);
+    free(stems);
+    free(found);
     free(parts);
     free(ids);
 }

@@ -41,6 +41,17 @@ int main() {
     auto of = job.classes_of();
     auto found = std::ranges::count_if(of, [&](auto it) { return firsts[it] != FS_NONE; });
     std::printf("%td of %zu\n", found, of.size());
+    std::array<std::uint32_t, 2> counts{};
+    job.detections(std::span(classes).first(2), 5, counts);
+    for (std::size_t i = 0; i < counts.size(); i++)
+        if (counts[i] != (firsts[i] != FS_NONE) || job.fault_name(33) != "stem 23 sa1")
+            return 1;
+    // Under 11111 NAND(10, 16) is 1, and NAND(16, 19) is 0.
+    auto shown = job.responses();
+    if (job.observers().size() != 2 || shown.size() != 2 || !(shown[0] & 1) || (shown[1] & 1))
+        return 1;
+    if (job.report() != "14 of 34 (41.17%)\n")
+        return 1;
     faultsim::Job moved = std::move(job);
     try {
         moved.set_text("11111\n111\n");
@@ -51,6 +62,7 @@ int main() {
     }
     bool well = fails_with(FS_NO_JOB, [&] { job.sizes(); })
         && fails_with(FS_RANGE, [&] { moved.detecting(1000, 0); })
+        && fails_with(FS_RANGE, [&] { moved.fault_name(34); })
         && fails_with(FS_REFUSED, [&] { moved.set_text("111\n"); })
         && fails_with(FS_REFUSED, [&] { faultsim::Job("z = AND(a, b)\n"); });
     return well ? 0 : 1;

@@ -26,6 +26,13 @@ enum class Model : std::uint32_t {
     transition_pairs = FS_TRANSITION_PAIRS
 };
 
+// Which faults have a line in a report.
+enum class Lines : std::uint32_t {
+    none = FS_LINES_NONE,
+    all = FS_LINES_ALL,
+    undetected = FS_LINES_UNDETECTED
+};
+
 // Why a call fails: a status of faultsim.h, and if a text or words are wrong a kind and a place.
 class Error : public std::runtime_error {
 public:
@@ -137,17 +144,12 @@ public:
     }
 
     std::string name_of(std::uint32_t signal) {
-        std::uint8_t nothing = 0;
-        std::size_t wanted = 0;
-        std::uint32_t status = fs_name_of(&handle, signal, &nothing, 0, &wanted);
-        if (status != FS_RANGE || wanted == 0) {
-            check(status);
-            return {};
-        }
-        std::string name(wanted, '\0');
-        check(fs_name_of(&handle, signal, reinterpret_cast<std::uint8_t *>(name.data()), wanted,
-                         &wanted));
-        return name;
+        return text([&](auto... room) { return fs_name_of(&handle, signal, room...); });
+    }
+
+    // Returns the name of a fault, as each line of `faultsim faults` begins: `stem G1 sa0`.
+    std::string fault_name(std::uint32_t fault) {
+        return text([&](auto... room) { return fs_fault_text(&handle, fault, room...); });
     }
 
     // Tells the place of a signal in a test, from 0, or none for the signal of a gate.
@@ -167,6 +169,35 @@ public:
         return word;
     }
 
+    // Returns the signal of each observer: the OUTPUT lines, and then the data pins of the flip-flops.
+    std::vector<std::uint32_t> observers() {
+        std::size_t wanted = 0;
+        std::uint32_t nothing = 0;
+        if (std::uint32_t status = fs_observers_of(&handle, &nothing, 0, &wanted);
+            status != FS_RANGE || wanted == 0) {
+            check(status);
+            return {};
+        }
+        std::vector<std::uint32_t> signals(wanted);
+        check(fs_observers_of(&handle, signals.data(), signals.size(), &wanted));
+        return signals;
+    }
+
+    // Returns the fault-free values of the observers: for each block a word for each of them.
+    std::vector<std::uint64_t> responses() {
+        std::vector<std::uint64_t> words(sizes().blocks * observers().size());
+        check(fs_responses(&handle, at(std::span(words)), words.size()));
+        return words;
+    }
+
+    // Returns the report that `faultsim run` writes: the lines that are asked for, the coverage, and
+    // with `classes` that of the classes.
+    std::string report(Lines lines = Lines::none, bool classes = false) {
+        return text([&](auto... room) {
+            return fs_report(&handle, static_cast<std::uint32_t>(lines), classes, room...);
+        });
+    }
+
     // Tells for each class of a list the first test that detects it, or FS_NONE. The lengths are
     // equal.
     void simulate(std::span<const std::uint32_t> classes, std::span<std::uint32_t> firsts) {
@@ -180,8 +211,30 @@ public:
         return lanes;
     }
 
+    // Counts how many tests detect each class of a list, no more than `most` of a class. The lengths
+    // are equal.
+    void detections(std::span<const std::uint32_t> classes, std::uint32_t most,
+                    std::span<std::uint32_t> counts) {
+        check(fs_detections(&handle, at(classes), classes.size(), most, at(counts),
+                            counts.size()));
+    }
+
 private:
     Job() = default;
+
+    // Returns the text of a call that tells in its last argument how many bytes it has.
+    static std::string text(auto call) {
+        std::uint8_t nothing = 0;
+        std::size_t wanted = 0;
+        std::uint32_t status = call(&nothing, std::size_t{0}, &wanted);
+        if (status != FS_RANGE || wanted == 0) {
+            check(status);
+            return {};
+        }
+        std::string text(wanted, '\0');
+        check(call(reinterpret_cast<std::uint8_t *>(text.data()), text.size(), &wanted));
+        return text;
+    }
 
     static void check(std::uint32_t status, fs_fault fault = {}) {
         if (status == FS_MEMORY)

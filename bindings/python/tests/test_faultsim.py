@@ -28,6 +28,10 @@ OUTPUT(23)
 AND = "INPUT(a)\nINPUT(b)\nOUTPUT(z)\nz = AND(a, b)\n"
 
 
+def _flat(words):
+    return words.reshape(-1) if faultsim.numpy is not None else words
+
+
 class Reading(unittest.TestCase):
     def test_sizes(self):
         with faultsim.Job(C17) as job:
@@ -108,6 +112,41 @@ class Tests(unittest.TestCase):
             self.assertEqual(found, [70, 0, 70, faultsim.NONE, 70, 0])
             self.assertEqual(job.detecting(int(of[4]), 1), 1 << 6)
             self.assertEqual(list(job.detections(3, [int(of[5])])), [3])
+            # Of z stuck at 0 test 70 is one; of z stuck at 1 the 70 before it are.
+            self.assertEqual([int(it) for it in job.detections(100, [of[4], of[5]])], [1, 70])
+
+    def test_faults_by_name(self):
+        with faultsim.Job(AND) as job:
+            job.set_tests("11\n01\n")
+            names = ["stem a sa0", "stem a sa1", "stem b sa0", "stem b sa1", "stem z sa0", "stem z sa1"]
+            self.assertEqual(job.fault_names(), names)
+            wanted = dict(zip(names, [0, 1, 0, None, 0, 1]))
+            self.assertEqual(job.first_tests(), wanted)
+            self.assertEqual(job.first_tests(workers=2), wanted)
+            for wrong in (6, -1):
+                with self.assertRaises(IndexError):
+                    job.fault_name(wrong)
+        with faultsim.Job(AND, faultsim.Model.TRANSITION) as job:
+            self.assertEqual(job.fault_name(5), "stem z stf")
+
+    def test_responses_and_report(self):
+        with faultsim.Job("INPUT(a)\nOUTPUT(z)\nq = DFF(a)\nz = NOT(q)\n") as job:
+            # A test has a bit for a, and then one for the cell q.
+            job.set_tests("10\n11\n01\n")
+            a, z = (next(i for i in range(3) if job.name_of(i) == it) for it in "az")
+            self.assertEqual([int(it) for it in job.observers()], [z, a])
+            words = [int(it) & 0b111 for it in _flat(job.responses())]
+            self.assertEqual(words, [0b001, 0b011])
+        with faultsim.Job(AND) as job:
+            job.set_tests("11\n01\n")
+            self.assertEqual(job.report(), "5 of 6 (83.33%)\n")
+            self.assertEqual(
+                job.report(faultsim.Lines.UNDETECTED, classes=True),
+                "stem b sa1 none\n5 of 6 (83.33%)\n3 of 4 classes (75.00%)\n",
+            )
+            self.assertEqual(job.report(faultsim.Lines.ALL).count("\n"), 7)
+            with self.assertRaises(IndexError):
+                job.report(3)
 
     def test_numbers_out_of_range(self):
         with faultsim.Job(AND) as job:
@@ -119,6 +158,7 @@ class Tests(unittest.TestCase):
                     lambda: job.word(0, wrong),
                     lambda: job.name_of(wrong),
                     lambda: job.simulate([wrong]),
+                    lambda: job.detections(1, [wrong]),
                 ):
                     with self.assertRaises(IndexError):
                         call()

@@ -23,6 +23,17 @@ pub enum Model {
     TransitionPairs = 2,
 }
 
+/// Which faults have a line in a report.
+#[derive(Clone, Copy, Debug, PartialEq, Eq)]
+pub enum Lines {
+    /// None.
+    None = 0,
+    /// All faults.
+    All = 1,
+    /// The faults that no test detects.
+    Undetected = 2,
+}
+
 /// Why a call fails.
 #[derive(Clone, Copy, Debug, PartialEq, Eq)]
 pub enum Error {
@@ -164,18 +175,28 @@ impl Job {
 
     /// Tells the name of a signal.
     pub fn name_of(&mut self, signal: u32) -> Result<String, Error> {
+        // SAFETY: as above; the call tests the number.
+        self.text(|job, text, room, wanted| unsafe {
+            sys::fs_name_of(job, signal, text, room, wanted)
+        })
+    }
+
+    /// Tells the name of a fault, as each line of `faultsim faults` begins: `stem G1 sa0`.
+    pub fn fault_name(&mut self, fault: u32) -> Result<String, Error> {
+        // SAFETY: as above; the call tests the number.
+        self.text(|job, text, room, wanted| unsafe {
+            sys::fs_fault_text(job, fault, text, room, wanted)
+        })
+    }
+
+    /// The text of a call that tells in its last argument how many bytes it has.
+    fn text(
+        &mut self,
+        call: impl Fn(*mut Handle, *mut u8, usize, *mut usize) -> u32,
+    ) -> Result<String, Error> {
         let (mut text, mut wanted) = (Vec::new(), 0);
         loop {
-            // SAFETY: as above.
-            let status = unsafe {
-                sys::fs_name_of(
-                    &mut self.0,
-                    signal,
-                    text.as_mut_ptr(),
-                    text.len(),
-                    &mut wanted,
-                )
-            };
+            let status = call(&mut self.0, text.as_mut_ptr(), text.len(), &mut wanted);
             if status == 4 && text.len() < wanted {
                 text.resize(wanted, 0);
                 continue;
@@ -204,6 +225,43 @@ impl Job {
         Ok(word)
     }
 
+    /// Tells the signal of each observer: the OUTPUT lines, and then the data pins of the flip-flops.
+    pub fn observers(&mut self) -> Vec<u32> {
+        let (mut signals, mut wanted) = (Vec::new(), 0);
+        loop {
+            // SAFETY: as above.
+            unsafe {
+                sys::fs_observers_of(
+                    &mut self.0,
+                    signals.as_mut_ptr(),
+                    signals.len(),
+                    &mut wanted,
+                )
+            };
+            if signals.len() >= wanted {
+                return signals;
+            }
+            signals.resize(wanted, 0);
+        }
+    }
+
+    /// Returns the fault-free values of the observers: for each block a word for each of them.
+    pub fn responses(&mut self) -> Vec<u64> {
+        let mut words = vec![0; self.sizes().blocks as usize * self.observers().len()];
+        // SAFETY: as above, and the length is that of the words.
+        unsafe { sys::fs_responses(&mut self.0, words.as_mut_ptr(), words.len()) };
+        words
+    }
+
+    /// Returns the report that `faultsim run` writes: the lines that are asked for, the coverage, and
+    /// with `classes` that of the classes.
+    pub fn report(&mut self, lines: Lines, classes: bool) -> Result<String, Error> {
+        // SAFETY: as above; the call tests the number.
+        self.text(|job, text, room, wanted| unsafe {
+            sys::fs_report(job, lines as u32, classes, text, room, wanted)
+        })
+    }
+
     /// Finds the first test that detects each class of a list.
     pub fn simulate(&mut self, classes: &[u32]) -> Result<Vec<Option<u32>>, Error> {
         let mut firsts = vec![0; classes.len()];
@@ -228,6 +286,24 @@ impl Job {
         let status = unsafe { sys::fs_detecting(&mut self.0, class, block, &mut lanes) };
         told(status, Fault::default())?;
         Ok(lanes)
+    }
+
+    /// Counts how many tests detect each class of a list, no more than `most` of a class.
+    pub fn detections(&mut self, classes: &[u32], most: u32) -> Result<Vec<u32>, Error> {
+        let mut counts = vec![0; classes.len()];
+        // SAFETY: as above; the call tests the classes.
+        let status = unsafe {
+            sys::fs_detections(
+                &mut self.0,
+                classes.as_ptr(),
+                classes.len(),
+                most,
+                counts.as_mut_ptr(),
+                counts.len(),
+            )
+        };
+        told(status, Fault::default())?;
+        Ok(counts)
     }
 
     /// Iterates over the faults, each with its class and the first test that detects it.

@@ -75,8 +75,22 @@ extern "C" {
         text_len: usize,
         wanted: *mut usize,
     ) -> u32;
+    pub fn fs_fault_text(
+        job: *mut Handle,
+        fault: u32,
+        text: *mut u8,
+        text_len: usize,
+        wanted: *mut usize,
+    ) -> u32;
     pub fn fs_source_of(job: *mut Handle, signal: u32, place: *mut u32) -> u32;
     pub fn fs_word(job: *mut Handle, block: u32, signal: u32, word: *mut u64) -> u32;
+    pub fn fs_observers_of(
+        job: *mut Handle,
+        signals: *mut u32,
+        signals_len: usize,
+        wanted: *mut usize,
+    ) -> u32;
+    pub fn fs_responses(job: *mut Handle, words: *mut u64, words_len: usize) -> u32;
     pub fn fs_simulate(
         job: *mut Handle,
         classes: *const u32,
@@ -85,6 +99,22 @@ extern "C" {
         firsts_len: usize,
     ) -> u32;
     pub fn fs_detecting(job: *mut Handle, class: u32, block: u32, lanes: *mut u64) -> u32;
+    pub fn fs_detections(
+        job: *mut Handle,
+        classes: *const u32,
+        classes_len: usize,
+        most: u32,
+        counts: *mut u32,
+        counts_len: usize,
+    ) -> u32;
+    pub fn fs_report(
+        job: *mut Handle,
+        lines: u32,
+        classes: bool,
+        text: *mut u8,
+        text_len: usize,
+        wanted: *mut usize,
+    ) -> u32;
     pub fn fs_firsts(
         model: u32,
         bench: *const u8,

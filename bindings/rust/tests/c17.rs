@@ -1,6 +1,6 @@
 //! C17 under one test: 14 of 34 faults.
 
-use faultsim::{firsts, version, Error, Fault, Job, Model};
+use faultsim::{firsts, version, Error, Fault, Job, Lines, Model};
 
 const C17: &[u8] = b"INPUT(1)\nINPUT(2)\nINPUT(3)\nINPUT(6)\nINPUT(7)\nOUTPUT(22)\nOUTPUT(23)\n\
     10 = NAND(1, 3)\n11 = NAND(3, 6)\n16 = NAND(2, 11)\n19 = NAND(11, 7)\n\
@@ -19,6 +19,19 @@ fn one_test_detects_14_of_34() -> Result<(), Error> {
     let all = firsts(Model::StuckAt, C17, b"11111\n")?;
     assert_eq!(all.iter().filter(|it| it.is_some()).count(), 14);
     assert_eq!(version(), 1);
+    assert_eq!(job.fault_name(0)?, "stem 1 sa0");
+    assert_eq!(job.fault_name(34), Err(Error::OutOfRange));
+    // Under 11111 NAND(10, 16) is 1, and NAND(16, 19) is 0.
+    let shown: Vec<u64> = job.responses().iter().map(|it| it & 1).collect();
+    assert_eq!(shown, [1, 0]);
+    assert_eq!(job.observers().len(), 2);
+    assert_eq!(job.report(Lines::None, false)?, "14 of 34 (41.17%)\n");
+    assert_eq!(job.report(Lines::All, false)?.lines().count(), 35);
+    // One test detects a class once, or not.
+    let counts = job.detections(&[0, 1], 5)?;
+    let found = job.simulate(&[0, 1])?;
+    assert_eq!(counts, found.iter().map(|it| it.is_some() as u32).collect::<Vec<_>>());
+    assert_eq!(job.detections(&[1000], 5), Err(Error::OutOfRange));
     Ok(())
 }
 

@@ -4,3 +4,5 @@ pub mod Pointed
 mod Replies
 mod Tables
 mod Options
+mod ObservedSignals
+mod ListsOfJobs

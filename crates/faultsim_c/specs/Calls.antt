@@ -1,22 +1,25 @@
 -- What calls from C answer.
-use Rattle.std.specs.Prelude.{⊤, ◌≡◌, ℕ, ◌+◌, ◌*◌, ◌<◌, ◌≤◌, [], ◌++◌, All, List, length, drop}
+use Rattle.std.specs.Prelude.{◌≡◌, ℕ, ◌+◌, ◌*◌, ◌<◌, ◌≤◌, [], ◌++◌, All, Bool, List, length, drop}
+use Rattle.std.specs.Prelude.{map}
 use Rattle.std.specs.Prelude.{Option, Some, None}
-use Rattle.std.specs.Prelude.{slice_get, slice_index, nat_eq, nat_lt, if◌then◌else◌}
+use Rattle.std.specs.Prelude.{slice_get, slice_index, slice_index_or, nat_eq, if◌then◌else◌}
 use Rattle.bench_net.specs.Refusal.{IsAccepted}
-use Rattle.bench_net.specs.Scan.{names, sources}
+use Rattle.bench_net.specs.Scan.{names, observers, signal, sources}
 use Rattle.bench_net.specs.Statement.{Statement}
 use Rattle.fault_model.specs.declared.Model.{Model}
 use Rattle.fault_model.specs.declared.Model.TheVariants.{StuckAt, Transition, TransitionPairs}
-use Rattle.fault_model.specs.Collapse.{IsClassOf, representatives}
-use Rattle.fault_model.specs.Detection.{DetectsAt}
+use Rattle.fault_model.specs.Collapse.{IsClassOf}
 use Rattle.fault_model.specs.Fault.{Fault, faults}
-use Rattle.fault_model.specs.Solution.{Test}
-use Rattle.patterns.specs.declared.Outcome.{Outcome}
-use Rattle.patterns.specs.declared.Outcome.TheVariants.{Clear, Hit}
 use Rattle.patterns.specs.Tests.{HasTests, blocks}
 use Rattle.block_sim.specs.First.{IsFirst}
 use Rattle.block_sim.specs.Parts.{BelongTogether, Parts}
 use Rattle.block_sim.specs.Regions.{IsStemOfClass}
+use Rattle.block_sim.specs.Words.{IsFaultFreeWord}
+use Rattle.detections.specs.Detections.{IsCount}
+use Rattle.report.specs.declared.contents.Contents.{Contents}
+use Rattle.report.specs.declared.contents.Lines.{Lines}
+use Rattle.report.specs.declared.contents.Lines.TheVariants.{Omitted, Undetected}
+use Rattle.report.specs.declared.contents.Lines.TheVariants as lines
 use Rattle.faultsim_c.specs.declared.FsSizes.{FsSizes}
 
 -- the numbers of the models
@@ -66,52 +69,30 @@ abbrev pub IsJobOfTexts : Model → List ℕ → List ℕ → Parts → Type 0
 IsJobOfTexts m bench text parts = IsAccepted bench parts.circuit × (parts.list.model ≡ m)
     × HasTests text (length (sources parts.circuit)) parts.tests
 
--- of the tests before a limit the first that detects a fault, or none
-abbrev pub IsFirstBelow : List Statement → List Test → Fault → ℕ → Option ℕ → Type 0
-IsFirstBelow c tests f limit (Some t) = (t < limit) × IsFirst c tests f (Some t)
-IsFirstBelow c tests f limit None = (t : ℕ) → t < limit → ¬ DetectsAt c tests f t
+-- the number that tells a first test, or that there is none
+abbrev pub told_first : Option ℕ → ℕ
+told_first (Some t) = t
+told_first None = 4294967295
 
--- how many first blocks are done for a place of a list, where on a block so many places are done
-abbrev pub done_for : ℕ → ℕ → ℕ → ℕ
-done_for block places k = if nat_lt k places then block + 1 else block
-
--- the first tests of classes, as far as they are found
-pub record AreFound (parts : Parts) (classes : List ℕ) (block places : ℕ) (firsts : List ℕ) :
-    Type 0 where
-  pub count : length firsts ≡ length classes
-  pub first : (k class n : ℕ) (r : Fault) → slice_get classes k ≡ Some class
-      → slice_get (representatives parts.list.model parts.circuit) class ≡ Some r
-      → slice_get firsts k ≡ Some n
-      → IsFirstBelow parts.circuit parts.tests.tests r (64 * done_for block places k) (first_of n)
+-- numbers tell first tests, each at its place
+pub record AreTold (found : List (Option ℕ)) (firsts : List ℕ) : Type 0 where
+  pub count : length firsts ≡ length found
+  pub each : (k : ℕ) → k < length found
+      → slice_index firsts k ≡ told_first (slice_index_or found k None)
 
 -- at each fault's place stands its class
 abbrev pub AreClassesOf : Parts → List ℕ → Type 0
 AreClassesOf parts classes = (fault : ℕ) → fault < length parts.list.list
     → slice_index classes fault ≡ slice_index parts.classes.class_of fault
 
--- so many numbers, which tell that there is no test
-pub record AreNone (count : ℕ) (firsts : List ℕ) : Type 0 where
-  pub count_is : length firsts ≡ count
-  pub each : (k : ℕ) → k < count → slice_index firsts k ≡ 4294967295
-
--- an outcome of a block of 64 tests
-abbrev pub IsBlockOutcome : Outcome → Type 0
-IsBlockOutcome (Hit k) = k < 64
-IsBlockOutcome Clear = ⊤
-
--- the number tells the test of an outcome on a block
-abbrev pub IsNumberOf : ℕ → Outcome → ℕ → Type 0
-IsNumberOf block (Hit k) n = n ≡ 64 * block + k
-IsNumberOf block Clear n = n ≡ 4294967295
-
--- the numbers below a count, each in its place
-abbrev pub AreCounted : ℕ → List ℕ → Type 0
-AreCounted count classes = (k : ℕ) → k < count → slice_index classes k ≡ k
-
--- each fault has what its class has
-abbrev pub AreGiven : Parts → List ℕ → List ℕ → Type 0
-AreGiven parts found firsts = (i : ℕ) → i < length parts.list.list
-    → slice_index firsts i ≡ slice_index found (slice_index parts.classes.class_of i)
+-- for each class of a list how many tests detect the faults of the class, of which so many are
+-- counted at most
+pub record AreClassCounts (parts : Parts) (classes : List ℕ) (most : ℕ) (counts : List ℕ) :
+    Type 0 where
+  pub count : length counts ≡ length classes
+  pub each : (k class n : ℕ) (f : Fault) → slice_get classes k ≡ Some class
+      → IsClassOf parts.list.model parts.circuit f class
+      → slice_get counts k ≡ Some n → IsCount parts.circuit parts.tests.tests most f n
 
 -- the number is that of the signal at which the region of the class ends
 pub record IsStemAt (parts : Parts) (class stem : ℕ) : Type 0 where
@@ -127,3 +108,28 @@ abbrev pub IsCopied : List ℕ → List ℕ → List ℕ → ℕ → ℕ → Typ
 IsCopied bytes old new wanted status = (wanted ≡ length bytes)
     × (length bytes ≤ length old → (status ≡ 0) × (new ≡ bytes ++ drop (length bytes) old))
     × (length old < length bytes → (status ≡ 4) × (new ≡ old))
+
+-- the numbers that tell which faults have a line
+abbrev pub IsLinesNumber : ℕ → Lines → Type 0
+IsLinesNumber n Omitted = n ≡ 0
+IsLinesNumber n lines.All = n ≡ 1
+IsLinesNumber n Undetected = n ≡ 2
+
+-- what a report tells that is asked for by a number and a choice
+pub record AreContents (lines : ℕ) (classes : Bool) (contents : Contents) : Type 0 where
+  pub number : IsLinesNumber lines contents.lines
+  pub choice : contents.classes ≡ classes
+
+-- the signals of the observers: of the OUTPUT lines in order, and then of the cells' data pins
+abbrev pub observed : List Statement → List ℕ
+observed c = map (λ o. signal c o.1) (observers c)
+
+-- the words of the observers under all tests: on each block one for each observer
+pub record AreResponseWords (parts : Parts) (words : List ℕ) : Type 0 where
+  pub count : length words
+      ≡ blocks (length parts.tests.tests) * length (observed parts.circuit)
+  pub each : (block place : ℕ) → block < blocks (length parts.tests.tests)
+      → place < length (observed parts.circuit)
+      → IsFaultFreeWord parts.circuit parts.tests.tests block
+      (slice_index (observed parts.circuit) place)
+      (slice_index words (block * length (observed parts.circuit) + place))

@@ -23,13 +23,16 @@ ghost use Rattle.faultsim_c.specs.Calls.{AreSizes, IsCircuitJob, IsJobOfTexts, I
 ghost use Rattle.faultsim_c.specs.Told.{AreRefusedTexts, told_fault};
 ghost use Rattle.faultsim_c.specs.declared.status.Refusal.TheVariants as refusal;
 
+mod counts;
 mod handle;
 mod held;
+mod observed;
 mod run;
 mod session;
 mod signals;
 mod status;
 mod taken;
+mod texts;
 
 use fault_model::Model as FaultModel;
 use handle::{FsJob, give, put, take};
@@ -285,35 +288,37 @@ pub extern "C" fn fs_simulate(
     ensures range { (parts : Parts) → job.old.held.session ≡ Some parts
         → ¬ AreRequests parts classes.now firsts.old → result ≡ 4 }
     ensures no_job { job.old.held.session ≡ None → result ≡ 1 }
+    ensures untouched { result ≢ 0 → firsts.new ≡ firsts.old }
     ensures kept { job.new.held.session ≡ job.old.held.session }
 {
-    let Some(session) = take(alloc, job) else {
+    let Some(mut session) = take(alloc, job) else {
         return NO_JOB;
     };
-    let status = simulate_in(alloc, &session, classes, firsts);
+    let status = simulate_in(alloc, &mut session, classes, firsts);
     put(alloc, job, session);
     status
 }
 
 /// Tells the first test that detects each class of a list, in a session.
-fn simulate_in(alloc: Global, session: &Session, classes: &[u32], firsts: &mut [u32]) -> u32
-    ensures done { result ≡ 0 → AreFirsts session.now classes.now firsts.new }
-    ensures serves { AreRequests session.now classes.now firsts.old
+fn simulate_in(alloc: Global, session: &mut Session, classes: &[u32], firsts: &mut [u32]) -> u32
+    ensures done { result ≡ 0 → AreFirsts session.old classes.now firsts.new }
+    ensures serves { AreRequests session.old classes.now firsts.old
         → (result ≡ 0) ⊎ (result ≡ 2) }
-    ensures range { ¬ AreRequests session.now classes.now firsts.old → result ≡ 4 }
+    ensures range { ¬ AreRequests session.old classes.now firsts.old → result ≡ 4 }
+    ensures untouched { result ≢ 0 → firsts.new ≡ firsts.old }
+    ensures kept { session.new ≡ session.old }
 {
-    let job = session.job();
-    if firsts.len() != classes.len() || !are_classes(classes, job.classes().count()) {
+    if firsts.len() != classes.len() || !are_classes(classes, session.job().classes().count()) {
         return RANGE;
     }
-    match simulate(alloc, job, classes, firsts) {
+    match simulate(alloc, session, classes, firsts) {
         Ok(()) => DONE,
         Err(_) => MEMORY,
     }
 }
 
 /// Tells whether all are below the number of classes.
-fn are_classes(classes: &[u32], count: u32) -> bool
+pub(crate) fn are_classes(classes: &[u32], count: u32) -> bool
     ensures { IsTrue result ↔ All (λ class. class < count) classes.now }
 {
     classes.iter().all(|class| *class < count)
@@ -386,30 +391,31 @@ pub extern "C" fn fs_firsts(
     ensures range { model ≤ 2 → result ≡ 4 → (m : ModelOf) × (parts : Parts)
         × IsModelNumber model m × IsJobOfTexts m bench.now text.now parts
         × (faults.new ≡ length parts.list.list) × (length firsts.old ≢ faults.new) }
+    ensures untouched { result ≢ 0 → firsts.new ≡ firsts.old }
     ensures quiet { result ≢ 3 → fault.new ≡ fault.old }
 {
     let Some(model) = model_of(model) else {
         return RANGE;
     };
     match Session::read_both(alloc, model, bench, text) {
-        Ok(session) => firsts_in(alloc, &session, firsts, faults),
+        Ok(mut session) => firsts_in(alloc, &mut session, firsts, faults),
         Err(refusal) => tell(refusal, fault),
     }
 }
 
 /// Tells the first test that detects each fault of a session.
-fn firsts_in(alloc: Global, session: &Session, firsts: &mut [u32], faults: &mut u32) -> u32
-    ensures done { result ≡ 0 → AreFaultFirsts session.now firsts.new }
+fn firsts_in(alloc: Global, session: &mut Session, firsts: &mut [u32], faults: &mut u32) -> u32
+    ensures done { result ≡ 0 → AreFaultFirsts session.old firsts.new }
     ensures statuses { (result ≡ 0) ⊎ (result ≡ 2) ⊎ (result ≡ 4) }
-    ensures range { (result ≡ 4) ↔ (length firsts.old ≢ length session.now.list.list) }
-    ensures faults { faults.new ≡ length session.now.list.list }
+    ensures range { (result ≡ 4) ↔ (length firsts.old ≢ length session.old.list.list) }
+    ensures faults { faults.new ≡ length session.old.list.list }
+    ensures untouched { result ≢ 0 → firsts.new ≡ firsts.old }
 {
-    let job = session.job();
-    *faults = job.faults().count();
+    *faults = session.job().faults().count();
     if firsts.len() != *faults as usize {
         return RANGE;
     }
-    match fault_firsts(alloc, job, firsts) {
+    match fault_firsts(alloc, session, firsts) {
         Ok(()) => DONE,
         Err(_) => MEMORY,
     }

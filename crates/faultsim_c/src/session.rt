@@ -1,12 +1,17 @@
 //! What a handle stands for: a job with room to simulate it.
 
-ghost use Rattle.std.specs.Prelude.{◌≡◌, ◌⊎◌, ◌<◌, IfErr, IfOk, length};
+ghost use Rattle.std.specs.Prelude.{◌≡◌, ◌⊎◌, ◌<◌, All, IfErr, IfOk, length};
 ghost use Rattle.bench_net.specs.Circuit.{IsCircuit};
 ghost use Rattle.bench_net.specs.Scan.{sources};
 ghost use Rattle.patterns.specs.Making.{IsMadeOf};
 ghost use Rattle.patterns.specs.Tests.{HasTests, IsTestList, TestList, blocks};
 ghost use Rattle.block_sim.specs.First.{AreDetecting};
 ghost use Rattle.block_sim.specs.Parts.{BelongTogether, with_tests};
+ghost use Rattle.fault_model.specs.Collapse.{IsClassOf};
+ghost use Rattle.fault_model.specs.Fault.{Fault};
+ghost use Rattle.detections.specs.Detections.{IsCount};
+ghost use Rattle.workers.specs.Listed.{ServesLists};
+ghost use Rattle.workers.specs.Verdict.{AreClassFirsts, AreFirsts};
 ghost use Rattle.faultsim_c.specs.Calls.{IsCircuitJob, IsJobOfTexts};
 ghost use Rattle.faultsim_c.specs.Told.{IsBenchReply, IsTestsReply, IsTextsReply, IsWordsReply};
 ghost use Rattle.faultsim_c.specs.declared.status.Refusal.TheVariants as refusal;
@@ -14,27 +19,31 @@ ghost use Rattle.faultsim_c.specs.declared.status.Refusal.TheVariants as refusal
 use crate::status::Refusal;
 use bench_net::{Circuit, read_bench};
 use block_sim::{Job, Workspace, detecting};
+use detections::class_detections;
 use fault_model::{Model as FaultModel, collapse, list_faults_in};
 use patterns::{Tests, read_tests};
 use std::alloc::{AllocError, Global};
 use std::marker::Model;
 use std::sync::Arc;
+use workers::{ListRunner, Verdicts};
 
 /// A job, which sessions of several threads share, and room of one's own to simulate it.
 #[derive(Drop)]
 pub(crate) struct Session {
     job: Arc<Job>,
     workspace: Workspace,
+    runner: ListRunner,
 }
 
 impl Model for Session {
     ghost use Rattle.block_sim.specs.Parts.{HasRoom, Parts};
+    ghost use Rattle.workers.specs.Listed.{ServesLists};
 
     ghost Value = { Parts };
 
     ghost view = { λ s. s.job.value };
 
-    ghost invariant = { λ s. HasRoom s.workspace s.job.value };
+    ghost invariant = { λ s. HasRoom s.workspace s.job.value × ServesLists s.runner s.job.value };
 }
 
 impl Session {
@@ -70,8 +79,13 @@ impl Session {
         ensures { IfOk result (λ session. session ≡ job) }
     {
         let workspace = Workspace::new(alloc, &job)?;
+        let runner = ListRunner::new(alloc, &job)?;
         let job = Arc::new(alloc, job)?;
-        Ok(Session { job, workspace })
+        Ok(Session {
+            job,
+            workspace,
+            runner,
+        })
     }
 
     /// Makes a second session of the same job, for another thread.
@@ -79,8 +93,13 @@ impl Session {
         ensures { IfOk result (λ session. session ≡ self.now) }
     {
         let workspace = Workspace::new(alloc, &self.job)?;
+        let runner = ListRunner::new(alloc, &self.job)?;
         let job = Arc::try_clone(&self.job)?;
-        Ok(Session { job, workspace })
+        Ok(Session {
+            job,
+            workspace,
+            runner,
+        })
     }
 
     /// The job.
@@ -129,10 +148,7 @@ impl Session {
         ensures refused { IfErr result (λ r. (r ≡ refusal.Shared) ⊎ (r ≡ refusal.Memory)) }
         ensures kept { IfErr result (λ _. self.new ≡ self.old) }
     {
-        match Arc::get_mut(&mut self.job) {
-            Some(job) => Ok(job.set_tests_of_any_size(alloc, tests)?),
-            None => Err(Refusal::Shared),
-        }
+        replace_tests(alloc, &mut self.job, tests)
     }
 
     /// The lanes of a block whose tests detect a class.
@@ -144,6 +160,53 @@ impl Session {
         ensures kept { self.new ≡ self.old }
     {
         detecting(&self.job, &mut self.workspace, class, block)
+    }
+
+    /// How many tests detect a class. Counting ends at `most`.
+    pub(crate) fn detections(&mut self, class: u32, most: u32) -> u32
+        requires { class < length self.old.classes.representative }
+        ensures count { (f : Fault) → IsClassOf self.old.list.model self.old.circuit f class
+            → IsCount self.old.circuit self.old.tests.tests most f result }
+        ensures kept { self.new ≡ self.old }
+    {
+        class_detections(&self.job, &mut self.workspace, class, most)
+    }
+
+    /// The first test that detects each class of a list, or none.
+    pub(crate) fn first_tests(
+        &mut self,
+        alloc: Global,
+        classes: &[u32],
+    ) -> Result<Vec<Option<u32>>, AllocError>
+        requires { All (λ class. class < length self.old.classes.representative) classes.now }
+        ensures firsts { IfOk result (λ firsts. AreClassFirsts self.old.list.model
+            self.old.circuit self.old.tests.tests classes.now firsts.items) }
+        ensures kept { self.new ≡ self.old }
+    {
+        self.runner.first_tests(alloc, &self.job, classes)
+    }
+
+    /// The verdicts on all faults.
+    pub(crate) fn verdicts(&mut self, alloc: Global) -> Result<Verdicts, AllocError>
+        ensures firsts { IfOk result (λ verdicts. AreFirsts self.old.list.model
+            self.old.circuit self.old.tests.tests verdicts.firsts) }
+        ensures kept { self.new ≡ self.old }
+    {
+        self.runner.verdicts(alloc, &self.job)
+    }
+}
+
+/// Takes tests in place of a job's, unless another session has the job.
+fn replace_tests(alloc: Global, job: &mut Arc<Job>, tests: Tests) -> Result<(), Refusal>
+    requires tests { IsTestList tests }
+    requires width { tests.width ≡ length (sources job.old.value.circuit) }
+    ensures done { IfOk result (λ _. job.new.value ≡ with_tests job.old.value tests) }
+    ensures refused { IfErr result (λ r. (r ≡ refusal.Shared) ⊎ (r ≡ refusal.Memory)) }
+    ensures kept { IfErr result (λ _. job.new.value ≡ job.old.value) }
+{
+    match Arc::get_mut(job) {
+        Some(job) => Ok(job.set_tests_of_any_size(alloc, tests)?),
+        None => Err(Refusal::Shared),
     }
 }
 

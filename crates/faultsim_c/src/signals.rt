@@ -139,7 +139,7 @@ fn name_in(job: &Job, signal: u32, text: &mut [u8], wanted: &mut usize) -> u32
 }
 
 /// Copies bytes to the front of a text, if it has room for them, and tells how many they are.
-fn copy_text(bytes: &[u8], text: &mut [u8], wanted: &mut usize) -> u32
+pub(crate) fn copy_text(bytes: &[u8], text: &mut [u8], wanted: &mut usize) -> u32
     ensures { IsCopied bytes.now text.old text.new wanted.new result }
 {
     *wanted = bytes.len();

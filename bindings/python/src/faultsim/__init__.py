@@ -28,7 +28,7 @@ try:
 except ImportError:
     numpy = None
 
-__all__ = ["NONE", "Error", "Job", "Model", "firsts"]
+__all__ = ["NONE", "Error", "Job", "Lines", "Model", "firsts"]
 __version__ = "0.1.0"
 
 Text = Union[str, bytes]
@@ -46,6 +46,14 @@ class Model(enum.IntEnum):
     STUCK_AT = 0
     TRANSITION = 1
     TRANSITION_PAIRS = 2
+
+
+class Lines(enum.IntEnum):
+    """Which faults have a line in a report: none, all, or those that no test detects."""
+
+    NONE = 0
+    ALL = 1
+    UNDETECTED = 2
 
 
 def _bytes(text: Text) -> bytes:
@@ -235,16 +243,38 @@ class Job:
         check(library.fs_stems_of(self._handle, _address(stems), len(stems)))
         return stems
 
-    def name_of(self, signal: int) -> str:
-        """The name of a signal."""
-        signal, wanted = _number(signal), ctypes.c_size_t()
-        status = self._call(library.fs_name_of, signal, b"", 0, wanted)
+    def _text(self, function: Any, *numbers: Any) -> bytes:
+        """The bytes of a call that tells in its last argument how many they are."""
+        wanted = ctypes.c_size_t()
+        status = self._call(function, *numbers, b"", 0, wanted)
         if status != _library.RANGE or wanted.value == 0:
             check(status)
-            return ""
+            return b""
         text = ctypes.create_string_buffer(wanted.value)
-        check(self._call(library.fs_name_of, signal, text, len(text), wanted))
-        return text.raw.decode()
+        check(self._call(function, *numbers, text, len(text), wanted))
+        return text.raw
+
+    def name_of(self, signal: int) -> str:
+        """The name of a signal."""
+        return self._text(library.fs_name_of, _number(signal)).decode()
+
+    def fault_name(self, fault: int) -> str:
+        """The name of a fault, as each line of `faultsim faults` begins: `stem G1 sa0`."""
+        return self._text(library.fs_fault_text, _number(fault)).decode()
+
+    def fault_names(self) -> list[str]:
+        """The name of each fault, in the order of the faults."""
+        return [self.fault_name(fault) for fault in range(self.faults)]
+
+    def first_tests(self, workers: int = 1) -> dict[str, Optional[int]]:
+        """For each fault by its name the first test that detects it, or `None`, in the order of the
+        faults."""
+        firsts, of = self.simulate(workers=workers), self.classes_of()
+        found = (int(firsts[int(class_)]) for class_ in of)
+        return {
+            name: None if first == NONE else first
+            for name, first in zip(self.fault_names(), found)
+        }
 
     def source_names(self) -> list[str]:
         """The name of each source, in the order of the bits of a test."""
@@ -261,6 +291,31 @@ class Job:
         word = ctypes.c_uint64()
         check(self._call(library.fs_word, _number(block), _number(signal), word))
         return word.value
+
+    def observers(self) -> Any:
+        """The signal of each observer, the OUTPUT lines and then the data pins of the flip-flops: an
+        array of the shape (observers,)."""
+        wanted, signals = ctypes.c_size_t(), _room(0, "I")
+        for _ in range(2):
+            status = self._call(library.fs_observers_of, _address(signals), len(signals), wanted)
+            if status != _library.RANGE or wanted.value == len(signals):
+                break
+            signals = _room(wanted.value, "I")
+        check(status)
+        return signals
+
+    def responses(self) -> Any:
+        """The fault-free words of the observers, for each block one for each: an array of the shape
+        (blocks * observers,), or (blocks, observers) with numpy."""
+        observers = len(self.observers())
+        words = _room(self.blocks * observers, "Q")
+        check(self._call(library.fs_responses, _address(words), len(words)))
+        return words if numpy is None else words.reshape(self.blocks, observers)
+
+    def report(self, lines: int = Lines.NONE, classes: bool = False) -> str:
+        """The report that `faultsim run` writes: a line for each fault that `lines` asks for, the
+        coverage, and with `classes` that of the classes."""
+        return self._text(library.fs_report, _number(lines), classes).decode()
 
     def simulate(self, classes: Optional[Iterable[int]] = None, workers: int = 1) -> Any:
         """The first test that detects each class of a list, or of all: an array of the shape
@@ -329,12 +384,15 @@ class Job:
         of the shape (classes,)."""
         asked = _numbers(range(self.classes) if classes is None else classes, "I")
         counts = _room(len(asked), "I")
-        for place, class_ in enumerate(asked):
-            for block in range(self.blocks):
-                if counts[place] >= most:
-                    break
-                word = self.detecting(int(class_), block)
-                counts[place] = min(most, int(counts[place]) + bin(word).count("1"))
+        status = self._call(
+            library.fs_detections,
+            _address(asked),
+            len(asked),
+            _number(most),
+            _address(counts),
+            len(counts),
+        )
+        check(status)
         return counts
 
     def coverage(self, workers: int = 1) -> tuple[int, int]:

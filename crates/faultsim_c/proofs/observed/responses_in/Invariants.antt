@@ -1,0 +1,11 @@
+use Rattle.std.proofs.Common.{◌≡◌, ℕ, ◌<◌, ◌/◌, ◌%◌, length}
+use Rattle.std.specs.Prelude.{slice_index}
+use Rattle.block_sim.specs.Words.{IsFaultFreeWord}
+use Rattle.faultsim_c.specs.Calls.{observed}
+use Rattle.faultsim_c.proofs.observed.responses_in.Given as goal
+
+-- the words so far are those of the observers
+abbrev pub invariant-loop-place : goal.invariant-loop-place
+invariant-loop-place l = (length l.words ≡ length l.fn.words)
+    × ((k : ℕ) → k < l.place → IsFaultFreeWord l.job.circuit l.job.tests.tests (k / l.count)
+    (slice_index (observed l.job.circuit) (k % l.count)) (slice_index l.words k))

@@ -1,0 +1,138 @@
+//! Calls about what is observed: the OUTPUT lines, and the data pins of the flip-flops.
+
+ghost use Rattle.std.specs.Prelude.{◌≡◌, ◌≢◌, ◌*◌, ◌<◌, None, Some, length, slice_get, slice_index};
+ghost use Rattle.bench_net.specs.Scan.{names};
+ghost use Rattle.patterns.specs.Tests.{blocks};
+ghost use Rattle.block_sim.specs.Parts.{Parts};
+ghost use Rattle.faultsim_c.specs.Calls.{AreResponseWords, IsCopied, observed};
+
+use crate::handle::{FsJob, put, take};
+use crate::status::{DONE, NO_JOB, RANGE};
+use bench_net::{Circuit, ScanCell};
+use block_sim::Job;
+use std::alloc::Global;
+
+/// Tells the signal of each observer, and in `wanted` how many observers there are: the OUTPUT lines
+/// in order, and then the data pins of the flip-flops, in the order of the DFF lines. If the array has
+/// less room than that, the status is 4, and `wanted` tells how much it takes.
+#[unsafe(no_mangle)]
+pub extern "C" fn fs_observers_of(
+    alloc: Global,
+    job: &mut FsJob,
+    signals: &mut [u32],
+    wanted: &mut usize,
+) -> u32
+    ensures done { (parts : Parts) → job.old.held.session ≡ Some parts
+        → IsCopied (observed parts.circuit) signals.old signals.new wanted.new result }
+    ensures no_job { job.old.held.session ≡ None → result ≡ 1 }
+    ensures untouched { result ≢ 0 → signals.new ≡ signals.old }
+    ensures kept { job.new.held.session ≡ job.old.held.session }
+{
+    let Some(session) = take(alloc, job) else {
+        return NO_JOB;
+    };
+    let status = observers_in(session.job(), signals, wanted);
+    put(alloc, job, session);
+    status
+}
+
+/// Tells the signal of each observer of a job.
+fn observers_in(job: &Job, signals: &mut [u32], wanted: &mut usize) -> u32
+    ensures done { IsCopied (observed job.now.circuit) signals.old signals.new wanted.new
+        result }
+    ensures untouched { result ≢ 0 → signals.new ≡ signals.old }
+{
+    let circuit = job.circuit();
+    *wanted = observer_count(circuit);
+    if signals.len() < *wanted {
+        return RANGE;
+    }
+    let (front, _) = signals.split_at_mut(*wanted);
+    fill_observers(circuit, front);
+    DONE
+}
+
+/// Fills an array with the signals of the observers.
+fn fill_observers(circuit: &Circuit, signals: &mut [u32])
+    requires { length signals.old ≡ length (observed circuit.now) }
+    ensures { signals.new ≡ observed circuit.now }
+{
+    for place in 0..signals.len() {
+        signals[place] = observer_at(circuit, place);
+    }
+}
+
+/// Tells the fault-free values of the observers: for each block of 64 tests a word for each
+/// observer. The length is the number of blocks times that of observers.
+#[unsafe(no_mangle)]
+pub extern "C" fn fs_responses(alloc: Global, job: &mut FsJob, words: &mut [u64]) -> u32
+    ensures done { (parts : Parts) → job.old.held.session ≡ Some parts
+        → length words.old ≡ blocks (length parts.tests.tests) * length (observed parts.circuit)
+        → (result ≡ 0) × AreResponseWords parts words.new }
+    ensures range { (parts : Parts) → job.old.held.session ≡ Some parts
+        → length words.old ≢ blocks (length parts.tests.tests) * length (observed parts.circuit)
+        → result ≡ 4 }
+    ensures no_job { job.old.held.session ≡ None → result ≡ 1 }
+    ensures untouched { result ≢ 0 → words.new ≡ words.old }
+    ensures kept { job.new.held.session ≡ job.old.held.session }
+{
+    let Some(session) = take(alloc, job) else {
+        return NO_JOB;
+    };
+    let status = responses_in(session.job(), words);
+    put(alloc, job, session);
+    status
+}
+
+/// Tells the fault-free values of the observers of a job.
+fn responses_in(job: &Job, words: &mut [u64]) -> u32
+    ensures done { length words.old
+        ≡ blocks (length job.now.tests.tests) * length (observed job.now.circuit)
+        → (result ≡ 0) × AreResponseWords job.now words.new }
+    ensures range { length words.old
+        ≢ blocks (length job.now.tests.tests) * length (observed job.now.circuit)
+        → result ≡ 4 }
+    ensures untouched { result ≢ 0 → words.new ≡ words.old }
+{
+    let circuit = job.circuit();
+    let count = observer_count(circuit);
+    if words.len() as u128 != u128::from(job.tests().blocks()) * count as u128 {
+        return RANGE;
+    }
+    for place in 0..words.len() {
+        let signal = observer_at(circuit, place % count);
+        words[place] = job.word((place / count) as u32, signal);
+    }
+    DONE
+}
+
+/// The number of observers.
+fn observer_count(circuit: &Circuit) -> usize
+    ensures { result ≡ length (observed circuit.now) }
+{
+    circuit.outputs().len() + circuit.scan_cells().len()
+}
+
+/// The signal of an observer.
+fn observer_at(circuit: &Circuit, place: usize) -> u32
+    requires { place < length (observed circuit.now) }
+    ensures signal { result ≡ slice_index (observed circuit.now) place }
+    ensures within { result < length (names circuit.now) }
+{
+    let _signals = circuit.signals();
+    let outputs = circuit.outputs();
+    let cells = circuit.scan_cells();
+    if place < outputs.len() {
+        outputs[place]
+    } else {
+        cell_at(cells, place - outputs.len()).d
+    }
+}
+
+/// The flip-flop at a place.
+fn cell_at(cells: &[ScanCell], place: usize) -> ScanCell
+    requires { place < length cells.now }
+    ensures { slice_get cells.now place ≡ Some result }
+{
+    cells[place]
+}
