@@ -18,6 +18,8 @@ mod MergeEnds
 mod CurvePoints
 mod CompactedTexts
 mod ResponseTexts
+mod LaunchedPairs
+mod ReasonTexts
 mod FaultNames
 mod WrittenParts
 mod MergedReport

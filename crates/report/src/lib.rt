@@ -14,11 +14,13 @@ mod cut;
 mod detected;
 mod ending;
 mod joining;
+mod launched;
 mod laws;
 mod merge;
 mod merged;
 mod part;
 mod part_reader;
+mod reasoned;
 mod report;
 mod responses;
 mod text;
@@ -32,6 +34,7 @@ pub use detected::{detections_text_in, write_detections};
 pub use ending::write_merged;
 pub use jobs::{ReportFault, SimFault, Watch, job_of, job_of_in_threads};
 pub use joining::MergeFault;
+pub use launched::pairs_text_in;
 pub use laws::{
     class_firsts_are, merged_report, no_refusal_of_merge, no_refusal_of_part_text, one_part_text,
     one_report, part_text_is_read,
@@ -41,6 +44,7 @@ pub use merged::Merged;
 pub use output::{Formatted, Out, OutFailed, Plain};
 pub use part::{part_text_in, part_text_watched};
 pub use part_reader::{PartFault, PartHeader, PartText, read_part};
+pub use reasoned::{reasons_text_watched, write_reasons};
 pub use report::{write_fault, write_listing, write_report, write_report_with};
 pub use responses::responses_text_in;
 pub use text::{
@@ -48,5 +52,6 @@ pub use text::{
     schedule_text_with, simulate_text, simulate_text_in, simulate_text_in_parts,
     simulate_text_with,
 };
+pub use undetected::Reason;
 pub use watched::simulate_text_watched;
 pub use workers::{Gate, MAX_WORKERS, OpenGate, RunFault};

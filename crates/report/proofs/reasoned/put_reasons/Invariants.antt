@@ -1,0 +1,11 @@
+use Rattle.std.proofs.Common.{take}
+use Rattle.std.specs.Prelude.{zip}
+use Rattle.std.specs.List.{flat_map}
+use Rattle.output.specs.Output.{TakesAll}
+use Rattle.report.specs.Reasons.{reason_line}
+use Rattle.report.proofs.reasoned.put_reasons.Given as goal
+
+-- the lines of the faults so far were taken whole
+abbrev pub invariant-loop-fault : goal.invariant-loop-fault
+invariant-loop-fault g l = TakesAll (g.W.Out.seen l.initial.out) (g.W.Out.seen l.out)
+    (flat_map (reason_line l.circuit) (take l.fault (zip l.list.list l.reasons)))

@@ -1,0 +1,234 @@
+//! The report of the undetected faults with their reasons.
+
+ghost use Rattle.std.specs.Prelude.{◌≡◌, ◌<◌, ◌≤◌, ◌++◌, IfErr, IfSome, None, OnOk, Some, codes};
+ghost use Rattle.std.specs.Prelude.{count_by, length, slice_get, zip};
+ghost use Rattle.std.specs.List.{flat_map};
+ghost use Rattle.fault_model.specs.Fault.{faults};
+ghost use Rattle.block_sim.specs.Parts.{BelongTogether};
+ghost use Rattle.output.specs.Output.{Writes};
+ghost use Rattle.workers.specs.Refused.{ArePartsWithin, IsPartsFault};
+ghost use Rattle.report.specs.EndToEnd.{HasPartsWithin, IsJobTextFault, IsTextFault};
+ghost use Rattle.report.specs.EndToEnd.{IsWatchedFault, WritesOneOf};
+ghost use Rattle.report.specs.Reasons.{IsReasonReportOf, IsReasonReportOfJob, has_reason};
+ghost use Rattle.report.specs.Reasons.{reason_line, reason_report, reason_text, reasons_line};
+
+use crate::contents::{Contents, Lines};
+use crate::report::{put_fault_line, write_report_with};
+use bench_net::Circuit;
+use block_sim::Job;
+use fault_model::{Faults, Model};
+use itoa::Buffer;
+use jobs::{ReportFault, SimFault, Watch, job_of, job_of_any_size, run_watched};
+use output::{Out, OutFailed, put_pieces};
+use std::alloc::Global;
+use std::sync::Wait;
+use std::thread::Threads;
+use undetected::{Reason, reasons};
+use workers::{Verdicts, parts_for};
+
+/// Reads a circuit and tests for it, and writes the report of the faults that no test detects, each
+/// with the reason why none does: a line for each of these faults, then the coverage line, with
+/// `classes` that of the classes, and last how many faults there are of each reason.
+///
+/// The gate and the parts are those of [`crate::simulate_text_watched`], and it is refused as that
+/// is.
+pub fn reasons_text_watched<R: Threads + Wait, G: Watch + Sync, W: Out>(
+    rt: &R,
+    alloc: Global,
+    model: Model,
+    bench: &[u8],
+    tests: &[u8],
+    parts: Option<u32>,
+    workers: u32,
+    classes: bool,
+    gate: &G,
+    out: &mut W,
+) -> Result<(), SimFault>
+    requires { IfSome parts (λ count. 0 < count) }
+    ensures written { WritesOneOf (IsReasonReportOf model bench.now tests.now classes) result
+        (W.seen out.old) (W.seen out.new) }
+    ensures refused { IfErr result (IsWatchedFault model bench.now tests.now parts workers
+        (G.passing gate.now) (G.stops gate.now)) }
+    ensures workers { OnOk result ((0 < workers) × (workers ≤ 64)) }
+    ensures within { IfSome parts (λ count. OnOk result
+        (HasPartsWithin model bench.now tests.now count)) }
+{
+    match parts {
+        Some(parts) => {
+            reasons_in_parts(
+                rt, alloc, model, bench, tests, parts, workers, classes, gate, out,
+            )
+        }
+        None => reasons_of_whole(rt, alloc, model, bench, tests, workers, classes, gate, out),
+    }
+}
+
+/// The report of a run in so many parts, whatever the number of pieces of the whole.
+fn reasons_in_parts<R: Threads + Wait, G: Watch + Sync, W: Out>(
+    rt: &R,
+    alloc: Global,
+    model: Model,
+    bench: &[u8],
+    tests: &[u8],
+    parts: u32,
+    workers: u32,
+    classes: bool,
+    gate: &G,
+    out: &mut W,
+) -> Result<(), SimFault>
+    requires { 0 < parts }
+    ensures written { WritesOneOf (IsReasonReportOf model bench.now tests.now classes) result
+        (W.seen out.old) (W.seen out.new) }
+    ensures refused { IfErr result (IsTextFault model bench.now tests.now workers
+        (λ job. IsPartsFault job parts workers (G.passing gate.now) (G.stops gate.now))) }
+    ensures workers { OnOk result ((0 < workers) × (workers ≤ 64)) }
+    ensures within { OnOk result (HasPartsWithin model bench.now tests.now parts) }
+{
+    let job = job_of_any_size(alloc, model, bench, tests)?;
+    report_reasons(rt, alloc, &job, parts, workers, classes, gate, out)
+}
+
+/// The report of a run in as many parts as serve so many workers.
+fn reasons_of_whole<R: Threads + Wait, G: Watch + Sync, W: Out>(
+    rt: &R,
+    alloc: Global,
+    model: Model,
+    bench: &[u8],
+    tests: &[u8],
+    workers: u32,
+    classes: bool,
+    gate: &G,
+    out: &mut W,
+) -> Result<(), SimFault>
+    ensures written { WritesOneOf (IsReasonReportOf model bench.now tests.now classes) result
+        (W.seen out.old) (W.seen out.new) }
+    ensures refused { IfErr result (IsWatchedFault model bench.now tests.now None workers
+        (G.passing gate.now) (G.stops gate.now)) }
+    ensures workers { OnOk result ((0 < workers) × (workers ≤ 64)) }
+{
+    let job = job_of(alloc, model, bench, tests)?;
+    let parts = parts_for(&job, workers);
+    report_reasons(rt, alloc, &job, parts, workers, classes, gate, out)
+}
+
+/// Runs a job in parts by workers in threads of their own, and writes the report.
+fn report_reasons<R: Threads + Wait, G: Watch + Sync, W: Out>(
+    rt: &R,
+    alloc: Global,
+    job: &Job,
+    parts: u32,
+    workers: u32,
+    classes: bool,
+    gate: &G,
+    out: &mut W,
+) -> Result<(), SimFault>
+    requires job { BelongTogether job.now }
+    requires parts { 0 < parts }
+    ensures written { WritesOneOf (IsReasonReportOfJob job.now classes) result
+        (W.seen out.old) (W.seen out.new) }
+    ensures refused { IfErr result (IsJobTextFault workers
+        (IsPartsFault job.now parts workers (G.passing gate.now) (G.stops gate.now))) }
+    ensures workers { OnOk result ((0 < workers) × (workers ≤ 64)) }
+    ensures within { OnOk result (ArePartsWithin job.now parts) }
+{
+    let verdicts = run_watched(rt, alloc, job, parts, workers, gate)?;
+    let reasons = reasons(alloc, job, &verdicts)?;
+    write_reasons(job, &verdicts, reasons.as_slice(), classes, out)?;
+    Ok(())
+}
+
+/// Writes the report of the undetected faults of a job with their reasons, which are those of
+/// [`undetected::reasons`]: a line for each, then the coverage line, with `classes` that of the
+/// classes, and last how many faults there are of each reason. It takes no memory.
+///
+/// # Errors
+///
+/// [`ReportFault::Write`] if the output takes nothing more. A beginning of the report went out.
+pub fn write_reasons<W: Out>(
+    job: &Job,
+    verdicts: &Verdicts,
+    reasons: &[Option<Reason>],
+    classes: bool,
+    out: &mut W,
+) -> Result<(), ReportFault>
+    requires verdicts { length verdicts.now.firsts ≡ length job.now.list.list }
+    requires reasons { length reasons.now ≡ length job.now.list.list }
+    ensures { Writes result (W.seen out.old) (W.seen out.new)
+        (reason_report job.now.list.model job.now.circuit job.now.classes verdicts.now.firsts
+        reasons.now classes) }
+{
+    let contents = Contents {
+        lines: Lines::Omitted,
+        classes,
+    };
+    put_reasons(job.circuit(), job.faults(), reasons, out)?;
+    write_report_with(job, verdicts, contents, out)?;
+    put_reason_counts(reasons, out)?;
+    Ok(())
+}
+
+/// Writes a line for each fault that has a reason.
+fn put_reasons<W: Out>(
+    circuit: &Circuit,
+    list: &Faults,
+    reasons: &[Option<Reason>],
+    out: &mut W,
+) -> Result<(), OutFailed>
+    requires list { list.now.list ≡ faults list.now.model circuit.now }
+    requires count { length reasons.now ≡ length list.now.list }
+    ensures { Writes result (W.seen out.old) (W.seen out.new)
+        (flat_map (reason_line circuit.now)
+        (zip (faults list.now.model circuit.now) reasons.now)) }
+{
+    for fault in 0..list.count() {
+        let Some(reason) = reason_at(reasons, fault) else {
+            continue;
+        };
+        put_fault_line(circuit, list, fault, "none ", words_of(reason), out)?;
+    }
+    Ok(())
+}
+
+/// The reason of the fault of a number.
+fn reason_at(reasons: &[Option<Reason>], fault: u32) -> Option<Reason>
+    requires { fault < length reasons.now }
+    ensures { slice_get reasons.now fault ≡ Some result }
+{
+    reasons[fault as usize]
+}
+
+/// A reason in words.
+fn words_of(reason: Reason) -> &'static str
+    ensures { result.now ≡ reason_text reason }
+{
+    match reason {
+        Reason::NoPath => "no path",
+        Reason::NotActivated => "not activated",
+        Reason::NotObserved => "not observed",
+    }
+}
+
+/// Writes how many faults there are of each reason.
+fn put_reason_counts<W: Out>(reasons: &[Option<Reason>], out: &mut W) -> Result<(), OutFailed>
+    ensures { Writes result (W.seen out.old) (W.seen out.new) (reasons_line reasons.now) }
+{
+    let mut no_path = Buffer::new();
+    let mut not_activated = Buffer::new();
+    let mut not_observed = Buffer::new();
+    let pieces = [
+        no_path.format(count_of(reasons, Reason::NoPath)),
+        " no path, ",
+        not_activated.format(count_of(reasons, Reason::NotActivated)),
+        " not activated, ",
+        not_observed.format(count_of(reasons, Reason::NotObserved)),
+        " not observed\n",
+    ];
+    put_pieces(&pieces, out)
+}
+
+/// How many faults have a reason.
+fn count_of(reasons: &[Option<Reason>], reason: Reason) -> usize
+    ensures { result ≡ count_by (has_reason reason) reasons.now }
+{
+    reasons.iter().filter(|own| **own == Some(reason)).count()
+}
