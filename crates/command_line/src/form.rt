@@ -11,7 +11,7 @@ use clap::ArgMatches;
 use fault_model::Model;
 use report::{
     Contents, Lines, OpenGate, Out, SimFault, Watch, curve_text_watched, part_text_watched,
-    simulate_text_watched,
+    reasons_text_watched, simulate_text_watched,
 };
 use std::alloc::Global;
 use std::sync::Wait;
@@ -24,6 +24,11 @@ pub(crate) enum Form {
     /// The report of a run, in so many parts where a number is given.
     Report {
         contents: Contents,
+        parts: Option<u32>,
+    },
+    /// The report of the undetected faults with their reasons.
+    Reasons {
+        classes: bool,
         parts: Option<u32>,
     },
     /// The text of one part, counted from 0.
@@ -123,6 +128,11 @@ fn write_text<R: Threads + Wait, G: Watch + Sync, W: Out>(
         Form::Report { contents, parts } => {
             simulate_text_watched(
                 rt, alloc, model, bench, tests, parts, workers, contents, gate, out,
+            )
+        }
+        Form::Reasons { classes, parts } => {
+            reasons_text_watched(
+                rt, alloc, model, bench, tests, parts, workers, classes, gate, out,
             )
         }
         Form::Part { part, parts } => {

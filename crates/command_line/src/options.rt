@@ -122,7 +122,9 @@ enum Choice {
     Detections,
     List,
     Undetected,
+    Why,
     Classes,
+    Pairs,
     /// The format of a run's list.
     RunFormat,
     Progress,
@@ -137,7 +139,7 @@ enum Choice {
 static CHECK_CHOICES: [Choice; 3] = [Choice::Bench, Choice::TestsIfAny, Choice::Model];
 
 /// The options of `run`.
-static RUN_CHOICES: [Choice; 12] = [
+static RUN_CHOICES: [Choice; 13] = [
     Choice::Bench,
     Choice::Tests,
     Choice::Model,
@@ -147,6 +149,7 @@ static RUN_CHOICES: [Choice; 12] = [
     Choice::Detections,
     Choice::List,
     Choice::Undetected,
+    Choice::Why,
     Choice::Classes,
     Choice::RunFormat,
     Choice::RunProgress,
@@ -170,7 +173,7 @@ static COMPACT_CHOICES: [Choice; 4] = [
 ];
 
 /// The options of `responses`.
-static RESPONSES_CHOICES: [Choice; 2] = [Choice::Bench, Choice::Tests];
+static RESPONSES_CHOICES: [Choice; 3] = [Choice::Bench, Choice::Tests, Choice::Pairs];
 
 /// The options of `schedule`.
 static SCHEDULE_CHOICES: [Choice; 8] = [
@@ -302,6 +305,20 @@ of the uncollapsed list, and the percentage is cut off after two decimals.
 tells after the coverage how many of the fault classes are detected:
 4 of 4 classes (100.00%).
 
+--undetected --why tells for each of these faults why no test detects it, and
+last how many there are of each reason. Without test 11 these are:
+
+    stem a sa0 none not activated
+    stem b sa0 none not activated
+    stem z sa0 none not activated
+    3 of 6 (50.00%)
+    0 no path, 3 not activated, 0 not observed
+
+no path        no OUTPUT line and no flip-flop is reached from the line
+not activated  no test gives the line the complement of the stuck bit; of
+               transition faults, no pair launches the transition
+not observed   a test activates the fault, and none detects it
+
 Each FILE is read whole. One FILE can be -, the standard input.";
 
 /// What is said after the long help of `curve`.
@@ -372,8 +389,16 @@ flip-flop captures:
     01
     00
 
-With the bit of a before it, what q captures is the second test of a launch on
-capture: 01 is followed by 01, and 11 by 10.
+With --pairs it writes the launch-on-capture pairs of the tests: each test, and
+then its capture test, in which the primary inputs are held and each flip-flop
+has what it captures.
+
+    01
+    01
+    11
+    10
+
+They are a list of tests for run --model transition-pairs.
 
 Each FILE is read whole. One FILE can be -, the standard input.";
 
@@ -528,12 +553,32 @@ fn undetected_flag<'a>(alloc: Global) -> Result<Arg<'a>, AllocError> {
         .conflicts_with("list")
 }
 
+/// The flag `--why`.
+fn why_flag<'a>(alloc: Global) -> Result<Arg<'a>, AllocError> {
+    Arg::new(alloc, "why")
+        .long("why")
+        .action(ArgAction::SetTrue)
+        .help("Tell with --undetected why no test detects each fault")
+        .conflicts_with("list")?
+        .conflicts_with("part")?
+        .conflicts_with("detections")?
+        .conflicts_with("format")
+}
+
 /// The flag `--classes`.
 fn classes_flag<'a>(alloc: Global) -> Arg<'a> {
     Arg::new(alloc, "classes")
         .long("classes")
         .action(ArgAction::SetTrue)
         .help("Tell the coverage of the fault classes, too")
+}
+
+/// The flag `--pairs` of `responses`.
+fn pairs_flag<'a>(alloc: Global) -> Arg<'a> {
+    Arg::new(alloc, "pairs")
+        .long("pairs")
+        .action(ArgAction::SetTrue)
+        .help("Write each test and its capture test: launch-on-capture pairs")
 }
 
 /// How a list is written.
@@ -600,7 +645,9 @@ fn option<'a>(alloc: Global, choice: Choice, workers: &'a str) -> Result<Arg<'a>
         Choice::Detections => detections_option(alloc)?,
         Choice::List => list_flag(alloc),
         Choice::Undetected => undetected_flag(alloc)?,
+        Choice::Why => why_flag(alloc)?,
         Choice::Classes => classes_flag(alloc),
+        Choice::Pairs => pairs_flag(alloc),
         Choice::RunFormat => run_format_option(alloc)?,
         Choice::Format => format_option(alloc),
         Choice::Progress => progress_flag(alloc),

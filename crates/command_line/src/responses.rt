@@ -4,7 +4,7 @@ use crate::command::read_option;
 use crate::source::Source;
 use crate::status::Fault;
 use clap::ArgMatches;
-use report::{Out, responses_text_in};
+use report::{Out, pairs_text_in, responses_text_in};
 use std::alloc::Global;
 
 /// `responses`: both files are read before either text is looked at.
@@ -16,7 +16,12 @@ pub(crate) fn do_responses<'a, S: Source, W: Out>(
 ) -> Result<(), Fault<'a>> {
     let bench = read_option(alloc, matches, "bench", files)?;
     let tests = read_option(alloc, matches, "tests", files)?;
-    match responses_text_in(alloc, &bench, &tests, out) {
+    let done = if matches.get_flag("pairs") {
+        pairs_text_in(alloc, &bench, &tests, out)
+    } else {
+        responses_text_in(alloc, &bench, &tests, out)
+    };
+    match done {
         Ok(()) => Ok(()),
         Err(fault) => Err(Fault::Sim(fault)),
     }

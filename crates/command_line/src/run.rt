@@ -1,6 +1,6 @@
 //! The command `run` without `--detections`.
 
-ghost use Rattle.std.specs.Prelude.{IfOk, IfSome};
+ghost use Rattle.std.specs.Prelude.{◌<◌, IfOk, IfSome};
 ghost use Rattle.command_line.specs.Form.{HasParts};
 
 use crate::command::read_contents;
@@ -10,7 +10,7 @@ use crate::options::MAX_PARTS;
 use crate::source::Source;
 use crate::status::Fault;
 use clap::ArgMatches;
-use report::Out;
+use report::{Contents, Lines, Out};
 use std::alloc::Global;
 use std::sync::Wait;
 use std::thread::Threads;
@@ -24,13 +24,29 @@ fn read_form<'a>(matches: &ArgMatches<'a>) -> Result<Form, Fault<'a>>
         let lines = contents.lines;
         return Ok(Form::Table { lines, format });
     }
+    let why = matches.get_flag("why");
     let parts = matches.get_one::<u32>("parts");
     let part = matches.get_str("part");
     match (parts, part) {
-        (None, None) => Ok(Form::Report { contents, parts }),
-        (Some(count), None) if count > 0 => Ok(Form::Report { contents, parts }),
+        (None, None) => report_form(contents, parts, why),
+        (Some(count), None) if count > 0 => report_form(contents, parts, why),
         (None, Some(text)) => read_part(text).ok_or(Fault::Misused("--part")),
         _ => Err(Fault::Misused("--parts")),
+    }
+}
+
+/// A report, of the undetected faults with their reasons if `why` is set.
+fn report_form<'a>(contents: Contents, parts: Option<u32>, why: bool) -> Result<Form, Fault<'a>>
+    requires { IfSome parts (λ count. 0 < count) }
+    ensures { IfOk result HasParts }
+{
+    match (why, contents.lines) {
+        (false, _) => Ok(Form::Report { contents, parts }),
+        (true, Lines::Undetected) => Ok(Form::Reasons {
+            classes: contents.classes,
+            parts,
+        }),
+        (true, Lines::Omitted | Lines::All) => Err(Fault::Misused("--why")),
     }
 }
 
