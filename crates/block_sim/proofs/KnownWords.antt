@@ -1,6 +1,7 @@
 -- What is known of a signal, by its mark.
 use Rattle.std.proofs.Common.{◌≡◌, ◌≢◌, ◌<◌, ◌≤◌, ◌==◌, ℕ, zero, suc, refl, sym, ◌∙◌, ap, Bool}
-use Rattle.std.proofs.Common.{true, false, List, [], ◌∷◌, ◌++◌, length, set, take, arith, eq-eqb, eqb-true}
+use Rattle.std.proofs.Common.{true, false, List, [], ◌∷◌, ◌++◌, length, set, take, arith, eq-eqb}
+use Rattle.std.proofs.Common.{eqb-true}
 use Rattle.std.specs.Prelude.{Some, None, slice_index_or, if◌then◌else◌}
 use Rattle.std.proofs.Math.Seq.{take-append_seam}
 use Rattle.block_sim.specs.KnownWords.{known_words}

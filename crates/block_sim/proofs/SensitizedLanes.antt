@@ -169,7 +169,8 @@ module _ (known : List (Option ℕ)) (s word : ℕ) (within : s < length known) 
     begun = still_known stem before.begun.0 before.begun.1;
     each = λ t w e tests group words. elim (now_known t w e) [
       | inl h ↦ subst (λ x. CarriesFlip c tests group mask t stem x) (sym h.1)
-          (subst (λ x. CarriesFlip c tests group mask x stem word) (sym h.0) (own tests group words))
+          (subst (λ x. CarriesFlip c tests group mask x stem word) (sym h.0)
+          (own tests group words))
       | inr h ↦ before.each t w h tests group words
     ];
   }

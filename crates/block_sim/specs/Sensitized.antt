@@ -25,11 +25,13 @@ CarriesFlip c tests group mask s stem word = (k : ℕ) → k < 128 → lane mask
     ↔ ((lane word k ≡ true) × DetectsFlip c (test_of tests group k) stem)
 
 -- each word that is known is that of its signal, and the word of the stem is known
-pub record AreKnownFlips (c : List Statement) (good : List ℕ) (mask stem : ℕ) (known : List (Option ℕ)) :
+pub record AreKnownFlips (c : List Statement) (good : List ℕ) (mask stem : ℕ)
+    (known : List (Option ℕ)) :
     Type 0 where
   pub room : length (names c) ≤ length known
   pub begun : (word : ℕ) × (slice_index_or known stem None ≡ Some word)
-  pub each : (s word : ℕ) → slice_index_or known s None ≡ Some word → (tests : List Test) (group : ℕ)
+  pub each : (s word : ℕ) → slice_index_or known s None ≡ Some word
+      → (tests : List Test) (group : ℕ)
       → AreWords c tests group None good → CarriesFlip c tests group mask s stem word
 
 -- so it is in a region, and there is room for each way to the stem

@@ -157,13 +157,15 @@ fn descend(
     requires signals { length (names view.circuit.now.arranged) ≤ length known.old }
     requires path { IsPathTo view.circuit.now.arranged path.old.items from.signal }
     ensures told { (mask stem : ℕ) → AreKnownFlips view.entry.circuit.now.arranged
-        view.entry.good.now mask stem known.old → slice_index_or known.old from.signal None ≡ Some from.lanes
+        view.entry.good.now mask stem known.old
+        → slice_index_or known.old from.signal None ≡ Some from.lanes
         → (tests : List Test) (group : ℕ)
         → AreWords view.entry.circuit.now.arranged tests group None view.entry.good.now
         → CarriesFlip view.entry.circuit.now.arranged tests group mask
         (on_from path.old.items from.signal) stem result }
     ensures known { (mask stem : ℕ) → AreKnownFlips view.entry.circuit.now.arranged
-        view.entry.good.now mask stem known.old → slice_index_or known.old from.signal None ≡ Some from.lanes
+        view.entry.good.now mask stem known.old
+        → slice_index_or known.old from.signal None ≡ Some from.lanes
         → AreKnownFlips view.entry.circuit.now.arranged view.entry.good.now mask stem known.new }
     ensures signals { length known.new ≡ length known.old }
     ensures capacity { vec_capacity path.new ≡ vec_capacity path.old }
@@ -212,8 +214,8 @@ fn lanes_before(view: BlockView<'_>, gate: Arrival, signal: u32, changes: &mut C
     cross(own, at, gate.signal, changes)
 }
 
-/// Follows a fault as [`crate::region::follow`] does, to the stem of the region that was begun with:
-/// in the lanes, of those in which it comes to its first signal, in which that turns the stem.
+/// Follows a fault as [`crate::region::follow`] does, to the stem of the region that was begun
+/// with: in the lanes, of those in which it comes to its first signal, in which that turns the stem.
 pub fn follow_within(
     view: BlockView<'_>,
     origin: Origin,

@@ -41,9 +41,11 @@ follow_within-requires-clause-listed c =
     let well = c.requires.view.together.circuit.well_formed in
     let fault = c.requires.row.stands.0 in
     let starts = c.requires.row.stands.2 in
-    let start = starts_there circuit there c.args.view.circuit.now.statements c.args.row.representative
+    let start = starts_there circuit there c.args.view.circuit.now.statements
+    c.args.row.representative
     c.origin_of-origin.result c.requires.view.part c.origin_of-origin.ensures fault starts in
-    let is : stuck_fault c.origin_of-origin.result.fault ≡ moved_fault circuit there fault = start.moved in
+    let is : stuck_fault c.origin_of-origin.result.fault ≡ moved_fault circuit there fault =
+    start.moved in
     subst (λ f. Contains (faults f.model there) f) (sym is)
     (listed_there circuit there well arranged fault.model fault
     starts.listed)
@@ -79,9 +81,11 @@ returns-in-Observed-clause-approach c =
     let decides : AreLanesFor tests span circuit fault lanes =
     λ k lt. lanes_decide c.args.view.lanes c.lanes_that_fit.result k (own k lt)
     (λ is. c.lanes_that_fit.ensures fault k starts lt is.listed) in
-    let start = starts_there circuit there c.args.view.circuit.now.statements c.args.row.representative
+    let start = starts_there circuit there c.args.view.circuit.now.statements
+    c.args.row.representative
     c.origin_of-origin.result c.requires.view.part c.origin_of-origin.ensures fault starts in
-    let is : stuck_fault c.origin_of-origin.result.fault ≡ moved_fault circuit there fault = start.moved in
+    let is : stuck_fault c.origin_of-origin.result.fault ≡ moved_fault circuit there fault =
+    start.moved in
     let words = c.requires.view.fault_free in
     let word = c.in-Observed.word in
     let reached = reached_there circuit there well arranged tests group fault lanes word
@@ -112,9 +116,11 @@ returns-then-lanes-eq0-clause-approach c =
     let decides : AreLanesFor tests span circuit fault lanes =
     λ k lt. lanes_decide c.args.view.lanes c.lanes_that_fit.result k (own k lt)
     (λ is. c.lanes_that_fit.ensures fault k starts lt is.listed) in
-    let start = starts_there circuit there c.args.view.circuit.now.statements c.args.row.representative
+    let start = starts_there circuit there c.args.view.circuit.now.statements
+    c.args.row.representative
     c.origin_of-origin.result c.requires.view.part c.origin_of-origin.ensures fault starts in
-    let is : stuck_fault c.origin_of-origin.result.fault ≡ moved_fault circuit there fault = start.moved in
+    let is : stuck_fault c.origin_of-origin.result.fault ≡ moved_fault circuit there fault =
+    start.moved in
     let words = c.requires.view.fault_free in
     let at = c.in-Stem.at in
     let stem : at.signal ≡ place circuit there c.args.row.stem = c.in-Stem.ensures.stem at refl
@@ -153,9 +159,11 @@ returns-else-lanes-eq0-clause-approach c =
     let decides : AreLanesFor tests span circuit fault lanes =
     λ k lt. lanes_decide c.args.view.lanes c.lanes_that_fit.result k (own k lt)
     (λ is. c.lanes_that_fit.ensures fault k starts lt is.listed) in
-    let start = starts_there circuit there c.args.view.circuit.now.statements c.args.row.representative
+    let start = starts_there circuit there c.args.view.circuit.now.statements
+    c.args.row.representative
     c.origin_of-origin.result c.requires.view.part c.origin_of-origin.ensures fault starts in
-    let is : stuck_fault c.origin_of-origin.result.fault ≡ moved_fault circuit there fault = start.moved in
+    let is : stuck_fault c.origin_of-origin.result.fault ≡ moved_fault circuit there fault =
+    start.moved in
     let words = c.requires.view.fault_free in
     let at = c.in-Stem.at in
     let here = c.args.row.stem in
@@ -189,9 +197,11 @@ returns-in-Observed-clause-counted c = λ way w.
     let well = c.requires.view.together.circuit.well_formed in
     let fault = o.0 in
     let starts = o.2 in
-    let start = starts_there circuit there c.args.view.circuit.now.statements c.args.row.representative
+    let start = starts_there circuit there c.args.view.circuit.now.statements
+    c.args.row.representative
     c.origin_of-origin.result c.requires.view.part c.origin_of-origin.ensures fault starts in
-    let is : stuck_fault c.origin_of-origin.result.fault ≡ moved_fault circuit there fault = start.moved in
+    let is : stuck_fault c.origin_of-origin.result.fault ≡ moved_fault circuit there fault =
+    start.moved in
     let same : w.0 ≡ fault = ap (λ (o : Option Fault). unwrap_or o w.0) (sym w.1
     ∙ o.1) in
     let own = subst (λ f. IsWayOfLine circuit f.line way) same w.2 in
@@ -210,9 +220,11 @@ returns-then-lanes-eq0-clause-counted c = λ way w.
     let well = c.requires.view.together.circuit.well_formed in
     let fault = o.0 in
     let starts = o.2 in
-    let start = starts_there circuit there c.args.view.circuit.now.statements c.args.row.representative
+    let start = starts_there circuit there c.args.view.circuit.now.statements
+    c.args.row.representative
     c.origin_of-origin.result c.requires.view.part c.origin_of-origin.ensures fault starts in
-    let is : stuck_fault c.origin_of-origin.result.fault ≡ moved_fault circuit there fault = start.moved in
+    let is : stuck_fault c.origin_of-origin.result.fault ≡ moved_fault circuit there fault =
+    start.moved in
     let same : w.0 ≡ fault = ap (λ (o : Option Fault). unwrap_or o w.0) (sym w.1
     ∙ o.1) in
     let own = subst (λ f. IsWayOfLine circuit f.line way) same w.2 in
@@ -231,9 +243,11 @@ returns-else-lanes-eq0-clause-counted c = λ way w.
     let well = c.requires.view.together.circuit.well_formed in
     let fault = o.0 in
     let starts = o.2 in
-    let start = starts_there circuit there c.args.view.circuit.now.statements c.args.row.representative
+    let start = starts_there circuit there c.args.view.circuit.now.statements
+    c.args.row.representative
     c.origin_of-origin.result c.requires.view.part c.origin_of-origin.ensures fault starts in
-    let is : stuck_fault c.origin_of-origin.result.fault ≡ moved_fault circuit there fault = start.moved in
+    let is : stuck_fault c.origin_of-origin.result.fault ≡ moved_fault circuit there fault =
+    start.moved in
     let same : w.0 ≡ fault = ap (λ (o : Option Fault). unwrap_or o w.0) (sym w.1
     ∙ o.1) in
     let own = subst (λ f. IsWayOfLine circuit f.line way) same w.2 in
@@ -274,9 +288,11 @@ follow_within-requires-clause-stem c =
     let fault = o.0 in
     let starts = o.2 in
     let start = starts_there circuit there c.args.view.circuit.now.statements
-    c.args.row.representative c.origin_of-origin.result c.requires.view.part c.origin_of-origin.ensures fault
+    c.args.row.representative c.origin_of-origin.result c.requires.view.part
+    c.origin_of-origin.ensures fault
     starts in
-    let is : stuck_fault c.origin_of-origin.result.fault ≡ moved_fault circuit there fault = start.moved in
+    let is : stuck_fault c.origin_of-origin.result.fault ≡ moved_fault circuit there fault =
+    start.moved in
     let h = c.requires.row.stem in
     let same : h.0 ≡ fault = ap (λ (x : Option Fault). unwrap_or x h.0) (sym h.1 ∙ o.1) in
     let own = subst (λ f. IsStemOfLine circuit c.args.row.stem f.line) same h.2 in

@@ -31,7 +31,8 @@ loop-lanes-smaller c =
     let at = c.loop-lanes.at in
     let gate = c.in-Some-lone_reader.gate in
     let alone = sym c.in-Some-lone_reader.ensures in
-    let rise = c.signals-signals.ensures.rising gate at (pin_law circuit well at gate alone).reads in
+    let rise = c.signals-signals.ensures.rising gate at
+    (pin_law circuit well at gate alone).reads in
     let low = c.loop-lanes.invariant.within in
     omega (arith, rise, low)
 
@@ -44,7 +45,8 @@ loop-lanes-preserved c =
     let items = c.loop-lanes.path.items in
     let gate = c.in-Some-lone_reader.gate in
     let alone = sym c.in-Some-lone_reader.ensures in
-    let rise = c.signals-signals.ensures.rising gate at (pin_law circuit well at gate alone).reads in
+    let rise = c.signals-signals.ensures.rising gate at
+    (pin_law circuit well at gate alone).reads in
     let few = last.few in
     let len = c.push_reserved.ensures.len in
     record {

@@ -16,7 +16,8 @@ rows_of-requires g c =
 
 pub run_list-stop-requires-clause-rows : goal.run_list-stop-requires-clause-rows
 run_list-stop-requires-clause-rows g c =
-    subst (All (IsListed c.args.job.now)) (sym c.as_slice-listed.ensures.value) c.in_ok-rows.ensures.each
+    subst (All (IsListed c.args.job.now)) (sym c.as_slice-listed.ensures.value)
+    c.in_ok-rows.ensures.each
 
 pub run_list-stop-requires-clause-none : goal.run_list-stop-requires-clause-none
 run_list-stop-requires-clause-none g c =
@@ -34,7 +35,8 @@ run_list-stop-requires-clause-none g c =
 
 pub run_list-stop-requires-clause-next : goal.run_list-stop-requires-clause-next
 run_list-stop-requires-clause-next g c =
-    subst (λ l. AreNextOpen l c.as_mut_slice-next.result.now) (sym c.as_mut_slice-found.ensures.value)
+    subst (λ l. AreNextOpen l c.as_mut_slice-next.result.now)
+    (sym c.as_mut_slice-found.ensures.value)
     (subst (AreNextOpen c.in_ok-firsts.firsts.items) (sym c.as_mut_slice-next.ensures.value)
     (subst (λ l. AreNextOpen l c.in_ok-open.open.items) c.as_slice.ensures.value
     c.in_ok-open.ensures))
