@@ -8,7 +8,7 @@ another one by --program. The circuit has 22,179 random gates in the shape of s3
 Of each time the least of the rounds counts.
 
   --compare  compares instead: under each model the name and the first test of each fault of
-             picorv32, and of how many tests detect it up to three, with what the program writes
+             picorv32, and how many tests detect it, up to three, with what the program writes
 
 Status: 0, or 1 if the library finds something else than the program.
 """
@@ -76,8 +76,10 @@ def timed(program, paths, rounds):
         jobs = keep("share 4 times", lambda: [job.share() for _ in parts])
         lists = [faultsim._numbers(part, "I") for part in parts]
         with ThreadPoolExecutor(4) as pool:
+            shares = list(zip(jobs, lists))
             found = keep(
-                "simulate, 4 threads", lambda: list(pool.map(lambda it: it[0]._part(it[1]), zip(jobs, lists)))
+                "simulate, 4 threads",
+                lambda: list(pool.map(lambda it: it[0]._part(it[1]), shares)),
             )
         for part, firsts in zip(parts, found):
             if [wanted[at] for at in part] != list(firsts):
@@ -112,9 +114,10 @@ def compared(program, paths):
             counts = job.detections(3)
             of = [str(int(counts[int(class_)])) for class_ in job.classes_of()]
             same = firsts == said_by(program, paths, model)
-            same_counts = of == [it[1] for it in said_by(program, paths, model, "--detections", "3")]
-            print(f"{model}: {job.faults} faults, {'the same' if same and same_counts else 'DIFFERENT'}")
-            status |= not (same and same_counts)
+            counted = [it[1] for it in said_by(program, paths, model, "--detections", "3")]
+            well = same and of == counted
+            print(f"{model}: {job.faults} faults, {'the same' if well else 'DIFFERENT'}")
+            status |= not well
     return status
 
 

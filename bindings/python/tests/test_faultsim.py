@@ -118,7 +118,7 @@ class Tests(unittest.TestCase):
     def test_faults_by_name(self):
         with faultsim.Job(AND) as job:
             job.set_tests("11\n01\n")
-            names = ["stem a sa0", "stem a sa1", "stem b sa0", "stem b sa1", "stem z sa0", "stem z sa1"]
+            names = [f"stem {line} sa{value}" for line in "abz" for value in (0, 1)]
             self.assertEqual(job.fault_names(), names)
             wanted = dict(zip(names, [0, 1, 0, None, 0, 1]))
             self.assertEqual(job.first_tests(), wanted)

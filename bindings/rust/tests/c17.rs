@@ -30,7 +30,13 @@ fn one_test_detects_14_of_34() -> Result<(), Error> {
     // One test detects a class once, or not.
     let counts = job.detections(&[0, 1], 5)?;
     let found = job.simulate(&[0, 1])?;
-    assert_eq!(counts, found.iter().map(|it| it.is_some() as u32).collect::<Vec<_>>());
+    assert_eq!(
+        counts,
+        found
+            .iter()
+            .map(|it| it.is_some() as u32)
+            .collect::<Vec<_>>()
+    );
     assert_eq!(job.detections(&[1000], 5), Err(Error::OutOfRange));
     Ok(())
 }

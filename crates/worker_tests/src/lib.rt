@@ -7,8 +7,6 @@ mod fixtures;
 #[cfg(test)]
 mod gates;
 #[cfg(test)]
-mod lists;
-#[cfg(test)]
 mod parts;
 #[cfg(test)]
 mod schedules;
