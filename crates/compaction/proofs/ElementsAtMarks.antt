@@ -1,7 +1,8 @@
 -- The elements at marked places.
 use Rattle.std.proofs.Common.{◌≡◌, ◌<◌, ◌≤◌, ◌+◌, ◌∙◌, ℕ, zero, suc, Bool, true, false, List, []}
 use Rattle.std.proofs.Common.{◌∷◌, ◌++◌, length, take, ap, refl, sym, arith, add-one, get_or, inl}
-use Rattle.std.proofs.Common.{inr, ◌⊎◌}
+use Rattle.std.proofs.Common.{inr, ◌⊎◌, cond, count_by}
+use Rattle.std.proofs.lemmas.List.Sums.{sum_by-cons}
 use Rattle.std.proofs.lemmas.Bool.{cases_lt}
 use Rattle.std.specs.Prelude.{Some, None, slice_get}
 use Rattle.compaction.specs.Compaction.{IsSublist, at_marks}
@@ -11,6 +12,16 @@ abbrev pub ones : List Bool → ℕ
 ones [] = 0
 ones (true ∷ marks) = suc (ones marks)
 ones (false ∷ marks) = ones marks
+
+-- std counts them so too
+pub ones_counted : (marks : List Bool) → count_by (λ mark. mark) marks ≡ ones marks
+ones_counted [] = refl
+ones_counted (true ∷ marks) =
+    let more = sum_by-cons (λ mark. cond mark 1 0) true marks in
+    let rest = ones_counted marks in omega (arith, more, rest)
+ones_counted (false ∷ marks) =
+    let more = sum_by-cons (λ mark. cond mark 1 0) false marks in
+    let rest = ones_counted marks in omega (arith, more, rest)
 
 pub marked_at : {X : Type 0} (marks : List Bool) (xs : List X) (t : ℕ) (x : X)
     → slice_get marks t ≡ Some true → slice_get xs t ≡ Some x
@@ -147,13 +158,24 @@ both_marks (false ∷ marks) inner = false ∷ both_marks marks inner
 both_marks (true ∷ marks) [] = false ∷ both_marks marks []
 both_marks (true ∷ marks) (mark ∷ inner) = mark ∷ both_marks marks inner
 
-both_counted : (marks inner : List Bool) → length (both_marks marks inner) ≡ length marks
+-- they are among the marks
+pub both_marked : (marks inner : List Bool) (t : ℕ)
+    → slice_get (both_marks marks inner) t ≡ Some true → slice_get marks t ≡ Some true
+both_marked [] inner t e = let bad : None ≡ Some true = e in cc
+both_marked (false ∷ marks) inner zero e = let bad : Some false ≡ Some true = e in cc
+both_marked (false ∷ marks) inner (suc t) e = both_marked marks inner t e
+both_marked (true ∷ marks) [] zero e = refl
+both_marked (true ∷ marks) [] (suc t) e = both_marked marks [] t e
+both_marked (true ∷ marks) (mark ∷ inner) zero e = refl
+both_marked (true ∷ marks) (mark ∷ inner) (suc t) e = both_marked marks inner t e
+
+pub both_counted : (marks inner : List Bool) → length (both_marks marks inner) ≡ length marks
 both_counted [] inner = refl
 both_counted (false ∷ marks) inner = ap suc (both_counted marks inner)
 both_counted (true ∷ marks) [] = ap suc (both_counted marks [])
 both_counted (true ∷ marks) (mark ∷ inner) = ap suc (both_counted marks inner)
 
-marked_twice : {X : Type 0} (marks inner : List Bool) (xs : List X)
+pub marked_twice : {X : Type 0} (marks inner : List Bool) (xs : List X)
     → at_marks inner (at_marks marks xs) ≡ at_marks (both_marks marks inner) xs
 marked_twice [] inner xs = no_elements inner
 marked_twice (false ∷ marks) inner [] = no_elements inner
@@ -165,12 +187,3 @@ marked_twice (true ∷ marks) (false ∷ inner) [] = refl
 marked_twice (true ∷ marks) (true ∷ inner) (x ∷ xs) =
     ap (λ ys. x ∷ ys) (marked_twice marks inner xs)
 marked_twice (true ∷ marks) (false ∷ inner) (x ∷ xs) = marked_twice marks inner xs
-
-pub sublist_twice : {X : Type 0} (xs ys zs : List X) → IsSublist xs ys → IsSublist ys zs
-    → IsSublist xs zs
-sublist_twice xs ys zs inner outer = (
-  both_marks outer.0 inner.0,
-  both_counted outer.0 inner.0 ∙ outer.1,
-  inner.2
-      ∙ (ap (at_marks inner.0) outer.2 ∙ marked_twice outer.0 inner.0 zs),
-)

@@ -30,10 +30,11 @@ use Rattle.workers.specs.Refused.{IsRunFault}
 use Rattle.workers.specs.Stops.{no_stop}
 use Rattle.workers.specs.Verdict.{AreFirsts}
 use Rattle.compaction.specs.Compaction.{Covers, IsCompaction, IsFirstForSome, IsLastForSome}
-use Rattle.compaction.specs.Compaction.{IsNeeded, finds, is_first, at_marks}
+use Rattle.compaction.specs.Compaction.{IsNeeded, finds, is_first, at_marks, row_of}
 use Rattle.compaction.specs.Marks.{AreFinding, AreLast}
-use Rattle.compaction.proofs.ElementsAtMarks.{ComesFrom, comes_from, earlier_place, marked_at, ones}
-use Rattle.compaction.proofs.ElementsAtMarks.{ones_next, ones_stay, sublist_twice}
+use Rattle.compaction.proofs.ElementsAtMarks.{ComesFrom, both_counted, both_marked, both_marks}
+use Rattle.compaction.proofs.ElementsAtMarks.{comes_from, earlier_place, marked_at, marked_twice}
+use Rattle.compaction.proofs.ElementsAtMarks.{ones, ones_counted, ones_next, ones_stay}
 use Rattle.compaction.proofs.TurnedLists.{turned_back, turned_to}
 
 -- ---- marks by first tests
@@ -208,23 +209,38 @@ pub compacted_stuck : (c : List Statement) (tests kept : List Test) (marks : Lis
     → IsCompaction StuckAt c tests kept
 compacted_stuck c tests kept marks are last_are =
     record {
-      rows = sublist_twice kept (at_marks marks tests) tests last_are.rows
-          (marks, are.count, refl);
+      marks = both;
+      count = all;
+      rows = rows;
       covers = covers;
       needed = needed;
     }
   where
+    both : List Bool
+    both = both_marks marks last_are.rows.0
+
+    all : length both ≡ length tests
+    all = both_counted marks last_are.rows.0 ∙ are.count
+
+    rows : kept ≡ at_marks both tests
+    rows = last_are.rows.2 ∙ marked_twice marks last_are.rows.0 tests
+
     covers : Covers StuckAt c tests kept
     covers f t listed detects = let h = covers_stuck c tests marks are f t listed detects in
         last_are.covers f h.0 listed h.1
 
-    needed : (k : ℕ) (row : Test) → slice_get kept k ≡ Some row
-        → (t : ℕ) × (slice_get tests t ≡ Some row) × IsNeeded StuckAt c tests kept t k
-    needed k row e =
-        let inner = comes_from last_are.rows.0 (at_marks marks tests) k row
-        (subst (λ rows. slice_get rows k ≡ Some row) last_are.rows.2 e) in
-        let from = comes_from marks tests inner.place row inner.at in
-        (from.place, from.at, (are.first from.place from.mark, last_are.last k row e))
+    needed : (t : ℕ) → slice_get both t ≡ Some true
+        → IsNeeded StuckAt c tests kept t (row_of both t)
+    needed t mark =
+        let low = slice_get_within both t true mark in
+        let own = within_place tests t (omega (arith, low, all)) in
+        let at : slice_get (at_marks both tests) (row_of both t) ≡ Some own.0 =
+        subst (λ k. slice_get (at_marks both tests) k ≡ Some own.0)
+        (sym (ones_counted (take t both))) (marked_at both tests t own.0 mark own.1) in (
+          are.first t (both_marked marks last_are.rows.0 t mark),
+          last_are.last (row_of both t) own.0
+              (subst (λ rows. slice_get rows (row_of both t) ≡ Some own.0) (sym rows) at),
+        )
 
 -- ---- transition faults: with each test the one before it
 
@@ -295,7 +311,13 @@ pub compacted_before : (m : Model) (c : List Statement) (tests : List Test)
     → LooksBackSame m c tests found marks
     → IsCompaction m c tests (at_marks marks tests)
 compacted_before m c tests found marks are before looks_back =
-    record { rows = (marks, before.count ∙ are.count, refl); covers = covers; needed = needed }
+    record {
+      marks = marks;
+      count = before.count ∙ are.count;
+      rows = refl;
+      covers = covers;
+      needed = needed;
+    }
   where
     kept_pair : (s : ℕ) (f : Fault) → Contains (faults m c) f → slice_get found s ≡ Some true
         → DetectsAt c tests f s → (k : ℕ) × DetectsAt c (at_marks marks tests) f k
@@ -333,28 +355,20 @@ compacted_before m c tests found marks are before looks_back =
     covers f t listed detects = let s = are.found f t listed detects in
         kept_pair s.0 f listed s.2 s.1.0
 
-    needed : (k : ℕ) (row : Test) → slice_get (at_marks marks tests) k ≡ Some row
-        → (t : ℕ) × (slice_get tests t ≡ Some row) × IsNeeded m c tests (at_marks marks tests) t k
-    needed k row e = (
-      from.place,
-      from.at,
-      looks_back.needs
-          (at_marks marks tests) from.place k (go (or_cases (get_or found from.place false)
-          (get_or found (from.place + 1) false) (sym (before.each from.place lt)
-          ∙ get_or_from_slice_get marks from.place true false from.mark))),
-    )
+    needed : (t : ℕ) → slice_get marks t ≡ Some true
+        → IsNeeded m c tests (at_marks marks tests) t (row_of marks t)
+    needed t mark =
+        looks_back.needs (at_marks marks tests) t (row_of marks t) (go (or_cases
+        (get_or found t false) (get_or found (t + 1) false) (sym (before.each t lt)
+        ∙ get_or_from_slice_get marks t true false mark)))
       where
-        from : ComesFrom marks tests k row
-        from = comes_from marks tests k row e
+        lt : t < length found
+        lt = let h = slice_get_within marks t true mark in omega (arith, h, before.count)
 
-        lt : from.place < length found
-        lt = let h = slice_get_within marks from.place true from.mark in
-            omega (arith, h, before.count)
-
-        go : (get_or found from.place false ≡ true) ⊎ (get_or found (from.place + 1) false ≡ true)
-            → IsFirstForSome m c tests from.place ⊎ IsFirstForSome m c tests (from.place + 1)
-        go (inl h) = inl (are.first from.place (mark_at_place found from.place h))
-        go (inr h) = inr (are.first (from.place + 1) (mark_at_place found (from.place + 1) h))
+        go : (get_or found t false ≡ true) ⊎ (get_or found (t + 1) false ≡ true)
+            → IsFirstForSome m c tests t ⊎ IsFirstForSome m c tests (t + 1)
+        go (inl h) = inl (are.first t (mark_at_place found t h))
+        go (inr h) = inr (are.first (t + 1) (mark_at_place found (t + 1) h))
 
 -- ---- transition faults of a list, where each test but the first is the second of a pair
 

@@ -1,6 +1,6 @@
 -- When rows are a compaction of a list of tests.
 use Rattle.std.specs.Prelude.{◌≡◌, ◌⊎◌, ℕ, ◌+◌, ◌<◌, ◌==◌, Bool, true, false, List, [], ◌∷◌, length}
-use Rattle.std.specs.Prelude.{Contains, Option, Some, None, slice_get}
+use Rattle.std.specs.Prelude.{Contains, Option, Some, None, count_by, slice_get, take}
 use Rattle.std.specs.List.{list_any}
 use Rattle.bench_net.specs.Statement.{Statement}
 use Rattle.fault_model.specs.declared.Model.{Model}
@@ -54,10 +54,16 @@ abbrev pub Covers : Model → List Statement → List Test → List Test → Typ
 Covers m c tests kept = (f : Fault) (t : ℕ) → Contains (faults m c) f → DetectsAt c tests f t
     → (k : ℕ) × DetectsAt c kept f k
 
--- the rows are some of the tests, in order; they detect each fault that the tests detect; and each
--- is needed
+-- which row a marked place of a list gives, counted from 0: as many places before it are marked
+abbrev pub row_of : List Bool → ℕ → ℕ
+row_of marks t = count_by (λ mark. mark) (take t marks)
+
+-- The tests that are kept are marked, each by its place in the list: the rows are these, in order,
+-- they detect each fault that the tests detect, and each test that is marked is needed as its row.
 pub record IsCompaction (m : Model) (c : List Statement) (tests kept : List Test) : Type 0 where
-  pub rows : IsSublist kept tests
+  pub marks : List Bool
+  pub count : length marks ≡ length tests
+  pub rows : kept ≡ at_marks marks tests
   pub covers : Covers m c tests kept
-  pub needed : (k : ℕ) (row : Test) → slice_get kept k ≡ Some row
-      → (t : ℕ) × (slice_get tests t ≡ Some row) × IsNeeded m c tests kept t k
+  pub needed : (t : ℕ) → slice_get marks t ≡ Some true
+      → IsNeeded m c tests kept t (row_of marks t)

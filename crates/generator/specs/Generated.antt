@@ -21,8 +21,9 @@ use Rattle.jobs.specs.Jobs.{IsJobWithin}
 abbrev pub HasFewRows : ℕ → List ℕ → Type 0
 HasFewRows most text = (tests : List (List Bool)) × (text ≡ test_text tests) × (length tests ≤ most)
 
--- the text is that of tests which are a compaction of others, for the circuit of a bench text under
--- a model, so that each of them is needed
+-- The text is that of tests which are a compaction of others, for the circuit of a bench text under
+-- a model, so that each of them is needed to detect what those detect. Nothing is said of what the
+-- others detect.
 abbrev pub IsCompacted : Model → List ℕ → List ℕ → Type 0
 IsCompacted m bench text = (c : List Statement) × (found kept : List (List Bool))
     × IsAccepted bench c × IsCompaction m c found kept × (text ≡ test_text kept)

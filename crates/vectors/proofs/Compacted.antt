@@ -14,7 +14,7 @@ use Rattle.fault_model.specs.Solution.{Test, Detects, shows}
 use Rattle.fault_model.specs.Detection.{DetectsAt, LooksBack}
 use Rattle.fault_model.proofs.Public.{detects, listed_model}
 use Rattle.compaction.specs.Compaction.{Covers, IsCompaction, IsFirstForSome, IsLastForSome}
-use Rattle.compaction.specs.Compaction.{IsNeeded}
+use Rattle.compaction.specs.Compaction.{IsNeeded, row_of}
 use Rattle.vectors.proofs.Circuits.{buffer}
 
 abbrev low : Test
@@ -131,13 +131,19 @@ covered f (suc (suc (suc t))) listed d = let bad : None ≡ Some d.0 = d.1 in cc
 
 three_compacted : IsCompaction StuckAt buffer three two
 three_compacted = record {
-  rows = (true ∷ true ∷ false ∷ [], refl, refl);
+  marks = marks;
+  count = refl;
+  rows = refl;
   covers = covered;
   needed = needed;
 }
   where
-    needed : (k : ℕ) (row : Test) → slice_get two k ≡ Some row
-        → (t : ℕ) × (slice_get three t ≡ Some row) × IsNeeded StuckAt buffer three two t k
-    needed zero row at = (0, at, (low_first, low_last))
-    needed (suc zero) row at = (1, at, (high_first, high_last))
-    needed (suc (suc k)) row at = let bad : None ≡ Some row = at in cc
+    marks : List Bool
+    marks = true ∷ true ∷ false ∷ []
+
+    needed : (t : ℕ) → slice_get marks t ≡ Some true
+        → IsNeeded StuckAt buffer three two t (row_of marks t)
+    needed zero mark = (low_first, low_last)
+    needed (suc zero) mark = (high_first, high_last)
+    needed (suc (suc zero)) mark = let bad : Some false ≡ Some true = mark in cc
+    needed (suc (suc (suc t))) mark = let bad : None ≡ Some true = mark in cc
