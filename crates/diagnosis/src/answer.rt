@@ -98,9 +98,7 @@ fn answer_for_tests<'a>(
         Some(excess) => Ok(Answer::TooManyPieces(excess)),
         None => {
             let table = format!(in alloc; "{counts}{taken}")?;
-            Ok(Answer::Accepted(with_warnings(
-                alloc, model, table, circuit, tests,
-            )?))
+            Ok(Answer::Accepted(with_warnings(alloc, model, table, circuit, tests)?))
         }
     }
 }
