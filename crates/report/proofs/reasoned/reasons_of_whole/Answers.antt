@@ -28,5 +28,5 @@ returns-clause-refused g c =
     c.parts_for-parts.result c.args.workers passing stops job (
       c.in_ok-job.ensures.job,
       c.in_ok-job.ensures.few,
-    ))
+    ) c.parts_for-parts.ensures.count)
     c.report_reasons.ensures.refused
