@@ -1,4 +1,4 @@
-//! A circuit: the statement list of a bench text, with its tables.
+//! A circuit: the statement list of a bench file, with its tables.
 
 ghost use Rattle.std.specs.Prelude.{◌≡◌, ◌≢◌, ◌<◌, ◌≤◌, ℕ, List, length, map, option_map};
 ghost use Rattle.std.specs.Prelude.{slice_get, string_bytes, IfOk, IfErr, IfSome, IfNone, ◌⊎◌};
@@ -41,8 +41,8 @@ impl Model for Circuit {
 }
 
 impl Circuit {
-    /// The number of signals. Signals are numbered from 0 in the order of the lines that define
-    /// them.
+    /// Returns the number of signals. Signals are numbered from 0 in the order of the lines that
+    /// define them.
     pub fn signals(&self) -> u32
         ensures count { result ≡ length (names self.now) }
         ensures circuit { IsCircuit self.now }
@@ -50,8 +50,8 @@ impl Circuit {
         self.names.len() as u32
     }
 
-    /// The width of a test row: one bit for each input, then one for each cell. It is at least 1,
-    /// since a circuit without cycles has a source.
+    /// Returns the width of a test: one bit for each input, then one for each cell. It is at least
+    /// 1, because a circuit without cycles has a source.
     pub fn sources(&self) -> u32
         ensures count { result ≡ length (sources self.now) }
         ensures some { 1 ≤ result }
@@ -59,14 +59,14 @@ impl Circuit {
         self.tables.sources.len() as u32
     }
 
-    /// The signals of the INPUT lines, in order.
+    /// Returns the signals of the INPUT lines, in order.
     pub fn inputs(&self) -> &[u32]
         ensures { result.now ≡ map (signal self.now) (inputs self.now) }
     {
         self.tables.inputs.as_slice()
     }
 
-    /// The flip-flop cells in order, under full scan: `q` is a source and `d` is observed.
+    /// Returns the flip-flop cells in order, under full scan: `q` is a source and `d` is observed.
     pub fn scan_cells(&self) -> &[ScanCell]
         ensures { map {B = ℕ × ℕ} (λ cell. (cell.q, cell.d)) result.now
             ≡ map (λ cell. (signal self.now cell.0, signal self.now cell.1)) (cells self.now) }
@@ -74,14 +74,14 @@ impl Circuit {
         self.tables.cells.as_slice()
     }
 
-    /// The signal of each OUTPUT line, in order.
+    /// Returns the signal of each OUTPUT line, in order.
     pub fn outputs(&self) -> &[u32]
         ensures { result.now ≡ map (signal self.now) (outputs self.now) }
     {
         self.tables.outputs.as_slice()
     }
 
-    /// The place of a signal in a test row, from 0; `None` for the signal of a gate.
+    /// Returns the place of a signal in a test, from 0; `None` for the signal of a gate.
     pub fn source_of(&self, signal: u32) -> Option<u32>
         requires { signal < length (names self.now) }
         ensures place { IfSome result (λ i.
@@ -92,7 +92,7 @@ impl Circuit {
         self.tables.source_places[signal as usize]
     }
 
-    /// The name of a signal, as the text spells it.
+    /// Returns the name of a signal, as the bench file spells it.
     pub fn name_of(&self, signal: u32) -> &str
         requires { signal < length (names self.now) }
         ensures { Some result.now ≡ name_of self.now signal }
@@ -100,7 +100,7 @@ impl Circuit {
         self.names[signal as usize].as_str()
     }
 
-    /// The gate that drives a signal; `None` for a source.
+    /// Returns the gate that drives a signal; `None` for a source.
     pub fn gate_of(&self, signal: u32) -> Option<&GateLine>
         requires { signal < length (names self.now) }
         ensures { option_map {U = Kind × List ℕ} (λ g. (g.now.kind, g.now.pins.items)) result
@@ -112,8 +112,8 @@ impl Circuit {
         }
     }
 
-    /// The readers of a signal: gate pins and data pins by the line of the reader and then by pin,
-    /// and after these the OUTPUT lines.
+    /// Returns the sinks of a signal: gate pins and data pins by the line of the reader and then by
+    /// pin, and after these the OUTPUT lines.
     pub fn sinks_of(&self, signal: u32) -> &[Sink]
         requires { signal < length (names self.now) }
         ensures { (n : List ℕ) → name_of self.now signal ≡ Some n → result.now ≡ sinks self.now n }
@@ -121,8 +121,9 @@ impl Circuit {
         self.tables.sinks.row(signal)
     }
 
-    /// The level of a signal: 0 for a source, and for a gate one more than the greatest level of
-    /// the signals that its pins read (Bushnell and Agrawal, Essentials of Electronic Testing).
+    /// Returns the level of a signal: 0 for a source, and for a gate one more than the greatest
+    /// level of the signals that its pins read (Bushnell and Agrawal, Essentials of Electronic
+    /// Testing).
     pub fn level_of(&self, signal: u32) -> u32
         requires { signal < length (names self.now) }
         ensures { HasLevel self.now signal result }
@@ -130,14 +131,14 @@ impl Circuit {
         self.tables.levels.levels[signal as usize]
     }
 
-    /// All signals by level, and within a level by number.
+    /// Returns all signals by level, and within a level by number.
     pub fn in_level_order(&self) -> &[u32]
         ensures { IsLevelOrder self.now result.now }
     {
         self.tables.levels.order.as_slice()
     }
 
-    /// The greatest level of a signal, and 0 where no signal is a gate's.
+    /// Returns the greatest level of a signal, or 0 if no signal belongs to a gate.
     pub fn depth(&self) -> u32
         ensures { HasDepth self.now result }
     {
@@ -145,8 +146,8 @@ impl Circuit {
     }
 }
 
-/// The circuit of numbered statements. Refused are lines with a gate on a cycle of gates or fed by
-/// one, with the number of the lowest such line, and no lines at all.
+/// Makes the circuit of numbered statements. It fails for lines with a gate on a cycle of gates or
+/// fed by one, with the number of the lowest such line, and for no lines at all.
 pub fn circuit_of(alloc: Global, lines: Lines) -> Result<Circuit, BenchFault>
     requires { AreStatements (map string_bytes lines.names.items) lines.lines.items lines.at.items }
     ensures accepted { IfOk result (λ c.

@@ -1,7 +1,7 @@
 //! The levels of signals, or a gate that has none: on a cycle of gates or fed by one.
 //!
-//! They are found along a path of open gates, without recursion, since a circuit may be as deep as
-//! it has gates.
+//! The search goes along a path of open gates, without recursion, because a circuit may be as deep
+//! as it has gates.
 
 ghost use Rattle.std.specs.Prelude.{◌≡◌, ◌+◌, ◌<◌, ◌≤◌, ℕ, List, length, map, reverse, slice_get};
 ghost use Rattle.std.specs.Prelude.{slice_index, [], ◌∷◌, Some, IfOk, IfErr, OnOk};
@@ -24,7 +24,7 @@ pub struct Levels {
     pub depth: u32,
 }
 
-/// What is known of a signal: nothing, that its gate is open, or its level.
+/// The state of a signal: unknown, an open gate, or a level.
 #[derive(Clone, Copy)]
 enum Mark {
     Unknown,
@@ -32,8 +32,8 @@ enum Mark {
     Level(u32),
 }
 
-/// A gate whose level is sought: the signals of its pins before `pin` have levels, and `level` is
-/// one more than the greatest of them.
+/// A gate whose level isn't known yet: the signals of its pins before `pin` have levels, and
+/// `level` is one more than the greatest of them.
 #[derive(Clone, Copy)]
 struct OpenGate {
     signal: u32,
@@ -41,7 +41,7 @@ struct OpenGate {
     level: u32,
 }
 
-/// The signals that the pins of a line's gate read; none for a line without one.
+/// Returns the signals that the pins of a line's gate read; none for a line without a gate.
 fn pins(line: &Line) -> &[u32]
     ensures { result.now ≡ pins_in (line_gate (Some line.now)) }
 {
@@ -52,7 +52,7 @@ fn pins(line: &Line) -> &[u32]
     }
 }
 
-/// The signal that a pin of a signal's gate reads, if there is such a pin.
+/// Returns the signal that a pin of a signal's gate reads, if there is such a pin.
 fn pin_of(lines: &[Line], definitions: &[usize], signal: u32, pin: u32) -> Option<u32>
     requires graph { IsGraph lines.now definitions.now }
     requires below { signal < length definitions.now }
@@ -63,9 +63,9 @@ fn pin_of(lines: &[Line], definitions: &[usize], signal: u32, pin: u32) -> Optio
         .copied()
 }
 
-/// Goes one pin on at an open gate, which was the last of the path: past a pin whose signal has a
-/// level, to a signal that is unknown, or out of the gate with a level. A pin that reads an open
-/// signal closes a cycle.
+/// Advances the open gate at the end of the path by one pin: past a pin whose signal has a level,
+/// to an unknown signal, or out of the gate with a level. A pin that reads an open signal closes a
+/// cycle.
 fn visit(
     lines: &[Line],
     definitions: &[usize],
@@ -111,8 +111,8 @@ fn visit(
     Ok(())
 }
 
-/// Marks a signal with its level, and with theirs all signals that it takes. Each lower signal has
-/// a level.
+/// Marks a signal with its level, and also the lower signals that need one. Each lower signal has a
+/// level.
 fn settle(
     lines: &[Line],
     definitions: &[usize],
@@ -147,7 +147,7 @@ fn settle(
     Ok(())
 }
 
-/// The level in a mark, and 0 in a mark without one.
+/// Returns the level in a mark, or 0 for a mark without one.
 fn level_in(mark: &Mark) -> u32
     ensures { result ≡ level_in mark.now }
 {
@@ -157,10 +157,10 @@ fn level_in(mark: &Mark) -> u32
     }
 }
 
-/// The level of each signal: 0 for a source, and for a gate one more than the greatest of its pins'
-/// signals. The signals are settled in order, each behind the signals that it takes. A gate goes
-/// past each of its pins once, so the time is linear in the number of pins. A path that meets
-/// itself is on a cycle, and fed by it is the signal from which it started.
+/// Returns the level of each signal: 0 for a source, and for a gate one more than the greatest
+/// level of its pins' signals. The signals get their levels in order, each after the signals that
+/// it needs. A gate goes past each of its pins once, so the time is linear in the number of pins. A
+/// path that meets itself is on a cycle, which feeds the signal that the path started from.
 fn signal_levels(
     alloc: Global,
     lines: &[Line],
@@ -182,8 +182,8 @@ fn signal_levels(
     Ok(marks.iter().map(|mark| level_in(mark)).collect(alloc)?)
 }
 
-/// The levels of lines whose definitions stand at these places, or the refusal of a text where a
-/// signal is on a cycle of gates or fed by one: the lowest such, by the number of its line.
+/// Returns the levels of lines whose definitions are at these places. It fails if a signal is on a
+/// cycle of gates or fed by one, with the lowest such line by its number.
 pub fn levels_of(
     alloc: Global,
     lines: &[Line],

@@ -1,4 +1,4 @@
-//! The statements of a bench text over signal numbers, as a circuit keeps them.
+//! The statements of a bench file over signal numbers, as a circuit keeps them.
 
 ghost use Rattle.std.specs.Prelude.{◌≡◌, ◌<◌, ◌^◌, Some, filter, length, slice_get};
 ghost use Rattle.bench_net.specs.Tables.{defines_number, definition_places};
@@ -14,7 +14,7 @@ pub enum Line {
     Dff(u32, u32),
 }
 
-/// The line that defines a signal, given the place of each signal's line.
+/// Returns the line that defines a signal, given the place of each signal's line.
 pub fn line_of<'a>(lines: &'a [Line], definitions: &[usize], signal: u32) -> &'a Line
     requires few { length lines.now < 2 ^ 32 }
     requires definitions { definitions.now ≡ definition_places lines.now }

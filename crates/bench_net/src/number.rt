@@ -19,7 +19,7 @@ use indexmap::IndexSet;
 use smallvec::SmallVec;
 use std::alloc::{AllocError, Global};
 
-/// A statement with the number of its line in the text, from 1.
+/// A statement with the number of its line in the file, from 1.
 #[derive(Drop)]
 pub struct StatedLine<'a> {
     pub number: u64,
@@ -29,7 +29,7 @@ pub struct StatedLine<'a> {
 /// The names in the order of their definitions; the number of a name is its place.
 pub type Names<'a> = IndexSet<&'a str>;
 
-/// The name that a statement defines.
+/// Returns the name that a statement defines.
 fn defined<'a>(statement: &Stated<'a>) -> Option<&'a str>
     ensures { defined (stands_for statement.now) ≡ option_to_list (option_map (λ n. n.now) result) }
 {
@@ -39,7 +39,7 @@ fn defined<'a>(statement: &Stated<'a>) -> Option<&'a str>
     }
 }
 
-/// Adds a name behind the others, and says whether it is new.
+/// Adds a name after the others, and returns whether it is new.
 fn add_name<'a>(names: &mut Names<'a>, name: &'a str) -> Result<bool, BenchFault>
     ensures added { IfOk result (λ added. added ≡ not (is_in (names_of names.old.keys) name.now)) }
     ensures names { IfOk result (λ added. names_of names.new.keys
@@ -68,7 +68,7 @@ pub fn number_names<'a>(alloc: Global, stated: &[StatedLine<'a>]) -> Result<Name
     Ok(names)
 }
 
-/// The number of a defined name, or the refusal.
+/// Returns the number of a defined name, or else this error.
 fn number_of(names: &Names, name: &str, refusal: BenchFault) -> Result<u32, BenchFault>
     requires { length names.now.keys ≤ max_signals }
     ensures within { IfOk result (λ number. number < length (names_of names.now.keys)) }
@@ -82,7 +82,7 @@ fn number_of(names: &Names, name: &str, refusal: BenchFault) -> Result<u32, Benc
     }
 }
 
-/// The numbers of the names of a gate's arguments, or the refusal where one is not defined.
+/// Returns the numbers of the names of a gate's arguments. It fails if one is not defined.
 fn number_pins(
     alloc: Global,
     arguments: &[&str],
@@ -105,7 +105,7 @@ fn number_pins(
     Ok(pins)
 }
 
-/// The statement over numbers, or the refusal where a name is not defined; `next` is the number of
+/// Returns the statement over numbers, and fails if a name is not defined; `next` is the number of
 /// the name that it defines.
 fn number_line(
     alloc: Global,
@@ -139,14 +139,14 @@ fn number_line(
     }
 }
 
-/// How many names a statement defines.
+/// Returns how many names a statement defines.
 pub fn defined_count(statement: &Stated) -> u32
     ensures { result ≡ length (defined (stands_for statement.now)) }
 {
     u32::from(defined(statement).is_some())
 }
 
-/// The statements over numbers.
+/// Returns the statements over numbers.
 pub fn number_lines(
     alloc: Global,
     stated: &[StatedLine],
@@ -170,7 +170,7 @@ pub fn number_lines(
     Ok(lines)
 }
 
-/// The names as texts of their own.
+/// Returns the names as strings that own their bytes.
 pub fn own_names(alloc: Global, names: &Names) -> Result<Vec<String>, BenchFault>
     ensures named { IfOk result (λ owned. map string_bytes owned.items ≡ names_of names.now.keys) }
     ensures refused { IfErr result (λ fault. fault ≡ BenchFault.Memory) }
@@ -182,14 +182,14 @@ pub fn own_names(alloc: Global, names: &Names) -> Result<Vec<String>, BenchFault
     Ok(owned)
 }
 
-/// Whether a statement defines a name: every statement but an OUTPUT does.
+/// Returns whether a statement defines a name: every statement but an OUTPUT does.
 fn defines(statement: &Stated) -> bool
     ensures { result ≡ defines (stands_for statement.now) }
 {
     !matches!(statement, Stated::Output(_))
 }
 
-/// The numbers of the lines that define the names.
+/// Returns the numbers of the lines that define the names.
 pub fn line_numbers(alloc: Global, stated: &[StatedLine]) -> Result<Vec<u64>, AllocError>
     ensures { IfOk result (λ numbers. numbers.items ≡ map (λ line. line.number)
         (filter (λ line. defines (stands_for line.statement)) stated.now)) }

@@ -1,10 +1,10 @@
-//! The lines of a bench text as numbered statements.
+//! The lines of a bench file as numbered statements.
 //!
-//! The format is that of the ISCAS circuits (Brglez and Fujiwara, A neutral netlist of 10
+//! The format is the one of the ISCAS circuits (Brglez and Fujiwara, A neutral netlist of 10
 //! combinational benchmark circuits, 1985; Brglez, Bryan and Kozminski, Combinational profiles of
-//! sequential benchmark circuits, 1989). The passes go over the whole text one after another:
-//! statements, limits, definitions, and names that are read. Each pass ends at the first line with
-//! its fault, so the refusals come in this order and name the lowest line.
+//! sequential benchmark circuits, 1989). Each pass goes over the whole file: statements, limits,
+//! definitions, and names that are read. A pass ends at the first line with its error, so the
+//! errors come in this order and name the lowest line.
 
 ghost use Rattle.std.specs.Prelude.{◌≡◌, ◌≤◌, length, map, string_bytes};
 ghost use Rattle.std.specs.Prelude.{IfOk, IfErr, IfSome, IfNone};
@@ -25,7 +25,7 @@ use crate::{BenchFault, Limit};
 use std::alloc::Global;
 use text_lines::without_carriage_return;
 
-/// The greatest number of bytes of a text.
+/// The greatest number of bytes of a file.
 const MAX_BYTES: usize = 16_777_216;
 
 /// The greatest number of signals, that is of lines that define a name.
@@ -34,8 +34,8 @@ const MAX_SIGNALS: usize = 1_000_000;
 /// The greatest number of gate pins, data pins and outputs together.
 const MAX_SINKS: usize = 4_000_000;
 
-/// The statements of a text: the names in the order of their definitions, the lines over their
-/// numbers, and of each name the number of the line in the text that defines it, from 1.
+/// The statements of a file: the names in the order of their definitions, the lines over their
+/// numbers, and for each name the number, from 1, of the line that defines it.
 #[derive(Drop)]
 pub struct Lines {
     pub names: Vec<String>,
@@ -43,7 +43,7 @@ pub struct Lines {
     pub at: Vec<u64>,
 }
 
-/// The statements of a text, each with the number of its line.
+/// Returns the statements of a file, each with the number of its line.
 fn read_statements<'a>(alloc: Global, text: &'a [u8]) -> Result<Vec<StatedLine<'a>>, BenchFault>
     requires { length text.now ≤ max_bytes }
     ensures ok { IfOk result (λ stated. AreStated (lines text.now) (entries_of stated.items)) }
@@ -61,7 +61,7 @@ fn read_statements<'a>(alloc: Global, text: &'a [u8]) -> Result<Vec<StatedLine<'
     Ok(stated)
 }
 
-/// How many names a statement reads.
+/// Returns how many names a statement reads.
 fn read_count(statement: &Stated) -> usize
     ensures { result ≡ length (read (stands_for statement.now)) }
 {
@@ -72,7 +72,7 @@ fn read_count(statement: &Stated) -> usize
     }
 }
 
-/// What there is too much of, signals before sinks.
+/// Returns the limit that the statements exceed, signals before sinks.
 fn past_limit(stated: &[StatedLine]) -> Option<Limit>
     ensures none { IfNone result (AreFew (names_in stated.now) (reads_in stated.now)) }
     ensures past { IfSome result (ArePast (names_in stated.now) (reads_in stated.now)) }
@@ -92,8 +92,8 @@ fn past_limit(stated: &[StatedLine]) -> Option<Limit>
     }
 }
 
-/// The statements of a text over numbers, or the refusal of the text. Cycles and a text without
-/// statements are not looked for.
+/// Returns the statements of a file over numbers, or its error. It doesn't check for cycles and for
+/// a file without statements.
 pub fn read_lines(alloc: Global, text: &[u8]) -> Result<Lines, BenchFault>
     ensures lines { IfOk result (λ r.
         AreLinesOf text.now (map string_bytes r.names.items) r.lines.items r.at.items) }

@@ -19,7 +19,7 @@ pub struct Reader {
     sink: Sink,
 }
 
-/// The sinks of all signals: those of signal `s` are `sinks[starts[s]..starts[s + 1]]`.
+/// The sinks of all signals. Signal `s` has `sinks[starts[s]..starts[s + 1]]`.
 #[derive(Drop)]
 pub struct SinkRows {
     pub starts: Vec<u32>,
@@ -27,7 +27,7 @@ pub struct SinkRows {
 }
 
 impl SinkRows {
-    /// The sinks of a signal.
+    /// Returns the sinks of a signal.
     pub fn row(&self, signal: u32) -> &[Sink]
         requires { HasRow self.now.starts.items self.now.sinks.items signal }
         ensures { result.now ≡ row_of self.now.starts.items self.now.sinks.items signal }
@@ -94,7 +94,7 @@ fn add_lines(readers: &mut Vec<Reader>, lines: &[Line]) -> Result<(), AllocError
     Ok(())
 }
 
-/// The sinks of the readers at these places.
+/// Returns the sinks of the readers at these places.
 fn sinks_of(alloc: Global, readers: &[Reader], places: &[u32]) -> Result<Vec<Sink>, AllocError>
     requires { All (λ place. place < length readers.now) places.now }
     ensures { IfOk result (λ sinks. sinks.items
@@ -107,7 +107,7 @@ fn sinks_of(alloc: Global, readers: &[Reader], places: &[u32]) -> Result<Vec<Sin
     Ok(sinks)
 }
 
-/// The readers of all signals: gate pins and data pins by their lines, then the outputs.
+/// Returns the readers of all signals: gate pins and data pins by their lines, then the outputs.
 pub fn readers_of(alloc: Global, lines: &[Line], outputs: &[u32]) -> Result<Vec<Reader>, AllocError>
     requires few_lines { length lines.now < 2 ^ 32 }
     requires few_outputs { length outputs.now < 2 ^ 32 }
@@ -120,14 +120,14 @@ pub fn readers_of(alloc: Global, lines: &[Line], outputs: &[u32]) -> Result<Vec<
     Ok(readers)
 }
 
-/// The signal that each reader reads.
+/// Returns the signal that each reader reads.
 fn signals_of(alloc: Global, readers: &[Reader]) -> Result<Vec<u32>, AllocError>
     ensures { IfOk result (λ signals. signals.items ≡ map (λ reader. reader.signal) readers.now) }
 {
     readers.iter().map(|reader| reader.signal).collect(alloc)
 }
 
-/// The sinks of each signal below `signals`, in the order of the readers.
+/// Returns the sinks of each signal below `signals`, in the order of the readers.
 pub fn sink_rows(alloc: Global, readers: &[Reader], signals: usize) -> Result<SinkRows, AllocError>
     requires few { length readers.now < 2 ^ 32 }
     requires few_signals { signals + 1 < 2 ^ 32 }

@@ -16,7 +16,7 @@ use std::alloc::Global;
 /// The names of a gate's arguments, in order.
 pub type Arguments<'a> = SmallVec<&'a str, 4>;
 
-/// A statement by its names, which borrow the text.
+/// A statement by its names, which borrow the file's bytes.
 #[derive(Drop)]
 pub enum Stated<'a> {
     Input(&'a str),
@@ -25,14 +25,14 @@ pub enum Stated<'a> {
     Dff(&'a str, &'a str),
 }
 
-/// Whether the word is the keyword, in any ASCII case.
+/// Returns whether the word is the keyword, in any ASCII case.
 fn is_keyword(word: &str, keyword: &str) -> bool
     ensures { result ≡ str_eq_ignore_ascii_case word.now keyword.now }
 {
     word.eq_ignore_ascii_case(keyword)
 }
 
-/// The kind that a word names, in any ASCII case.
+/// Returns the kind that a word names, in any ASCII case.
 fn kind_named(word: &str) -> Option<Kind>
     ensures { result ≡ kind_of word.now }
 {
@@ -57,7 +57,7 @@ fn kind_named(word: &str) -> Option<Kind>
     }
 }
 
-/// Whether a gate of the kind may have so many arguments.
+/// Returns whether a gate of the kind may have this number of arguments.
 fn takes(kind: Kind, count: usize) -> bool
     ensures { (args : List Name) → length args ≡ count → result ≡ has_arity kind args }
 {
@@ -67,7 +67,7 @@ fn takes(kind: Kind, count: usize) -> bool
     }
 }
 
-/// The arguments up to the parenthesis that ends the line, or the refusal of the line.
+/// Returns the arguments up to the parenthesis that ends the line, or the error of the line.
 fn read_arguments<'a>(
     alloc: Global,
     bytes: &'a [u8],
@@ -95,7 +95,7 @@ fn read_arguments<'a>(
     }
 }
 
-/// `INPUT ( n )` or `OUTPUT ( n )`, from the word before the parenthesis and the arguments.
+/// Makes `INPUT ( n )` or `OUTPUT ( n )` from the word before the parenthesis and the arguments.
 fn port<'a>(word: &str, arguments: Arguments<'a>) -> Option<Stated<'a>>
     ensures { option_map stands_for result ≡ port word.now (names_of arguments.entry.items) }
 {
@@ -106,7 +106,7 @@ fn port<'a>(word: &str, arguments: Arguments<'a>) -> Option<Stated<'a>>
     }
 }
 
-/// `q = DFF ( d )` or `n = KIND ( a , b , .. )`, from the name, the word and the arguments.
+/// Makes `q = DFF ( d )` or `n = KIND ( a , b , .. )` from the name, the word and the arguments.
 fn driven<'a>(name: &'a str, word: &str, arguments: Arguments<'a>) -> Option<Stated<'a>>
     ensures { option_map stands_for result
         ≡ driven_by name.now word.now (names_of arguments.entry.items) }
@@ -125,7 +125,7 @@ fn driven<'a>(name: &'a str, word: &str, arguments: Arguments<'a>) -> Option<Sta
     }
 }
 
-/// The statement of a line that begins with this word, from the bytes behind it.
+/// Returns the statement of a line that begins with this word, from the bytes after it.
 fn read_behind<'a>(
     alloc: Global,
     word: &'a str,
@@ -154,8 +154,8 @@ fn read_behind<'a>(
     }
 }
 
-/// What a line states: nothing where it has no token, and else its statement. A line that states
-/// nothing that a line may state has this refusal.
+/// Returns the statement of a line, or none if the line has no token. It fails with this error if
+/// the line is no statement.
 pub fn read_line<'a>(
     alloc: Global,
     line: &'a [u8],

@@ -1,4 +1,4 @@
-//! Tables made of a circuit's lines: inputs, outputs, cells, places in a test row, definitions.
+//! Tables made of a circuit's lines: inputs, outputs, cells, places in a test, definitions.
 
 ghost use Rattle.std.specs.Prelude.{◌≡◌, ◌^◌, ◌++◌, ◌<◌, map, length, All, IfOk, IfErr};
 ghost use Rattle.std.specs.List.{filter_map};
@@ -13,7 +13,7 @@ use crate::sinks::{SinkRows, readers_of, sink_rows};
 use crate::{BenchFault, ScanCell};
 use std::alloc::{AllocError, Global};
 
-/// What is computed in passes over the lines of a circuit.
+/// The tables that passes over the lines of a circuit compute.
 #[derive(Drop)]
 pub struct Tables {
     /// The signals of the INPUT lines.
@@ -22,26 +22,26 @@ pub struct Tables {
     pub cells: Vec<ScanCell>,
     /// The signals of the OUTPUT lines.
     pub outputs: Vec<u32>,
-    /// The signals that take a bit of a test, in the order of a test row.
+    /// The signals that take a bit of a test, in the order of the bits.
     pub sources: Vec<u32>,
-    /// Of each signal its place in a test row.
+    /// For each signal its place in a test.
     pub source_places: Vec<Option<u32>>,
-    /// Of each signal the place of the line that defines it.
+    /// For each signal the place of the line that defines it.
     pub definitions: Vec<usize>,
-    /// Of each signal its readers.
+    /// For each signal its sinks.
     pub sinks: SinkRows,
-    /// Of each signal its level.
+    /// For each signal its level.
     pub levels: Levels,
 }
 
-/// Whether a line defines a signal: every line but an OUTPUT line does.
+/// Returns whether a line defines a signal: every line but an OUTPUT line does.
 fn defines(line: &Line) -> bool
     ensures { result ≡ defines_number line.now }
 {
     !matches!(line, Line::Output(_))
 }
 
-/// The signals of the INPUT lines, in order.
+/// Returns the signals of the INPUT lines, in order.
 pub fn input_signals(alloc: Global, lines: &[Line]) -> Result<Vec<u32>, AllocError>
     ensures { IfOk result (λ v. v.items ≡ filter_map input_number lines.now) }
 {
@@ -54,7 +54,7 @@ pub fn input_signals(alloc: Global, lines: &[Line]) -> Result<Vec<u32>, AllocErr
         .collect(alloc)
 }
 
-/// The signals of the OUTPUT lines, in order.
+/// Returns the signals of the OUTPUT lines, in order.
 pub fn output_signals(alloc: Global, lines: &[Line]) -> Result<Vec<u32>, AllocError>
     ensures { IfOk result (λ v. v.items ≡ filter_map output_number lines.now) }
 {
@@ -67,7 +67,7 @@ pub fn output_signals(alloc: Global, lines: &[Line]) -> Result<Vec<u32>, AllocEr
         .collect(alloc)
 }
 
-/// The flip-flop cells, in order.
+/// Returns the flip-flop cells, in order.
 pub fn cells(alloc: Global, lines: &[Line]) -> Result<Vec<ScanCell>, AllocError>
     ensures { IfOk result (λ v. v.items ≡ filter_map cell_numbers lines.now) }
 {
@@ -80,7 +80,7 @@ pub fn cells(alloc: Global, lines: &[Line]) -> Result<Vec<ScanCell>, AllocError>
         .collect(alloc)
 }
 
-/// Of each signal the place, among all lines, of the line that defines it.
+/// Returns for each signal the place, among all lines, of the line that defines it.
 pub fn definitions(alloc: Global, lines: &[Line]) -> Result<Vec<usize>, AllocError>
     ensures { IfOk result (λ places. places.items ≡ definition_places lines.now) }
 {
@@ -91,7 +91,8 @@ pub fn definitions(alloc: Global, lines: &[Line]) -> Result<Vec<usize>, AllocErr
         .collect(alloc)
 }
 
-/// The signals that take a bit of a test, in the order of a test row: inputs, then the cells' q.
+/// Returns the signals that take a bit of a test, in the order of the bits: inputs, then the cells'
+/// q.
 pub fn sources(alloc: Global, inputs: &[u32], cells: &[ScanCell]) -> Result<Vec<u32>, AllocError>
     ensures { IfOk result (λ sources.
         sources.items ≡ inputs.now ++ map (λ cell. cell.q) cells.now) }
@@ -103,7 +104,7 @@ pub fn sources(alloc: Global, inputs: &[u32], cells: &[ScanCell]) -> Result<Vec<
         .collect(alloc)
 }
 
-/// Of each signal its place in a test row, if it is a source.
+/// Returns for each signal its place in a test, if it is a source.
 pub fn source_places(
     alloc: Global,
     sources: &[u32],
@@ -121,8 +122,8 @@ pub fn source_places(
     Ok(places)
 }
 
-/// The tables of lines, or the refusal of a text where a signal is on a cycle of gates or fed by
-/// one: the lowest such, by the number of its line.
+/// Returns the tables of lines. It fails if a signal is on a cycle of gates or fed by one, with the
+/// lowest such line by its number.
 pub fn tables_of(alloc: Global, lines: &[Line], at: &[u64]) -> Result<Tables, BenchFault>
     requires lines { AreTableLines lines.now }
     requires at { length at.now ≡ signals_in lines.now }

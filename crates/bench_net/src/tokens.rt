@@ -10,8 +10,8 @@ ghost use Rattle.bench_net.specs.reader.Parsed.{IsFront};
 use std::str;
 use text_lines::is_blank;
 
-/// What stands at the front of a line, behind its blanks: a mark or a word, which borrows the line,
-/// or none of them.
+/// The token at the front of a line, after its blanks: a mark or a word, which borrows the line, or
+/// none of them.
 #[derive(Clone, Copy)]
 pub enum Front<'a> {
     Open,
@@ -21,18 +21,18 @@ pub enum Front<'a> {
     Word(&'a str),
     /// No more token: the line ends here, or a comment begins.
     End,
-    /// A byte that may stand in a comment only.
+    /// A byte that may only be in a comment.
     Bad,
 }
 
-/// Whether the byte may stand in a word: the visible ASCII bytes but the marks and `#`.
+/// Returns whether the byte may be in a word: the visible ASCII bytes but the marks and `#`.
 fn is_word_byte(byte: u8) -> bool
     ensures { result ≡ is_word_byte byte }
 {
     matches!(byte, 0x21..=0x7e) && !matches!(byte, b'(' | b')' | b',' | b'=' | b'#')
 }
 
-/// How many blanks the bytes begin with.
+/// Returns how many blanks the bytes begin with.
 fn blank_len(bytes: &[u8]) -> usize
     ensures counted { result ≡ prefix_len is_blank bytes.now }
     ensures within { result ≤ length bytes.now }
@@ -40,7 +40,7 @@ fn blank_len(bytes: &[u8]) -> usize
     bytes.iter().take_while(|byte| is_blank(**byte)).count()
 }
 
-/// How many word bytes the bytes begin with.
+/// Returns how many word bytes the bytes begin with.
 fn word_len(bytes: &[u8]) -> usize
     ensures counted { result ≡ prefix_len is_word_byte bytes.now }
     ensures within { result ≤ length bytes.now }
@@ -48,7 +48,7 @@ fn word_len(bytes: &[u8]) -> usize
     bytes.iter().take_while(|byte| is_word_byte(**byte)).count()
 }
 
-/// What bytes without a blank in front begin with, and the bytes behind it.
+/// Returns the token at the front of bytes that don't begin with a blank, and the bytes after it.
 fn token_at<'a>(bytes: &'a [u8]) -> (Front<'a>, &'a [u8])
     requires { prefix_len is_blank bytes.now ≡ 0 }
     ensures { IsFront bytes.now result }
@@ -70,7 +70,7 @@ fn token_at<'a>(bytes: &'a [u8]) -> (Front<'a>, &'a [u8])
     }
 }
 
-/// A word as a text.
+/// Returns a word as a text.
 fn word_text<'a>(word: &'a [u8]) -> &'a str
     requires { IsUtf8 word.now }
     ensures { result.now ≡ word.now }
@@ -81,7 +81,7 @@ fn word_text<'a>(word: &'a [u8]) -> &'a str
     }
 }
 
-/// What stands at the front of a line, and the bytes behind it.
+/// Returns the token at the front of a line, and the bytes after it.
 pub fn next_token<'a>(line: &'a [u8]) -> (Front<'a>, &'a [u8])
     ensures { IsFront line.now result }
 {

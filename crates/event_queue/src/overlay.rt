@@ -1,11 +1,11 @@
-//! The words by which signals differ from their fault-free words.
+//! The differences of signals from their fault-free words.
 
 ghost use Rattle.std.specs.Prelude.{◌≡◌, ◌≢◌, ℕ, ◌<◌, All, IfOk, length, slice_index_or, slice_set};
 
 use std::alloc::{AllocError, Global};
 use std::marker::Model;
 
-/// A word a signal, 0 where it does not differ, with the list of those that do.
+/// A word for each signal, 0 if the signal doesn't differ, with the list of those that do.
 #[derive(Drop)]
 pub struct Overlay {
     words: Vec<u128>,
@@ -25,7 +25,7 @@ impl Model for Overlay {
 }
 
 impl Overlay {
-    /// An overlay of this many words, none of which differs.
+    /// Makes an overlay of this many words, none of which differs.
     pub fn new(alloc: Global, signals: u32) -> Result<Overlay, AllocError>
         ensures room { IfOk result (λ o. length o ≡ signals) }
         ensures clear { IfOk result (λ o. All (λ word. word ≡ 0) o) }
@@ -39,7 +39,7 @@ impl Overlay {
         })
     }
 
-    /// The words.
+    /// Returns the words.
     #[inline(always)]
     pub fn words(&self) -> &[u128]
         ensures { result.now ≡ self.now }
@@ -47,7 +47,7 @@ impl Overlay {
         self.words.as_slice()
     }
 
-    /// Lets a signal differ that did not.
+    /// Lets a signal differ that didn't.
     #[inline(always)]
     pub fn change(&mut self, signal: u32, word: u128)
         requires signal { signal < length self.old }
@@ -60,7 +60,7 @@ impl Overlay {
         self.count += 1;
     }
 
-    /// Lets no signal differ.
+    /// Clears the differences of all signals.
     #[inline(always)]
     pub fn clear(&mut self)
         ensures room { length self.new ≡ length self.old }
@@ -71,7 +71,7 @@ impl Overlay {
     }
 }
 
-/// Writes 0 at each of the listed places, which have all that is not 0.
+/// Writes 0 at each of the listed places. All other places are 0.
 #[inline(always)]
 fn erase(words: &mut [u128], listed: &[u32])
     requires within { All (λ s. s < length words.old) listed.now }

@@ -7,16 +7,15 @@ ghost use Rattle.event_queue.specs.Places.{ArePlaces, flag};
 use std::alloc::{AllocError, Global};
 use std::marker::Model;
 
-/// The places that are set: a bit for each, in words of 64, and a bit for each of these words that
-/// has any.
+/// The places that are set: a bit for each, in words of 64, and a bit for each word that isn't 0.
 ///
 /// ```text
 /// words        0: 0..01010   1: 0..0   2: 0..00001        places 1, 3 and 128 are set
 /// summary      0: 0..00101                                words 0 and 2 have some
 /// ```
 ///
-/// So the least is found in two steps, wherever it is among 4,096, and nothing is allocated while
-/// places come and go.
+/// So the least of 4,096 places is found in two steps, and nothing is allocated as places come and
+/// go.
 #[derive(Drop)]
 pub struct Places {
     words: Vec<u64>,
@@ -35,7 +34,7 @@ impl Model for Places {
 }
 
 impl Places {
-    /// A set with room for this many places and a few more, none of which is set.
+    /// Makes a set with room for this many places and a few more, none of which is set.
     pub fn new(alloc: Global, places: u32) -> Result<Places, AllocError>
         ensures room { IfOk result (λ p. places < length p) }
         ensures empty { IfOk result (λ p. All (λ flag. flag ≡ 0) p) }
@@ -58,8 +57,8 @@ impl Places {
         self.summary[word / 64] = marks | (1u64 << (word % 64) as u32);
     }
 
-    /// Takes the least place that is set; `None` where none is. It is looked for from a place on
-    /// below which none is set.
+    /// Takes the least place that is set; `None` if none is. The search starts from a place below
+    /// which none is set.
     #[inline(always)]
     pub fn take(&mut self, from: u32) -> Option<u32>
         requires within { from < length self.old }
@@ -92,7 +91,7 @@ impl Places {
         }
     }
 
-    /// Clears all places. They are looked for from a place on below which none is set.
+    /// Clears all places. The search starts from a place below which none is set.
     pub fn clear(&mut self, from: u32)
         requires within { from < length self.old }
         requires low { (place : ℕ) → slice_index_or self.old place 0 ≢ 0 → from ≤ place }
@@ -108,7 +107,7 @@ impl Places {
     }
 }
 
-/// The first word that has some, from one on before which none has.
+/// Returns the first word that isn't 0, from one before which all are 0.
 #[inline(always)]
 fn least_word(words: &[u64], summary: &[u64], from: usize) -> Option<usize>
     requires places { ArePlaces words.now summary.now }
@@ -127,7 +126,7 @@ fn least_word(words: &[u64], summary: &[u64], from: usize) -> Option<usize>
     }
 }
 
-/// The first word that is marked, of those whose marks stand from a word of the summary on.
+/// Returns the first marked word, of those whose marks are in the summary from this word on.
 #[inline(always)]
 fn first_marked(summary: &[u64], from: usize) -> Option<usize>
     requires few { 64 * length summary.now < 2 ^ 64 }

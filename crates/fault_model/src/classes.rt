@@ -42,14 +42,14 @@ impl Model for Classes {
 }
 
 impl Classes {
-    /// The number of classes.
+    /// Returns the number of classes.
     pub fn count(&self) -> u32
         ensures { result ≡ length self.now.representative }
     {
         self.representative.len() as u32
     }
 
-    /// The class of a fault, whose number is below that of the faults.
+    /// Returns the class of a fault, whose number is below the number of faults.
     pub fn class_of(&self, fault: u32) -> u32
         requires { fault < length self.now.class_of }
         ensures { slice_get self.now.class_of fault ≡ Some result }
@@ -57,7 +57,8 @@ impl Classes {
         self.class_of[fault as usize]
     }
 
-    /// The number of the fault that stands for a class, whose number is below [`Classes::count`].
+    /// Returns the number of the fault that represents a class, whose number is below
+    /// [`Classes::count`].
     pub fn representative(&self, class: u32) -> u32
         requires { class < length self.now.representative }
         ensures { slice_get self.now.representative class ≡ Some result }
@@ -66,11 +67,11 @@ impl Classes {
     }
 }
 
-/// The bit at which the output of a gate is stuck where a pin of it that is stuck at a bit fixes
-/// it: a controlling value fixes an AND, NAND, OR or NOR, and either value the one input of a NOT
-/// or BUFF. No value of one input fixes an XOR or XNOR. Of transition faults the rows of NOT and
-/// BUFF alone hold: of a gate with more inputs the bit of one of them under the test before doesn't
-/// follow from the output's.
+/// Returns the bit at which the output of a gate is stuck if a pin that is stuck at a bit fixes it.
+/// A controlling value fixes an AND, NAND, OR or NOR, and either value fixes the one input of a NOT
+/// or BUFF. No value of one input fixes an XOR or XNOR. For transition faults only the rows of NOT
+/// and BUFF hold: the output of a gate with more inputs doesn't determine the bit of one input
+/// under the test before.
 fn next_stuck(model: crate::Model, kind: Kind, stuck: bool) -> Option<bool>
     ensures { result ≡ next_stuck model kind stuck }
 {
@@ -87,7 +88,7 @@ fn next_stuck(model: crate::Model, kind: Kind, stuck: bool) -> Option<bool>
     }
 }
 
-/// The gate whose pin is the only one of these sinks.
+/// Returns the gate whose pin is the only one of these sinks.
 fn only_gate(sinks: &[Sink]) -> Option<u32>
     ensures { result ≡ only_gate sinks.now }
 {
@@ -97,7 +98,7 @@ fn only_gate(sinks: &[Sink]) -> Option<u32>
     }
 }
 
-/// The gate whose pin is all that reads a line, if the line has just this one reader.
+/// Returns the gate whose pin is the only sink of a line, if there is one.
 fn reading_gate(circuit: &Circuit, line: Line) -> Option<u32>
     requires { IsInCircuit circuit.now line }
     ensures { result ≡ only_gate (readers circuit.now line) }
@@ -109,8 +110,8 @@ fn reading_gate(circuit: &Circuit, line: Line) -> Option<u32>
     }
 }
 
-/// The kind of the gate that drives each signal, if a gate does. These few bytes stay in a cache,
-/// where the lines of a circuit don't.
+/// Returns the kind of the gate that drives each signal, if a gate does. These few bytes stay in a
+/// cache; the lines of a circuit don't.
 fn kinds_of(alloc: Global, circuit: &Circuit) -> Result<Vec<Option<Kind>>, AllocError>
     ensures { IfOk result (λ kinds.
         HaveKinds circuit.now (length (names circuit.now)) kinds.items) }
@@ -122,7 +123,7 @@ fn kinds_of(alloc: Global, circuit: &Circuit) -> Result<Vec<Option<Kind>>, Alloc
     Ok(kinds)
 }
 
-/// The kind of the gate that drives a signal, if a gate does.
+/// Returns the kind of the gate that drives a signal, if a gate does.
 fn kind_of(circuit: &Circuit, signal: u32) -> Option<Kind>
     requires { signal < length (names circuit.now) }
     ensures { result ≡ kind_of circuit.now signal }
@@ -133,9 +134,9 @@ fn kind_of(circuit: &Circuit, signal: u32) -> Option<Kind>
     }
 }
 
-/// The number of a fault's next fault, which no test tells apart from it, if it has one: where a
-/// gate's pin is all that reads the fault's line, the fault on the gate's stem that the table
-/// gives.
+/// Returns the number of a fault's next fault, which is equivalent to it, if it has one. If the
+/// only sink of the fault's line is a gate's pin, that is the fault on the gate's stem that the
+/// table gives.
 fn next_fault(circuit: &Circuit, kinds: &[Option<Kind>], list: &Faults, fault: u32) -> Option<u32>
     requires kinds { HaveKinds circuit.now (length (names circuit.now)) kinds.now }
     requires same { list.now.list ≡ faults list.now.model circuit.now }
@@ -149,7 +150,7 @@ fn next_fault(circuit: &Circuit, kinds: &[Option<Kind>], list: &Faults, fault: u
     Some(list.stem_fault(gate, stuck))
 }
 
-/// The number of each fault's next fault, if it has one.
+/// Returns the number of each fault's next fault, if it has one.
 fn next_faults(
     alloc: Global,
     circuit: &Circuit,
@@ -167,7 +168,7 @@ fn next_faults(
     Ok(nexts)
 }
 
-/// The number of a fault's next fault in the table of all.
+/// Returns the number of a fault's next fault in the table of all.
 fn next_in(circuit: &Circuit, list: &Faults, nexts: &[Option<u32>], fault: u32) -> Option<u32>
     requires same { list.now.list ≡ faults list.now.model circuit.now }
     requires nexts { HaveNexts list.now.model circuit.now (length list.now.list) nexts.now }
@@ -178,15 +179,15 @@ fn next_in(circuit: &Circuit, list: &Faults, nexts: &[Option<u32>], fault: u32) 
     nexts[fault as usize]
 }
 
-/// Two tables under way: the class of each fault, which is right where a fault has no next, and the
-/// representative of each class.
+/// Two unfinished tables: the class of each fault, which is right if the fault has no next fault,
+/// and the representative of each class.
 #[derive(Drop)]
 struct Ends {
     class_of: Vec<u32>,
     representative: Vec<u32>,
 }
 
-/// The classes of the faults that have no next, in the order of the list.
+/// Numbers the classes of the faults that have no next fault, in the order of the list.
 fn number_ends(
     alloc: Global,
     circuit: &Circuit,
@@ -216,7 +217,7 @@ fn number_ends(
     })
 }
 
-/// A fault's class is that of its next fault.
+/// Gives a fault the class of its next fault.
 fn follow(circuit: &Circuit, list: &Faults, nexts: &[Option<u32>], class_of: &mut [u32], fault: u32)
     requires same { list.now.list ≡ faults list.now.model circuit.now }
     requires nexts { HaveNexts list.now.model circuit.now (length list.now.list) nexts.now }
@@ -232,8 +233,8 @@ fn follow(circuit: &Circuit, list: &Faults, nexts: &[Option<u32>], class_of: &mu
     }
 }
 
-/// The classes of the faults on stems. Signals go from the highest level down, since a next fault
-/// is on the stem of a signal of a higher level.
+/// Sets the classes of the faults on stems. Signals go from the highest level down, because a next
+/// fault is on the stem of a signal of a higher level.
 fn follow_stems(circuit: &Circuit, list: &Faults, nexts: &[Option<u32>], class_of: &mut [u32])
     requires same { list.now.list ≡ faults list.now.model circuit.now }
     requires nexts { HaveNexts list.now.model circuit.now (length list.now.list) nexts.now }
@@ -263,7 +264,8 @@ fn follow_stems(circuit: &Circuit, list: &Faults, nexts: &[Option<u32>], class_o
     }
 }
 
-/// The classes of all faults, from those on stems, since a next fault is on a stem.
+/// Sets the classes of all faults from the classes of those on stems, because a next fault is on a
+/// stem.
 fn follow_all(circuit: &Circuit, list: &Faults, nexts: &[Option<u32>], class_of: &mut [u32])
     requires same { list.now.list ≡ faults list.now.model circuit.now }
     requires nexts { HaveNexts list.now.model circuit.now (length list.now.list) nexts.now }
@@ -278,7 +280,7 @@ fn follow_all(circuit: &Circuit, list: &Faults, nexts: &[Option<u32>], class_of:
     }
 }
 
-/// The classes of all faults, from those that have no next.
+/// Sets the classes of all faults from the classes of those that have no next fault.
 fn follow_chains(circuit: &Circuit, list: &Faults, nexts: &[Option<u32>], class_of: &mut [u32])
     requires same { list.now.list ≡ faults list.now.model circuit.now }
     requires nexts { HaveNexts list.now.model circuit.now (length list.now.list) nexts.now }
@@ -292,15 +294,16 @@ fn follow_chains(circuit: &Circuit, list: &Faults, nexts: &[Option<u32>], class_
     follow_all(circuit, list, nexts, class_of);
 }
 
-/// The classes of the faults of a circuit. A fault whose line is read by one gate pin alone goes
-/// with the fault on the gate's stem that no test tells apart from it, and so on along the gates.
-/// The end of this chain is the representative, and the faults with one representative are a class.
+/// Collapses the faults of a circuit into equivalence classes. If the only sink of a fault's line
+/// is a gate pin, the fault goes with the equivalent fault on the gate's stem, if there is one, and
+/// so on along the gates. The end of this chain is the representative. The faults with one
+/// representative are a class.
 ///
-/// The list is that of the circuit. Time and memory are linear in the number of sinks.
+/// The list belongs to the circuit. Time and memory are linear in the number of sinks.
 ///
 /// # Errors
 ///
-/// `AllocError` where there is no memory for the classes.
+/// `AllocError` if there is no memory for the classes.
 pub fn collapse(alloc: Global, circuit: &Circuit, list: &Faults) -> Result<Classes, AllocError>
     requires { list.now.list ≡ faults list.now.model circuit.now }
     ensures classes { IfOk result (λ classes. AreClassesOf list.now.model circuit.now classes) }

@@ -13,8 +13,8 @@ use std::alloc::{AllocError, Global};
 use std::marker::Model;
 
 /// The faults of a circuit, numbered from 0 in this order: for each signal its stem stuck at 0 and
-/// stuck at 1, and then, where two or more sinks read the signal, each branch stuck at 0 and stuck
-/// at 1. The branches go in the order of [`Circuit::sinks_of`].
+/// stuck at 1, and then, if two or more sinks read the signal, each branch stuck at 0 and stuck at
+/// 1. The branches are in the order of [`Circuit::sinks_of`].
 ///
 /// No call takes memory or more time than a look-up.
 #[derive(Drop)]
@@ -40,21 +40,21 @@ impl Model for Faults {
 }
 
 impl Faults {
-    /// The model of the faults.
+    /// Returns the model of the faults.
     pub fn model(&self) -> crate::Model
         ensures { result ≡ self.now.model }
     {
         self.model
     }
 
-    /// The number of faults.
+    /// Returns the number of faults.
     pub fn count(&self) -> u32
         ensures { result ≡ length self.now.list }
     {
         (2 * self.lines.len()) as u32
     }
 
-    /// The line of a fault, whose number is below [`Faults::count`].
+    /// Returns the line of a fault, whose number is below [`Faults::count`].
     pub fn line_of(&self, fault: u32) -> Line
         requires { fault < length self.now.list }
         ensures { IfSome (slice_get self.now.list fault) (λ f. result ≡ f.line) }
@@ -62,20 +62,20 @@ impl Faults {
         self.lines[(fault / 2) as usize]
     }
 
-    /// Whether a fault, whose number is below [`Faults::count`], is stuck at 1, or slow to fall:
-    /// the second of its line.
+    /// Returns whether a fault, whose number is below [`Faults::count`], is stuck at 1, or slow to
+    /// fall: the second of its line.
     pub fn stuck_of(&self, fault: u32) -> bool
         requires { fault < length self.now.list }
         ensures { IfSome (slice_get self.now.list fault) (λ f. result ≡ f.stuck) }
     {
-        // The fault of bit 0 goes first. The number alone decides; the borrow lets the proof see of
-        // which lines the list is made.
+        // The fault of bit 0 comes first. Only the number decides; the borrow shows the proof the
+        // lines of the list.
         let _lines = &self.lines;
         fault % 2 == 1
     }
 
     /// Returns the number of a fault on the stem of `signal`, which counts from 0 and is below the
-    /// number of the circuit's signals: `stuck` is its bit, as [`Faults::stuck_of`] tells it.
+    /// number of the circuit's signals. Its bit is `stuck`, as [`Faults::stuck_of`] returns it.
     pub fn stem_fault(&self, signal: u32, stuck: bool) -> u32
         requires { IsSignalOf self.now signal }
         ensures { slice_get self.now.list result ≡ Some
@@ -86,23 +86,24 @@ impl Faults {
     }
 }
 
-/// The stuck-at faults of a circuit: [`list_faults_in`] with [`crate::Model::StuckAt`].
+/// Lists the stuck-at faults of a circuit: [`list_faults_in`] with [`crate::Model::StuckAt`].
 ///
 /// # Errors
 ///
-/// `AllocError` where there is no memory for the list.
+/// `AllocError` if there is no memory for the list.
 pub fn list_faults(alloc: Global, circuit: &Circuit) -> Result<Faults, AllocError>
     ensures { IfOk result (λ list. list ≡ fault_list model.StuckAt circuit.now) }
 {
     list_faults_in(alloc, circuit, crate::Model::StuckAt)
 }
 
-/// The faults of a circuit under a model: signals in their order, of each the stem and then its
-/// branches in the order of the sinks, and of each line the fault of bit 0 and then that of bit 1.
+/// Lists the faults of a circuit under a model: signals in their order, for each its stem and then
+/// its branches in the order of the sinks, and for each line the fault of bit 0 and then that of
+/// bit 1.
 ///
 /// # Errors
 ///
-/// `AllocError` where there is no memory for the list.
+/// `AllocError` if there is no memory for the list.
 pub fn list_faults_in(
     alloc: Global,
     circuit: &Circuit,
@@ -124,7 +125,7 @@ pub fn list_faults_in(
     })
 }
 
-/// The branches of a stem that these sinks read: none where there is one sink or no sink.
+/// Adds the branches of a stem with these sinks: none if there is at most one sink.
 fn push_branches(lines: &mut Vec<Line>, sinks: &[Sink]) -> Result<(), AllocError>
     ensures { OnOk result (lines.new.items ≡ lines.old.items
         ++ map branch (if nat_le 2 (length sinks.now) then sinks.now else [])) }
@@ -138,7 +139,7 @@ fn push_branches(lines: &mut Vec<Line>, sinks: &[Sink]) -> Result<(), AllocError
     Ok(())
 }
 
-/// The branch that a sink reads.
+/// Returns the branch that a sink reads.
 fn branch(sink: Sink) -> Line
     ensures { result ≡ branch sink }
 {

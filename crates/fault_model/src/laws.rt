@@ -1,4 +1,4 @@
-//! Laws of the fault model, on every circuit: what crates that simulate faults stand on.
+//! Laws of the fault model, on every circuit: crates that simulate faults rely on them.
 //!
 //! A law is a function without a body. Its clause is the law, and a proof names the function to use
 //! it.
@@ -22,15 +22,15 @@ ghost use Rattle.fault_model.specs.Reordered.{IsDetectedSameAt, IsOrderedBy, IsS
 ghost use Rattle.fault_model.specs.Laws.{HavePairsClassOfTransitions};
 ghost use Rattle.fault_model.specs.Laws.{HavePairsClassesOfTransitions};
 
-/// A circuit without cycles has exactly one solution under each test, without a fault and under
-/// each single stuck-at fault.
+/// States that a circuit without cycles has exactly one solution under each test, without a fault
+/// and with each single stuck-at fault.
 pub fn solutions()
     ensures exist { (c : List Statement) → IsWellFormed c → HasSolutions c }
     ensures are_one { (c : List Statement) → IsWellFormed c → HasOneSolution c }
 {}
 
-/// The list has both faults on the stem of each signal: [`crate::Faults::stem_fault`] gives their
-/// numbers.
+/// States that the list has both faults on the stem of each signal: [`crate::Faults::stem_fault`]
+/// returns their numbers.
 pub fn stems()
     ensures { (m : Model) (c : List Statement) (signal : ℕ) (stuck : Bool)
         → signal < length (names c)
@@ -38,15 +38,16 @@ pub fn stems()
         { model = m; line = line.Stem signal; stuck = stuck }) }
 {}
 
-/// Collapsing ends: each fault of the list has exactly one representative, and so a class.
+/// States that collapsing ends: each fault of the list has exactly one representative, and so a
+/// class.
 pub fn collapsing()
     ensures representatives { (c : List Statement) → IsWellFormed c → HasRepresentatives c }
     ensures classes { (c : List Statement) → IsWellFormed c → HasClasses c }
 {}
 
-/// Equivalent faults: two faults of one class show the same bits to every observer under every
-/// test, and so the same tests detect them (Bushnell and Agrawal, Essentials of Electronic Testing,
-/// on fault equivalence).
+/// States that faults of one class are equivalent: they show the same bits to every observer under
+/// every test, so the same tests detect them (Bushnell and Agrawal, Essentials of Electronic
+/// Testing, on fault equivalence).
 pub fn equivalence()
     ensures show_same { (c : List Statement) → IsWellFormed c → HaveArities c → ClassesShowSame c }
     ensures detected_by_same { (c : List Statement) → IsWellFormed c → HaveArities c
@@ -59,16 +60,16 @@ pub fn equivalence()
         → RepresentativesDetectSame c }
 {}
 
-/// A simulator may take whichever solutions it finds: these decide detection.
+/// States that any solutions decide detection, so a simulator may use the ones that it finds.
 pub fn detection()
     ensures { (c : List Statement) → IsWellFormed c → DetectionIsOfAnySolution c }
 {}
 
-/// A circuit whose statements stand in another order has the same signals by other numbers: the
-/// same valuations solve it, and the same tests detect a fault on the line that its line moves to.
-/// So a simulator may number signals as it likes. In an order in which the numbers of sources ascend
-/// a signal's number is its place in the order. The level order is one of these, and a circuit has
-/// one level order.
+/// States that a circuit whose statements stand in another order has the same signals by other
+/// numbers. The same valuations solve it, and the same tests detect a fault on the line that its
+/// line moves to. So a simulator may number signals in its own way. If the numbers of sources
+/// ascend in an order, a signal's number is its place in the order. The level order is one of
+/// these, and a circuit has one level order.
 pub fn reordering()
     ensures circuit { (c d : List Statement) → IsReordered c d → IsCircuit c → IsCircuit d }
     ensures signals { (c d : List Statement) → IsWellFormed c → IsReordered c d
@@ -91,8 +92,8 @@ pub fn reordering()
         → IsLevelOrder c order → IsLevelOrder c other → order ≡ other }
 {}
 
-/// Launch and capture pairs have the classes of transition faults under tests in a row: the same
-/// lines and bits are of one class, and the classes have the same numbers.
+/// States that launch/capture pairs have the classes of transition faults under tests in a row: the
+/// same lines and bits are in one class, and the classes have the same numbers.
 pub fn pairs()
     ensures class { (c : List Statement) → HavePairsClassOfTransitions c }
     ensures classes { (c : List Statement) → HavePairsClassesOfTransitions c }

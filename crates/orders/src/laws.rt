@@ -1,11 +1,11 @@
-//! Laws of the definitions that the contracts cite, each a function that does nothing and whose
+//! Laws of the definitions that the contracts cite. Each is a function that does nothing, and its
 //! contract is the law.
 
 ghost use Rattle.std.specs.Prelude.{◌≡◌, ◌⊎◌, ℕ, ◌<◌, ◌≤◌, List, length, All};
 ghost use Rattle.orders.specs.Order.{HasMoves, IsOrderRefusal, max_moves};
 ghost use Rattle.orders.specs.declared.OrderFault.{OrderFault};
 
-/// An order text has its moves or is refused, never both, and has one list of moves or one fault.
+/// States that an order file has either one list of moves or one error.
 pub fn one_answer_of_order()
     ensures some { (text : List ℕ) (workers : ℕ)
         → ((moves : List ℕ) × HasMoves text workers moves)
@@ -18,7 +18,7 @@ pub fn one_answer_of_order()
         → IsOrderRefusal text workers f → IsOrderRefusal text workers g → f ≡ g }
 {}
 
-/// The moves of an order name workers and are within the limit.
+/// States that the moves of an order name workers and are within the limit.
 pub fn accepted_in_range()
     ensures workers { (text : List ℕ) (workers : ℕ) (moves : List ℕ)
         → HasMoves text workers moves → All (λ worker. worker < workers) moves }

@@ -1,8 +1,8 @@
 //! Orders: the moves of a schedule, and their reader.
 //!
-//! An order is a list of worker numbers. A schedule lets one worker after another move, and an
-//! order says which. It is read from a text with a row for each move, as `text_lines` cuts texts
-//! into rows. So the rows `0`, `1` and `0` let worker 0 move, then worker 1, then worker 0 again.
+//! An order is a list of worker numbers. By it a schedule lets one worker after another move. An
+//! order file has a row for each move, as `text_lines` cuts files into rows. For example, the rows
+//! `0`, `1` and `0` let worker 0 move, then worker 1, then worker 0 again.
 #![tactic(auto)]
 
 pub mod laws;
@@ -15,7 +15,7 @@ use thiserror::Error;
 /// The greatest number of moves of an order.
 pub const MAX_MOVES: usize = 1_000_000;
 
-/// Why a text is no order.
+/// An error of an order file.
 #[derive(Clone, Copy, Debug, PartialEq, Eq, Error)]
 pub enum OrderFault {
     /// The row at this line, counted from 1, is not a number of 1 to 9 decimal digits.

@@ -11,15 +11,14 @@ use text_lines::{Row, Rows};
 /// The greatest number of digits of a worker number.
 const MAX_DIGITS: usize = 9;
 
-/// Reads an order text: a row for each move, with the number of the worker that moves, from 0.
+/// Reads an order file: a row for each move, with the number of the worker that moves, from 0.
 ///
 /// # Errors
 ///
-/// The first row at fault decides. A row past [`MAX_MOVES`] is [`OrderFault::TooMany`] whatever
-/// its bytes; a row that is not 1 to 9 decimal digits, of which the first may be 0, is
-/// [`OrderFault::BadNumber`]; a number that is not below `workers` is
-/// [`OrderFault::NoSuchWorker`]. [`OrderFault::Memory`] may come in place of any answer, where
-/// memory ran out.
+/// The first row with an error decides. A row past [`MAX_MOVES`] is [`OrderFault::TooMany`]
+/// whatever its bytes. A row that is not 1 to 9 decimal digits, of which the first may be 0, is
+/// [`OrderFault::BadNumber`]. A number that is not below `workers` is [`OrderFault::NoSuchWorker`].
+/// [`OrderFault::Memory`] may come instead of any result, if memory ran out.
 pub fn read_order(alloc: Global, text: &[u8], workers: u32) -> Result<Vec<u32>, OrderFault>
     ensures moves { IfOk result (λ moves. HasMoves text.now workers moves.items) }
     ensures refused { IfErr result (λ fault.
@@ -33,7 +32,7 @@ pub fn read_order(alloc: Global, text: &[u8], workers: u32) -> Result<Vec<u32>, 
     Ok(moves)
 }
 
-/// The worker that a row names, given with the row's place among the rows.
+/// Returns the worker that a row names, given with the row's place among the rows.
 fn worker_of(place: usize, row: Row<'_>, workers: u32) -> Result<u32, OrderFault>
     ensures accepted { IfOk result (λ worker.
         (order_fault workers (place, row_of row.entry) ≡ None)
@@ -52,8 +51,7 @@ fn worker_of(place: usize, row: Row<'_>, workers: u32) -> Result<u32, OrderFault
     }
 }
 
-/// The number that at most 9 decimal digits stand for; none where there is another byte or a tenth
-/// digit.
+/// Returns the number of at most 9 decimal digits; none if there is another byte or a tenth digit.
 fn number(bytes: &[u8]) -> Option<u32>
     ensures { result ≡ (if is_number bytes.now then Some (number bytes.now) else None) }
 {

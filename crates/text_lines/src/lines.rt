@@ -1,4 +1,4 @@
-//! A line of a text, and what it holds.
+//! A line of a file, and its contents.
 
 ghost use Rattle.std.specs.Prelude.{◌≡◌, ◌==◌};
 ghost use Rattle.std.specs.List.{before_first, after_first};
@@ -6,7 +6,7 @@ ghost use Rattle.std.specs.Str.Lines.{strip_carriage_return};
 ghost use Rattle.text_lines.specs.Lines.{is_blank};
 ghost use Rattle.text_lines.specs.Rows.{content, without_front, without_back};
 
-/// Whether the byte is a space or a tab.
+/// Returns whether the byte is a space or a tab.
 #[inline]
 pub fn is_blank(byte: u8) -> bool
     ensures { result ≡ is_blank byte }
@@ -14,8 +14,8 @@ pub fn is_blank(byte: u8) -> bool
     byte == b' ' || byte == b'\t'
 }
 
-/// The bytes before the first `separator` and those after it; all of them and none where there is
-/// no separator.
+/// Splits bytes at the first `separator`: the bytes before it and the bytes after it; all of them
+/// and none if there is no separator.
 pub(crate) fn split_once(bytes: &[u8], separator: u8) -> (&[u8], &[u8])
     ensures before { result.0.now ≡ before_first (λ b. b == separator) bytes.now }
     ensures after { result.1.now ≡ after_first (λ b. b == separator) bytes.now }
@@ -26,7 +26,7 @@ pub(crate) fn split_once(bytes: &[u8], separator: u8) -> (&[u8], &[u8])
     }
 }
 
-/// What a line holds, given with the carriage return of its end if it has one.
+/// Returns the contents of a line, given with the carriage return of its end if it has one.
 pub(crate) fn content(line: &[u8]) -> &[u8]
     ensures { result.now ≡ content (strip_carriage_return line.now) }
 {
@@ -34,7 +34,7 @@ pub(crate) fn content(line: &[u8]) -> &[u8]
     without_back(without_front(before_comment))
 }
 
-/// A line without the carriage return that may end it.
+/// Returns a line without the carriage return that may end it.
 pub fn without_carriage_return(line: &[u8]) -> &[u8]
     ensures { result.now ≡ strip_carriage_return line.now }
 {
@@ -44,7 +44,7 @@ pub fn without_carriage_return(line: &[u8]) -> &[u8]
     }
 }
 
-/// The bytes without the blanks at their front.
+/// Returns the bytes without the blanks at their front.
 fn without_front(bytes: &[u8]) -> &[u8]
     ensures { result.now ≡ without_front bytes.now }
 {
@@ -55,7 +55,7 @@ fn without_front(bytes: &[u8]) -> &[u8]
     bytes
 }
 
-/// The bytes without the blanks at their back.
+/// Returns the bytes without the blanks at their back.
 fn without_back(bytes: &[u8]) -> &[u8]
     ensures { result.now ≡ without_back bytes.now }
 {

@@ -1,4 +1,4 @@
-//! The rows of a text, one after another from its top.
+//! The rows of a file, one after another from its top.
 
 ghost use Rattle.std.specs.Prelude.{◌≡◌, ◌+◌, ◌^◌, ◌<◌, true, length, take, slice_index};
 ghost use Rattle.std.specs.List.{list_all, before_first, after_first};
@@ -8,23 +8,23 @@ ghost use Rattle.text_lines.specs.Rows.{content, is_bit};
 
 use crate::lines::{content, split_once};
 
-/// A row: a line that holds something.
+/// A row: a line with contents.
 #[derive(Clone, Copy)]
 pub struct Row<'a> {
     /// The number of its line, counted from 1.
     pub line: u64,
-    /// What the line holds: its bytes before a comment, without the blanks at their ends.
+    /// The contents of the line: its bytes before a comment, without the blanks at their ends.
     pub bytes: &'a [u8],
 }
 
-/// The rows of a text, from the top.
+/// The rows of a file, from the top.
 #[derive(Drop)]
 pub struct Rows<'a> {
-    /// The text from the next line on.
+    /// The bytes from the next line on.
     text: &'a [u8],
     /// The number of that line, counted from 1.
     line: u64,
-    /// How many bytes a row is likely to have. It changes nothing but the time.
+    /// The number of bytes that a row is likely to have. It only affects the time.
     likely: usize,
     /// Each line has at least its end or a byte, so the numbers of all lines fit.
     ghost numbered: { line + length text.now < 2 ^ 64 },
@@ -34,7 +34,7 @@ impl<'a> Rows<'a> {
     ghost use Rattle.text_lines.specs.Rows.{rows};
     ghost use Rattle.text_lines.specs.Reading.{rows_left};
 
-    /// The rows of a text, of which most are likely to have so many bytes.
+    /// Returns the rows of a file, most of which are likely to have this number of bytes.
     pub fn new(text: &'a [u8], likely: usize) -> Self
         ensures { rows_left result ≡ rows text.now }
     {
@@ -70,8 +70,8 @@ impl<'a> Iterator for Rows<'a> {
     }
 }
 
-/// What the first line of a text holds, and the text behind that line. A line of just so many
-/// digits `0` and `1` as are likely is told by them, without a search for its end.
+/// Returns the contents of the first line, and the bytes after that line. A line of exactly the
+/// likely number of digits `0` and `1` is recognized by them, without a search for its end.
 fn first_line(text: &[u8], likely: usize) -> (&[u8], &[u8])
     ensures held { result.0.now
         ≡ content (strip_carriage_return (before_first ends_line text.now)) }
@@ -84,7 +84,7 @@ fn first_line(text: &[u8], likely: usize) -> (&[u8], &[u8])
     (content(first), rest)
 }
 
-/// Whether a text begins with so many digits `0` and `1`, and then a line feed.
+/// Returns whether a file begins with this number of digits `0` and `1`, and then a line feed.
 fn begins_with_bits(text: &[u8], count: usize) -> bool
     ensures { result ≡ true → (count < length text.now) × (slice_index text.now count ≡ 10)
         × (list_all is_bit (take count text.now) ≡ true) }
@@ -95,8 +95,8 @@ fn begins_with_bits(text: &[u8], count: usize) -> bool
     }
 }
 
-/// Whether each byte is `0` or `1`. It looks at all of them, so that a processor may take many at
-/// a time.
+/// Returns whether each byte is `0` or `1`. It checks all of them, so that a processor may take
+/// many at a time.
 pub fn are_bits(bytes: &[u8]) -> bool
     ensures { result ≡ list_all is_bit bytes.now }
 {
