@@ -1,4 +1,4 @@
-//! How many tests detect a class.
+//! Counts of the tests that detect a class.
 
 ghost use Rattle.std.specs.Prelude.{◌<◌, ◌≤◌, length};
 ghost use Rattle.fault_model.specs.Collapse.{IsClassOf};
@@ -8,7 +8,7 @@ ghost use Rattle.detections.specs.Detections.{IsClassCount, IsCount};
 
 use block_sim::{Job, Workspace, detecting};
 
-/// How many tests detect a class. Counting ends at `most`.
+/// Counts the tests that detect a class. The count ends at `most`.
 pub(crate) fn count_class(job: &Job, workspace: &mut Workspace, class: u32, most: u32) -> u32
     requires class { class < length job.now.classes.representative }
     requires fits { HasRoom workspace.old job.now }
@@ -26,8 +26,8 @@ pub(crate) fn count_class(job: &Job, workspace: &mut Workspace, class: u32, most
     count
 }
 
-/// How many tests detect the faults of a class. No more than `most` are counted, so that a class
-/// with `most` may be detected by more. It takes no memory and no thread.
+/// Counts the tests that detect the faults of a class. The count ends at `most`, so more tests may
+/// detect a class with `most`. It takes no memory and no thread.
 pub fn class_detections(job: &Job, workspace: &mut Workspace, class: u32, most: u32) -> u32
     requires class { class < length job.now.classes.representative }
     requires fits { HasRoom workspace.old job.now }

@@ -1,4 +1,4 @@
-//! How many tests detect each fault.
+//! Counts of the tests that detect each fault.
 
 ghost use Rattle.std.specs.Prelude.{◌≡◌, ◌<◌, ◌≤◌, ℕ, IfOk, Some, length, slice_get};
 ghost use Rattle.detections.specs.Detections.{AreCounts, IsClassCount};
@@ -12,15 +12,15 @@ use std::alloc::{AllocError, Global};
 use std::sync::Wait;
 use std::thread::Threads;
 
-/// For each fault of the job's list, before collapsing, the number of tests that detect it. No more
-/// than `most` are counted of a fault, so that a fault with `most` may be detected by more.
+/// Counts, for each fault of the job's uncollapsed list, the tests that detect it. The count ends
+/// at `most`, so more tests may detect a fault with `most`.
 ///
-/// A transition fault is counted at the second test of each pair that detects it. The classes are
-/// shared out among as many workers, each in a thread of its own; the counts are the same for
-/// every number. It takes two numbers for each fault, and for each worker a workspace.
+/// A transition fault is counted at the capture test of each pair that detects it. The workers
+/// share the classes, each in a thread of its own; the counts are the same for every number of
+/// workers. It takes two numbers for each fault, and for each worker a workspace.
 ///
-/// It is refused where memory or the start of a thread was refused; the threads that were started
-/// are joined first.
+/// It fails if memory runs out or a thread doesn't start; the threads that were started are joined
+/// first.
 pub fn detections<R: Threads + Wait>(
     rt: &R,
     alloc: Global,
@@ -37,7 +37,7 @@ pub fn detections<R: Threads + Wait>(
     Ok(by_fault(alloc, job, most, workers, counted.as_slice())?)
 }
 
-/// A share for each worker.
+/// Makes a share for each worker.
 fn shares_of(alloc: Global, job: &Job, workers: u32) -> Result<Vec<Share>, AllocError>
     requires { 0 < workers }
     ensures { IfOk result (λ shares. AreShares job.now workers shares.items) }
@@ -49,7 +49,7 @@ fn shares_of(alloc: Global, job: &Job, workers: u32) -> Result<Vec<Share>, Alloc
     Ok(shares)
 }
 
-/// The count of each fault, which is that of its class.
+/// Returns the count of each fault, which is the count of its class.
 fn by_fault(
     alloc: Global,
     job: &Job,
@@ -71,7 +71,7 @@ fn by_fault(
     Ok(counts)
 }
 
-/// The count of a class.
+/// Returns the count of a class.
 fn count_in(job: &Job, most: u32, workers: u32, shares: &[Share], class: u32) -> u32
     requires workers { 0 < workers }
     requires class { class < length job.now.classes.representative }

@@ -1,8 +1,9 @@
 //! How many tests of a list detect each fault.
 //!
-//! A test set that detects each fault several times also finds more of the defects that no fault
+//! A test set that detects each fault several times also detects more of the defects that no fault
 //! model has (n-detect test sets: Ma, Franco and McCluskey, An Experimental Chip to Evaluate Test
-//! Techniques). [`detections`] counts, in threads, and [`class_detections`] counts for one class.
+//! Techniques). [`detections`] counts for all faults, in threads, and [`class_detections`] for one
+//! class.
 #![tactic(auto)]
 
 mod class;
@@ -15,13 +16,13 @@ pub use faults::detections;
 use std::alloc::{AllocError, AllocFailed};
 use thiserror::Error;
 
-/// Why the tests that detect faults were not counted.
+/// An error of counting.
 #[derive(Clone, Copy, Debug, PartialEq, Eq, Error)]
 pub enum CountFault {
-    /// Memory was refused.
+    /// Memory ran out.
     #[error("out of memory")]
     Memory,
-    /// The start of a thread was refused.
+    /// A thread didn't start.
     #[error("thread refused")]
     Threads,
 }

@@ -1,4 +1,4 @@
-//! The classes that one thread counts for.
+//! The classes of one thread.
 
 ghost use Rattle.std.specs.Prelude.{◌≡◌, ◌<◌, IfOk};
 ghost use Rattle.block_sim.specs.Parts.{HasRoom};
@@ -8,7 +8,7 @@ use crate::class::count_class;
 use block_sim::{Job, Workspace};
 use std::alloc::{AllocError, Global};
 
-/// The classes of one thread: from the first on every so many-th, with the count of each.
+/// The classes of one thread: from the first on each n-th, for n threads, with their counts.
 #[derive(Drop)]
 pub(crate) struct Share {
     pub(crate) first: u32,
@@ -17,7 +17,7 @@ pub(crate) struct Share {
 }
 
 impl Share {
-    /// A share of as many as `shares`, which has counted nothing.
+    /// Makes one of `shares` shares, without counts.
     pub(crate) fn new(
         alloc: Global,
         job: &Job,

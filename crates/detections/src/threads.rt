@@ -12,7 +12,7 @@ use std::sync::Wait;
 use std::thread;
 use std::thread::{Promise, Threads};
 
-/// What the thread of a share borrows: it gives the share back with its counts.
+/// The data that the thread of a share borrows: it returns the share with its counts.
 #[derive(Drop)]
 struct Counter {
     job: Snapshot<Job>,
@@ -27,7 +27,7 @@ impl Promise<Share> for Counter {
     ghost kept_by = { λ p r. HasCounted p.job.value p.most p.first p.shares r.counts.items };
 }
 
-/// The work of one thread.
+/// Does the work of one thread.
 fn serve(job: &Job, most: u32, shares: u32, share: Share) -> Share
     requires { IsShareFor job.now share.first shares share }
     ensures { HasCounted job.now most share.first shares result.counts.items }
@@ -37,7 +37,7 @@ fn serve(job: &Job, most: u32, shares: u32, share: Share) -> Share
     share
 }
 
-/// Counts for the classes of all shares, each in a thread of its own, and gives the shares back.
+/// Counts for the classes of all shares, each in a thread of its own, and returns the shares.
 pub(crate) fn count_shares<R: Threads + Wait>(
     rt: &R,
     alloc: Global,

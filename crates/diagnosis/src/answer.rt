@@ -1,4 +1,4 @@
-//! What is found of a bench text and a test text together.
+//! The result of checking a bench file and a test file together.
 
 ghost use Rattle.std.specs.Prelude.{IfOk, option_map};
 ghost use Rattle.bench_net.specs.Circuit.{IsCircuit};
@@ -14,21 +14,21 @@ use findings::{Findings, Warning, circuit_warnings, pair_warnings, test_warnings
 use patterns::Tests;
 use std::alloc::{AllocError, Global};
 
-/// What is found of the texts of a run.
+/// The result of checking the files of a run.
 #[derive(Drop)]
 pub enum Answer<'a> {
-    /// They are accepted. The text is a table of what they have, and warnings.
+    /// They are accepted. The text is a table of their sizes, and warnings.
     Accepted(String),
-    /// The bench text is refused.
+    /// The bench file has errors.
     BenchRefused(Findings<'a>),
-    /// The test text is refused.
+    /// The test file has errors.
     TestsRefused(Findings<'a>),
     /// Classes times blocks are more than `patterns::MAX_PIECES`.
     TooManyPieces(Excess),
 }
 
-/// Checks a bench text, and tests for it where there are any: what both have and a run of them
-/// takes, under a fault model, or all faults of the first that is refused.
+/// Checks a bench file, and tests for it if there are any. Returns their sizes and the size of a
+/// run under a fault model, or all errors of the first file that has one.
 pub fn check_texts<'a>(
     alloc: Global,
     model: Model,
@@ -44,7 +44,7 @@ pub fn check_texts<'a>(
     }
 }
 
-/// The answer for a circuit.
+/// Returns the answer for a circuit.
 fn answer_for<'a>(
     alloc: Global,
     model: Model,
@@ -66,7 +66,7 @@ fn answer_for<'a>(
     }
 }
 
-/// The answer for a circuit and the text of tests.
+/// Returns the answer for a circuit and the bytes of a test file.
 fn answer_for_text<'a>(
     alloc: Global,
     model: Model,
@@ -82,7 +82,7 @@ fn answer_for_text<'a>(
     }
 }
 
-/// The answer for a circuit and tests for it.
+/// Returns the answer for a circuit and tests for it.
 fn answer_for_tests<'a>(
     alloc: Global,
     model: Model,
@@ -103,7 +103,7 @@ fn answer_for_tests<'a>(
     }
 }
 
-/// A table with a line for each warning of a circuit and of tests for it.
+/// Returns a table with a line for each warning of a circuit and of tests for it.
 fn with_warnings(
     alloc: Global,
     model: Model,

@@ -1,4 +1,4 @@
-//! What a bench text is found to be.
+//! The result of checking a bench file.
 
 ghost use Rattle.std.specs.Prelude.{◌≡◌, IfOk};
 ghost use Rattle.diagnosis.specs.Checks.{IsBenchCheckOf};
@@ -8,17 +8,17 @@ use bench_net::{BenchFault, Circuit, read_bench};
 use findings::{Fault, Findings, find_in_bench};
 use std::alloc::{AllocError, Global};
 
-/// What a bench text is found to be.
+/// The result of checking a bench file.
 #[derive(Drop)]
 pub enum BenchCheck<'a> {
     /// It is accepted, with this circuit.
     Accepted(Circuit),
-    /// It is refused.
+    /// It has errors.
     Refused(Findings<'a>),
 }
 
-/// Reads a bench text, and looks for all its faults where it is refused. The first of these is the
-/// one that `bench_net::read_bench` refuses it for.
+/// Reads a bench file, and finds all its errors if there is one. The first of them is the error of
+/// `bench_net::read_bench`.
 pub fn check_bench<'a>(alloc: Global, text: &'a [u8]) -> Result<BenchCheck<'a>, AllocError>
     ensures { IfOk result (IsBenchCheckOf text.now) }
 {
@@ -29,7 +29,7 @@ pub fn check_bench<'a>(alloc: Global, text: &'a [u8]) -> Result<BenchCheck<'a>, 
     }
 }
 
-/// The faults of a bench text that is refused by this one.
+/// Returns the errors of a bench file whose first error is this one.
 fn bench_findings<'a>(
     alloc: Global,
     text: &'a [u8],

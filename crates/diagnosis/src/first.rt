@@ -1,10 +1,10 @@
-//! The refusal of a text as the first of its faults.
+//! The error of the reader as the first error of a file.
 
 ghost use Rattle.std.specs.Prelude.{◌≡◌};
 
 use findings::{Fault, Finding, Findings, Found, Note, Place};
 
-/// The faults of a text that is refused by this one, which is to be the first that was found.
+/// Returns the errors of a file with this error first.
 pub(crate) fn findings_of<'a>(found: Found<'a>, fault: Fault) -> Findings<'a>
     ensures { result.first.fault ≡ fault }
 {
@@ -20,7 +20,7 @@ pub(crate) fn findings_of<'a>(found: Found<'a>, fault: Fault) -> Findings<'a>
     }
 }
 
-/// The finding of a refusal: what was found first, where that is the refusal.
+/// Returns the finding of the reader's error: the first one, if it is that error.
 fn first_of<'a>(first: Option<Finding<'a>>, fault: Fault) -> Finding<'a>
     ensures { result.fault ≡ fault }
 {

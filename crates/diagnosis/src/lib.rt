@@ -1,9 +1,9 @@
-//! What an engineer wants to know of texts before a run: all faults of a text that is refused, with
-//! their places and what may have been meant, and what a circuit and its tests have.
+//! Checks of files before a run: all errors of a file, with their places and suggestions, and the
+//! sizes of a circuit and its tests.
 //!
-//! [`check_texts`] answers all of it. Whether a text is accepted, and which of its faults is the
-//! first, is what `bench_net` and `patterns` say; the rest is a second look at its lines, by the
-//! crate `findings`.
+//! [`check_texts`] does all of it. `bench_net` and `patterns` decide whether a file is accepted,
+//! and which of its errors is the first. The rest is a second look at its lines, by the crate
+//! `findings`.
 #![tactic(auto)]
 
 mod answer;

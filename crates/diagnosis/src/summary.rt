@@ -1,4 +1,4 @@
-//! What a circuit and its tests have, and what a run of them takes.
+//! The sizes of a circuit and its tests, and of a run.
 
 ghost use Rattle.std.specs.Prelude.{◌≡◌, ◌<◌, ◌≤◌, ◌*◌, IfNone, IfOk, IfSome};
 ghost use Rattle.patterns.specs.Tests.{max_pieces};
@@ -25,7 +25,7 @@ static KINDS: [(Kind, &str); 8] = [
     (Kind::Buff, "BUFF"),
 ];
 
-/// How much a circuit has of what.
+/// The sizes of a circuit.
 #[derive(Clone, Copy, Debug, PartialEq, Eq)]
 pub struct Counts {
     pub model: Model,
@@ -46,7 +46,7 @@ pub struct Counts {
     pub classes: u32,
 }
 
-/// Counts what a circuit has.
+/// Counts the parts of a circuit.
 pub fn count_circuit(alloc: Global, model: Model, circuit: &Circuit) -> Result<Counts, AllocError>
     ensures { IfOk result (AreCountsOf model circuit.now) }
 {
@@ -67,12 +67,12 @@ pub fn count_circuit(alloc: Global, model: Model, circuit: &Circuit) -> Result<C
     })
 }
 
-/// The place of a kind among [`KINDS`].
+/// Returns the place of a kind among [`KINDS`].
 fn place_of(kind: Kind) -> usize {
     KINDS.iter().position(|known| known.0 == kind).unwrap_or(0)
 }
 
-/// The number of gates of each kind, and the number of their pins.
+/// Returns the number of gates of each kind, and the number of their pins.
 fn count_gates(circuit: &Circuit) -> ([u64; 8], u64) {
     let mut gates = [0; 8];
     let mut pins: u64 = 0;
@@ -89,7 +89,7 @@ fn count_gates(circuit: &Circuit) -> ([u64; 8], u64) {
 }
 
 impl Counts {
-    /// All gates.
+    /// Returns the number of all gates.
     fn all_gates(&self) -> u64 {
         let mut all: u64 = 0;
         for count in &self.gates {
@@ -98,19 +98,19 @@ impl Counts {
         all
     }
 
-    /// What reads signals: gate pins, data pins of flip-flops and OUTPUT lines.
+    /// Returns the number of sinks: gate pins, data pins of flip-flops and OUTPUT lines.
     fn sinks(&self) -> u64 {
         let ports = self.cells.saturating_add(self.outputs) as u64;
         self.pins.saturating_add(ports)
     }
 
-    /// How many tests one run takes at most: 64 times 16,777,216 div classes, and 65,536.
+    /// Returns the most tests of one run: 64 times 16,777,216 div classes, and 65,536 at most.
     pub(crate) fn tests_a_run(&self) -> u32 {
         let blocks = MAX_PIECES / self.classes.max(1);
         blocks.saturating_mul(BLOCK_SIZE).min(MAX_TESTS)
     }
 
-    /// In how many parts at least a run of so many blocks goes.
+    /// Returns the least number of parts for a run of this number of blocks.
     pub(crate) fn parts_of(&self, blocks: u32) -> u32
         requires some { 0 < blocks }
         requires few { blocks ≤ 1024 }
@@ -120,7 +120,7 @@ impl Counts {
         self.classes.div_ceil(classes_of_part).max(1)
     }
 
-    /// Some bytes that a run of so many tests takes, by the figures of the README.
+    /// Estimates the bytes of a run of these tests, by the figures of the README.
     fn memory(&self, tests: &Tests, workers: u64) -> u64 {
         let signals = u64::from(self.signals);
         let classes = u64::from(self.classes);
@@ -149,7 +149,7 @@ impl Counts {
     }
 }
 
-/// The name of a model on the command line.
+/// Returns the name of a model on the command line.
 fn model_name(model: Model) -> &'static str {
     match model {
         Model::StuckAt => "stuck",
@@ -174,7 +174,7 @@ fn fmt_gates<W: fmt::Write>(gates: &[u64], f: &mut Formatter<W>) -> fmt::Result 
 }
 
 impl Counts {
-    /// Writes in how many parts the most tests go, where one run doesn't take so many.
+    /// Writes the number of parts for the most tests, if they are too many for one run.
     fn fmt_parts<W: fmt::Write>(&self, f: &mut Formatter<W>) -> fmt::Result {
         match self.parts_of(MAX_BLOCKS) {
             1 => Ok(()),
@@ -203,10 +203,10 @@ impl Display for Counts {
     }
 }
 
-/// How many workers `run` has where none are asked for.
+/// The number of workers of `run` by default.
 const USUAL_WORKERS: u64 = 4;
 
-/// How much a run of tests takes.
+/// The size of a run of tests.
 #[derive(Clone, Copy, Debug, PartialEq, Eq)]
 pub struct TestCounts {
     pub tests: u32,
@@ -214,11 +214,11 @@ pub struct TestCounts {
     pub blocks: u32,
     /// Classes times blocks.
     pub pieces: u64,
-    /// Some bytes that a run with four workers takes.
+    /// An estimate of the bytes of a run with four workers.
     pub bytes: u64,
 }
 
-/// Counts what a run of tests takes on a circuit with these counts.
+/// Computes the size of a run of tests on a circuit with these counts.
 pub fn count_tests(counts: &Counts, tests: &Tests) -> TestCounts
     ensures { AreTestCountsOf counts.now.classes tests.now result }
 {
@@ -240,11 +240,11 @@ pub struct Excess {
     pub blocks: u32,
     /// Classes times blocks.
     pub pieces: u64,
-    /// In how many parts at least a run of them goes.
+    /// The least number of parts for a run of them.
     pub parts: u32,
 }
 
-/// What is too much for one run, where tests are too many.
+/// Returns the excess of tests that are too many for one run.
 pub(crate) fn excess_of(counts: &Counts, taken: &TestCounts) -> Option<Excess>
     requires blocks { taken.now.blocks ≤ 1024 }
     requires pieces { taken.now.pieces ≡ counts.now.classes * taken.now.blocks }

@@ -1,4 +1,4 @@
-//! What a test text is found to be.
+//! The result of checking a test file.
 
 ghost use Rattle.std.specs.Prelude.{◌≡◌, IfOk};
 ghost use Rattle.diagnosis.specs.Checks.{IsTestCheckOf};
@@ -9,17 +9,17 @@ use findings::{Fault, Findings, find_in_tests};
 use patterns::{TestFault, Tests, read_tests};
 use std::alloc::{AllocError, Global};
 
-/// What a test text is found to be.
+/// The result of checking a test file.
 #[derive(Drop)]
 pub enum TestCheck<'a> {
     /// It is accepted, with these tests.
     Accepted(Tests),
-    /// It is refused.
+    /// It has errors.
     Refused(Findings<'a>),
 }
 
-/// Reads tests for a circuit, and looks for all faults of their text where it is refused. The first
-/// of these is the one that `patterns::read_tests` refuses it for.
+/// Reads tests for a circuit, and finds all errors of their file if there is one. The first of them
+/// is the error of `patterns::read_tests`.
 pub fn check_tests<'a>(
     alloc: Global,
     text: &'a [u8],
@@ -34,7 +34,7 @@ pub fn check_tests<'a>(
     }
 }
 
-/// The faults of a test text that is refused by this one.
+/// Returns the errors of a test file whose first error is this one.
 fn test_findings<'a>(
     alloc: Global,
     text: &'a [u8],

@@ -9,10 +9,10 @@ ghost use Rattle.fault_ledger.specs.Face.{face, shape_fault, Answers};
 use crate::{Call, Ledger, LedgerFault, Refusal, Reply, Shape};
 use std::alloc::Global;
 
-/// The replies to a list of calls of a new ledger, in order, and the ledger after them.
+/// Returns the replies to a list of calls of a new ledger, in order, and the ledger after them.
 ///
-/// A call with a worker or a class out of range is replied to with its refusal, and the others go
-/// on. The faults are those of [`Ledger::new`], and want of memory for the replies.
+/// The reply to a call with a worker or a class out of range is its refusal, and the later calls go
+/// on. It fails as [`Ledger::new`] does, and if there is no memory for the replies.
 pub fn replay(
     alloc: Global,
     shape: Shape,
@@ -40,7 +40,7 @@ pub fn replay(
     Ok((ledger, replies))
 }
 
-/// Makes one call, and gives its reply.
+/// Makes one call, and returns its reply.
 fn reply_to(ledger: &mut Ledger, call: Call) -> Reply
     ensures { Answers ledger.old call result ledger.new }
 {
@@ -62,7 +62,7 @@ fn reply_to(ledger: &mut Ledger, call: Call) -> Reply
     }
 }
 
-/// The reply that the result of a report or a drop stands for.
+/// Returns the reply for the result of a report or a drop.
 fn reply_of(done: Result<(), Refusal>) -> Reply
     ensures { result ≡ done_reply_of done }
 {

@@ -1,4 +1,4 @@
-//! What is left of a shared ledger once it is closed.
+//! A shared ledger after it is closed.
 
 ghost use Rattle.std.specs.Prelude.{◌≡◌, ◌<◌, count_by, map, slice_index, IfOk, None};
 ghost use Rattle.fault_ledger.specs.History.{History, block_count, entry, piece_at};
@@ -15,13 +15,13 @@ use patterns::BLOCK_SIZE;
 use std::alloc::{AllocError, Global};
 use std::marker::Model;
 
-/// A closed ledger: what became of each piece.
+/// A closed ledger: the state of each piece.
 #[derive(Debug, Drop)]
 pub struct Closed {
     shape: Shape,
-    // The code of each piece's state, as it stood in its word.
+    // The code of each piece's state, as in its word.
     codes: Vec<u8>,
-    // For each class that has a piece how many of its first blocks are clear.
+    // For each class that has a piece the number of its first blocks that are clear.
     clear_blocks: Vec<u32>,
 }
 
@@ -42,7 +42,7 @@ impl Model for Closed {
 }
 
 impl Closed {
-    /// The states of all pieces of a ledger of this shape, by their codes.
+    /// Returns the states of all pieces of a ledger of this shape, by their codes.
     pub(crate) fn of(alloc: Global, shape: Shape, codes: Vec<u8>) -> Result<Closed, AllocError>
         requires limits { shape_fault shape ≡ None }
         requires states { AreStates shape (map rule.state_at codes.items) }
@@ -61,7 +61,7 @@ impl Closed {
         })
     }
 
-    /// What became of a piece.
+    /// Returns the state of a piece.
     pub fn entry(&self, class: u32, block: u32) -> PieceState
         requires { (class < self.now.shape.classes) × (block < block_count self.now.shape) }
         ensures states { AreStates self.now.shape self.now.states }
@@ -71,7 +71,7 @@ impl Closed {
         state_of(self.shape, &self.codes, class, block)
     }
 
-    /// Whether a class is settled, and at which test, else the block that it waits for. It takes
+    /// Returns at which test a class is settled, else the block that it waits for. It takes
     /// constant time.
     pub fn status(&self, class: u32) -> Status
         requires { class < self.now.shape.classes }
@@ -88,14 +88,14 @@ impl Closed {
             PieceState::Open => Status::Waiting(clear),
             // The block isn't clear.
             PieceState::Clear => unreachable!(),
-            // A skipped piece stands behind a hit of its class.
+            // A skipped piece comes after a hit of its class.
             PieceState::Skipped => unreachable!(),
         }
     }
 
-    /// Whether all classes are settled, else the lowest class that isn't, with the block that it
-    /// waits for. It takes at most the time of [`Closed::status`] for that class and each lower
-    /// one, and constant time where there is no piece.
+    /// Returns `Finished` if all classes are settled, else the lowest class that isn't, with the
+    /// block that it waits for. It takes at most the time of [`Closed::status`] for that class and
+    /// each lower one, and constant time if there is no piece.
     pub fn finished(&self) -> Finish
         ensures states { AreStates self.now.shape self.now.states }
         ensures finish { (h : History) → IsLegal self.now.shape h
@@ -112,7 +112,7 @@ impl Closed {
         Finish::Finished
     }
 
-    /// The number of pieces that were dropped. It takes the time of a look at each piece.
+    /// Returns the number of pieces that were dropped. It takes the time of a look at each piece.
     pub fn skipped(&self) -> u32
         ensures { result ≡ count_by is_skipped self.now.states }
     {
@@ -126,7 +126,7 @@ impl Closed {
     }
 }
 
-/// The state of the piece of a class and a block, by the codes of all pieces.
+/// Returns the state of the piece of a class and a block, by the codes of all pieces.
 fn state_of(shape: Shape, codes: &[u8], class: u32, block: u32) -> PieceState
     requires limits { shape_fault shape ≡ None }
     requires states { AreStates shape (map rule.state_at codes.now) }
@@ -138,7 +138,7 @@ fn state_of(shape: Shape, codes: &[u8], class: u32, block: u32) -> PieceState
     state_at(u64::from(code))
 }
 
-/// How many of the first blocks of a class are clear: none where the class has no piece.
+/// Returns how many of the first blocks of a class are clear: none if the class has no piece.
 fn clear_of(clear_blocks: &[u32], class: u32) -> u32
     ensures { result ≡ slice_index clear_blocks.now class }
 {
@@ -148,7 +148,7 @@ fn clear_of(clear_blocks: &[u32], class: u32) -> u32
     }
 }
 
-/// How many of the first blocks of a class are clear, by the codes of all pieces.
+/// Returns how many of the first blocks of a class are clear, by the codes of all pieces.
 fn clear_head(shape: Shape, codes: &[u8], class: u32) -> u32
     requires limits { shape_fault shape ≡ None }
     requires states { AreStates shape (map rule.state_at codes.now) }

@@ -1,12 +1,12 @@
 //! The fault ledger: a list of pieces of work that workers claim and report to.
 //!
 //! A piece is one fault class and one block of 64 tests. Workers claim pieces in one fixed order,
-//! report what they found, or drop a piece where an earlier block of its class is known to detect.
+//! report outcomes, or drop a piece if an earlier block of its class is known to detect it.
 //! Outcomes come in any order; a class is settled at its earliest detecting test. A drop is the
 //! fault dropping of Bushnell and Agrawal, Essentials of Electronic Testing, by blocks of tests.
 //!
 //! [`Ledger`] has one owner, who calls for all workers; [`SharedLedger`] is for workers in threads
-//! of their own, each with its [`Seat`]. Both answer alike.
+//! of their own, each with its [`Seat`]. Both give the same replies.
 #![tactic(auto)]
 
 mod calls;
@@ -46,7 +46,7 @@ pub struct Shape {
     pub workers: u32,
 }
 
-/// What the ledger knows of a piece. A piece that isn't open never changes again.
+/// The state of a piece. A piece that isn't open never changes again.
 #[derive(Clone, Copy, Debug, PartialEq, Eq)]
 pub enum PieceState {
     /// Neither reported nor dropped.
@@ -55,11 +55,11 @@ pub enum PieceState {
     Clear,
     /// The first test of the block that detects the class, counted from 0 within the block.
     Hit(u32),
-    /// Dropped, since an earlier block of the class is a hit.
+    /// Dropped, because an earlier block of the class is a hit.
     Skipped,
 }
 
-/// What the ledger knows of a fault class.
+/// The status of a fault class.
 #[derive(Clone, Copy, Debug, PartialEq, Eq)]
 pub enum Status {
     /// The first test that detects the class, counted from 0 over all blocks, or none.
@@ -71,36 +71,36 @@ pub enum Status {
 /// Whether all fault classes are settled.
 #[derive(Clone, Copy, Debug, PartialEq, Eq)]
 pub enum Finish {
-    /// All are.
+    /// All are settled.
     Finished,
     /// The lowest class that isn't settled, and the lowest open block of it.
     Waiting { class: u32, block: u32 },
 }
 
-/// Why a call changed nothing.
+/// The reason why a call changed nothing.
 #[derive(Clone, Copy, Debug, PartialEq, Eq, Error)]
 pub enum Refusal {
     /// The worker's number isn't below the number of workers.
     #[error("no such worker")]
     NoSuchWorker,
-    /// A claim of a worker that holds a piece.
+    /// A claim by a worker that holds a piece.
     #[error("the worker holds a piece")]
     Holding,
-    /// A report or a drop of a worker that holds none.
+    /// A report or a drop by a worker that holds no piece.
     #[error("the worker holds no piece")]
     NothingHeld,
-    /// A report of a hit at a test that the block hasn't.
+    /// A report of a hit at a test that the block doesn't have.
     #[error("the block has fewer tests")]
     BadOutcome,
-    /// A drop where no earlier block of the class is a hit.
+    /// A drop without a hit at an earlier block of the class.
     #[error("no earlier block is a hit")]
     NoEarlierHit,
-    /// A status call, in a list of calls, of a class that isn't below the number of classes.
+    /// A status call, in a list of calls, for a class that isn't below the number of classes.
     #[error("no such class")]
     NoSuchClass,
 }
 
-/// What a claim gives.
+/// The result of a claim.
 #[derive(Clone, Copy, Debug, PartialEq, Eq)]
 pub enum Claim {
     /// The worker now holds this piece.
@@ -112,7 +112,7 @@ pub enum Claim {
 /// One event of a ledger: a worker got the next piece, reported the piece that it held, or dropped
 /// it.
 ///
-/// No call takes or gives one. Contracts speak of the history of a ledger, which is the list of its
+/// No call takes or returns one. Contracts use the history of a ledger, which is the list of its
 /// events.
 #[derive(Clone, Copy, Debug, PartialEq, Eq)]
 pub enum Event {
@@ -154,7 +154,7 @@ pub enum Reply {
     Finish(Finish),
 }
 
-/// Why there is no ledger of a shape.
+/// The reason why there is no ledger of a shape.
 #[derive(Clone, Copy, Debug, PartialEq, Eq, Error)]
 pub enum LedgerFault {
     /// The number of workers is 0.
@@ -166,7 +166,7 @@ pub enum LedgerFault {
     /// Classes times blocks is above 16,777,216.
     #[error("more than 16777216 pieces")]
     TooManyPieces,
-    /// An allocation was refused.
+    /// An allocation failed.
     #[error("out of memory")]
     Memory,
 }
@@ -194,28 +194,28 @@ impl<T: Drop> From<AllocFailed<T>> for LedgerFault {
 }
 
 impl Shape {
-    /// The number of blocks of 64 tests; the last may be short.
+    /// Returns the number of blocks of 64 tests; the last may be short.
     pub(crate) fn blocks(self) -> u32
         ensures { result ≡ block_count self }
     {
         self.tests.div_ceil(BLOCK_SIZE)
     }
 
-    /// The number of pieces: classes times blocks.
+    /// Returns the number of pieces: classes times blocks.
     pub(crate) fn pieces(self) -> u64
         ensures { result ≡ piece_count self }
     {
         u64::from(self.classes) * u64::from(self.blocks())
     }
 
-    /// The number of classes that have a piece: all, or none where there are no tests.
+    /// Returns the number of classes that have a piece: all, or none if there are no tests.
     pub(crate) fn classes_with_pieces(self) -> u32
         ensures { result ≡ min self.classes (piece_count self) }
     {
         u64::from(self.classes).min(self.pieces()) as u32
     }
 
-    /// The number of tests in a block.
+    /// Returns the number of tests in a block.
     pub(crate) fn size_of(self, block: u32) -> u32
         requires { block < block_count self }
         ensures { result ≡ size_of self.tests block }
@@ -223,7 +223,7 @@ impl Shape {
         (self.tests - BLOCK_SIZE * block).min(BLOCK_SIZE)
     }
 
-    /// Whether a block has the test that an outcome names.
+    /// Returns whether a block has the test that an outcome names.
     pub(crate) fn takes(self, block: u32, outcome: Outcome) -> bool
         requires { block < block_count self }
         ensures { result ≡ fits_size (size_of self.tests block) outcome }
@@ -234,7 +234,7 @@ impl Shape {
         }
     }
 
-    /// Why there is no ledger of this shape, but for want of memory.
+    /// Returns the reason why there is no ledger of this shape, apart from memory.
     pub(crate) fn fault(self) -> Option<LedgerFault>
         ensures { result ≡ shape_fault self }
     {
@@ -250,7 +250,7 @@ impl Shape {
     }
 }
 
-/// The state of a piece that was reported with this outcome.
+/// Returns the state of a piece that was reported with this outcome.
 pub(crate) fn state_after(outcome: Outcome) -> PieceState
     ensures { result ≡ state_of outcome }
 {

@@ -4,10 +4,10 @@ ghost use Rattle.std.specs.Prelude.{◌≡◌, ◌<◌, ◌%◌, ◌/◌, Some};
 
 use std::marker::Model;
 
-/// The row of the pieces of one block, in which the class and the block of a piece are told without
-/// a division.
+/// The row of the pieces of one block. It gives the class and the block of a piece without a
+/// division.
 ///
-/// Contracts see it as the number of classes, which is that of the pieces in a row.
+/// Contracts see it as the number of classes, which is the number of pieces in a row.
 #[derive(Drop)]
 pub(crate) struct Row {
     classes: u32,
@@ -27,7 +27,7 @@ impl Model for Row {
 }
 
 impl Row {
-    /// The row of block 0.
+    /// Returns the row of block 0.
     pub(crate) fn of_block_0(classes: u32) -> Row
         ensures { result ≡ classes }
     {
@@ -38,14 +38,14 @@ impl Row {
         }
     }
 
-    /// The number of classes.
+    /// Returns the number of classes.
     pub(crate) fn classes(&self) -> u32
         ensures { result ≡ self.now }
     {
         self.classes
     }
 
-    /// The class and the block of a piece of this row, and none of any other.
+    /// Returns the class and the block of a piece of this row, and none of any other.
     fn in_row(&self, piece: u32) -> Option<(u32, u32)>
         ensures { (place : _) → result ≡ Some place
             → place ≡ (piece % self.now, piece / self.now) }
@@ -56,7 +56,7 @@ impl Row {
         }
     }
 
-    /// The class and the block of a piece. It divides only where the piece is of another row.
+    /// Returns the class and the block of a piece. It divides only if the piece is in another row.
     pub(crate) fn class_and_block(&self, piece: u32) -> (u32, u32)
         requires { 0 < self.now }
         ensures { result ≡ (piece % self.now, piece / self.now) }
@@ -67,7 +67,7 @@ impl Row {
         }
     }
 
-    /// Goes to the row of a piece. Gives its class and its block.
+    /// Goes to the row of a piece. Returns its class and its block.
     pub(crate) fn turn_to(&mut self, piece: u32) -> (u32, u32)
         requires { 0 < self.old }
         ensures classes { self.new ≡ self.old }

@@ -26,7 +26,7 @@ pub struct Ledger {
     claimed: u32,
     holding: Vec<Option<u32>>,
     states: Vec<PieceState>,
-    // For each class the lowest of its blocks that is a hit, or the number of blocks where none is.
+    // For each class the lowest of its blocks that is a hit, or the number of blocks if none is.
     lowest_hits: Vec<u32>,
 }
 
@@ -52,9 +52,9 @@ impl Model for Ledger {
 }
 
 impl Ledger {
-    /// A ledger of these numbers of fault classes, tests and workers, of which nothing is claimed.
+    /// Makes a ledger of these numbers of fault classes, tests and workers, without claims.
     ///
-    /// It is refused, in this order, with [`LedgerFault::NoWorkers`], with
+    /// It fails, in this order, with [`LedgerFault::NoWorkers`], with
     /// [`LedgerFault::TooManyWorkers`] above 64 workers, with [`LedgerFault::TooManyPieces`] above
     /// 16,777,216 pieces, and with [`LedgerFault::Memory`].
     pub fn new(alloc: Global, classes: u32, tests: u32, workers: u32) -> Result<Ledger, LedgerFault>
@@ -84,7 +84,7 @@ impl Ledger {
         })
     }
 
-    /// The numbers of classes, tests and workers.
+    /// Returns the numbers of classes, tests and workers.
     pub fn shape(&self) -> Shape
         ensures shape { result ≡ self.now.shape }
         ensures ledger { IsLedger self.now }
@@ -92,7 +92,7 @@ impl Ledger {
         self.shape
     }
 
-    /// The class and the block of the piece that a worker holds.
+    /// Returns the class and the block of the piece that a worker holds.
     pub fn held(&self, worker: u32) -> Option<(u32, u32)>
         requires { worker < self.now.shape.workers }
         ensures held { (h : History) → self.now ≡ face self.now.shape h
@@ -105,10 +105,10 @@ impl Ledger {
         }
     }
 
-    /// The next piece for a worker that holds none, or [`Claim::Exhausted`] where all are claimed.
-    /// It takes constant time.
+    /// Claims the next piece for a worker that holds none, or returns [`Claim::Exhausted`] if all
+    /// are claimed. It takes constant time.
     ///
-    /// It is refused with [`Refusal::NoSuchWorker`], else with [`Refusal::Holding`].
+    /// It fails with [`Refusal::NoSuchWorker`], else with [`Refusal::Holding`].
     pub fn claim(&mut self, worker: u32) -> Result<Claim, Refusal>
         ensures answer { Answers self.old (Call.Claim worker) (claim_reply_of result) self.new }
         ensures exhausted { result ≡ Ok Claim.Exhausted → self.new ≡ self.old }
@@ -133,11 +133,11 @@ impl Ledger {
         })
     }
 
-    /// Takes a worker's outcome of the piece that it holds, which it then no longer holds. It takes
-    /// constant time.
+    /// Takes a worker's outcome of the piece that it holds; the worker then no longer holds it. It
+    /// takes constant time.
     ///
-    /// It is refused with [`Refusal::NoSuchWorker`], else with [`Refusal::NothingHeld`], else with
-    /// [`Refusal::BadOutcome`] where the outcome names a test that the piece's block hasn't; the
+    /// It fails with [`Refusal::NoSuchWorker`], else with [`Refusal::NothingHeld`], else with
+    /// [`Refusal::BadOutcome`] if the outcome names a test that the piece's block doesn't have; the
     /// worker then still holds the piece.
     pub fn report(&mut self, worker: u32, outcome: Outcome) -> Result<(), Refusal>
         ensures answer { Answers self.old (Call.Report worker outcome) (done_reply_of result)
@@ -157,11 +157,12 @@ impl Ledger {
         Ok(())
     }
 
-    /// Skips the piece that a worker holds, which it then no longer holds. It takes constant time.
+    /// Skips the piece that a worker holds; the worker then no longer holds it. It takes constant
+    /// time.
     ///
-    /// It is refused with [`Refusal::NoSuchWorker`], else with [`Refusal::NothingHeld`], else with
-    /// [`Refusal::NoEarlierHit`] where no earlier block of the class is a hit; the worker then
-    /// still holds the piece. A piece of block 0 is always refused.
+    /// It fails with [`Refusal::NoSuchWorker`], else with [`Refusal::NothingHeld`], else with
+    /// [`Refusal::NoEarlierHit`] if no earlier block of the class is a hit; the worker then still
+    /// holds the piece. A drop of a piece of block 0 always fails.
     pub fn drop_piece(&mut self, worker: u32) -> Result<(), Refusal>
         ensures answer { Answers self.old (Call.Drop worker) (done_reply_of result) self.new }
         ensures shape { self.new.shape ≡ self.old.shape }
@@ -177,8 +178,8 @@ impl Ledger {
         Ok(())
     }
 
-    /// Whether a class is settled, and at which test, else the block that it waits for. It takes at
-    /// most the time of a look at each block of the class, and stops at the first that isn't clear.
+    /// Returns at which test a class is settled, else the block that it waits for. It takes at most
+    /// the time of a look at each block of the class, and stops at the first that isn't clear.
     pub fn status(&self, class: u32) -> Status
         requires { class < self.now.shape.classes }
         ensures { Answers self.now (Call.Status class) (Reply.Status result) self.now }
@@ -186,9 +187,9 @@ impl Ledger {
         status_in(self.shape, &self.states, class)
     }
 
-    /// Whether all classes are settled, else the lowest class that isn't, with the block that it
-    /// waits for. It takes at most the time of [`Ledger::status`] for that class and each lower
-    /// one, and constant time where there is no piece.
+    /// Returns `Finished` if all classes are settled, else the lowest class that isn't, with the
+    /// block that it waits for. It takes at most the time of [`Ledger::status`] for that class and
+    /// each lower one, and constant time if there is no piece.
     pub fn finished(&self) -> Finish
         ensures { Answers self.now Call.Finished (Reply.Finish result) self.now }
     {
@@ -196,7 +197,7 @@ impl Ledger {
     }
 }
 
-/// The piece that a worker holds.
+/// Returns the piece that a worker holds.
 fn piece_held(holding: &[Option<u32>], worker: u32) -> Result<u32, Refusal>
     ensures held { IfOk result (λ piece. slice_get holding.now worker ≡ Some (Some piece)) }
     ensures refused { IfErr result (λ refusal.
@@ -210,7 +211,7 @@ fn piece_held(holding: &[Option<u32>], worker: u32) -> Result<u32, Refusal>
     }
 }
 
-/// The lowest hit of a class, or its number of blocks, after the report of a block.
+/// Returns the lowest hit of a class, or its number of blocks, after the report of a block.
 fn lowest_hit_after(lowest: u32, block: u32, outcome: Outcome) -> u32
     ensures { result ≡ if is_hit (state_of outcome) then min lowest block else lowest }
 {

@@ -24,19 +24,20 @@ use patterns::{BLOCK_SIZE, Outcome};
 use std::alloc::{AllocError, Global};
 use std::marker::Model;
 
-/// How many classes a seat remembers what it has seen of, the first ones, at 8 bytes a class.
+/// The number of classes of which a seat remembers what it has seen, the first ones, at 8 bytes a
+/// class.
 const REMEMBERED_CLASSES: u32 = 65_536;
 
 /// A ledger that threads share.
 ///
 /// The n-th claim over all workers, counted from 0, is for the piece of class `n % classes` and
-/// block `n / classes`. Each worker calls with its [`Seat`], and each claim, report and drop that
-/// is accepted takes effect at one atomic step, so the calls of all workers stand in one legal
-/// history of the sequential fault list. No call takes a lock or tries a step again, and none but
-/// [`SharedLedger::new`] and [`SharedLedger::close`] takes memory.
+/// block `n / classes`. Each worker calls with its [`Seat`]. Each accepted claim, report and drop
+/// takes effect at one atomic step, so the calls of all workers stand in one legal history of the
+/// sequential fault list. No call takes a lock or tries a step again. Only [`SharedLedger::new`]
+/// and [`SharedLedger::close`] take memory.
 ///
-/// Contracts see a seat as its ledger, its worker, the history that it has seen, and whether it was
-/// told [`Claim::Exhausted`]. Seats come from the ledger that they are used with.
+/// Contracts see a seat as its ledger, its worker, the history that it has seen, and whether it has
+/// got [`Claim::Exhausted`]. Seats come from the ledger that they are used with.
 #[derive(Drop)]
 pub struct SharedLedger {
     words: Words,
@@ -55,7 +56,7 @@ impl Model for SharedLedger {
 }
 
 /// A worker's seat at a [`SharedLedger`]. It moves into the worker's thread and comes back at the
-/// join. The piece that a seat holds when it is dropped stays open.
+/// join. If a seat is dropped, the piece that it holds stays open.
 #[derive(Drop)]
 pub struct Seat {
     token: Token,
@@ -64,20 +65,20 @@ pub struct Seat {
     // The row of the piece that was claimed last.
     row: Row,
     piece: Option<u32>,
-    // For each of the first classes what was seen of it, and so stays.
+    // For each of the first classes what the seat has seen of it, which stays so.
     remembered: Vec<Remembered>,
 }
 
-/// What a seat has seen of a class.
+/// The blocks that a seat has seen of a class.
 #[derive(Clone, Copy)]
 pub(crate) struct Remembered {
-    /// So many of its first blocks are clear.
+    /// The number of its first blocks that are clear.
     pub(crate) clear: u32,
-    /// Whether the block behind them is known to be a hit.
+    /// Whether the block after them is known to be a hit.
     pub(crate) hit: bool,
 }
 
-/// What a seat remembers of a class that it has seen nothing of.
+/// The memory of a class that a seat has seen nothing of.
 const NOTHING_SEEN: Remembered = Remembered {
     clear: 0,
     hit: false,
@@ -94,7 +95,7 @@ impl Model for Seat {
 }
 
 impl Seat {
-    /// The number of the seat's worker, counted from 0.
+    /// Returns the number of the seat's worker, counted from 0.
     pub fn worker(&self) -> u32
         ensures worker { result ≡ self.now.worker }
         ensures sitter { IsSitter self.now }
@@ -102,7 +103,7 @@ impl Seat {
         self.worker
     }
 
-    /// The class and the block of the piece that the seat holds.
+    /// Returns the class and the block of the piece that the seat holds.
     pub fn held(&self) -> Option<(u32, u32)>
         ensures held { result ≡ option_map (class_and_block self.now.place.shape)
             (held_by self.now.worker self.now.seen) }
@@ -115,13 +116,14 @@ impl Seat {
 }
 
 impl SharedLedger {
-    /// A ledger of these numbers of fault classes, tests and workers, of which nothing is claimed,
-    /// and a seat for each worker, worker w at place w.
+    /// Makes a ledger of these numbers of fault classes, tests and workers, without claims, and a
+    /// seat for each worker, worker w at place w.
     ///
-    /// It is refused, in this order, with [`LedgerFault::NoWorkers`], with
+    /// It fails, in this order, with [`LedgerFault::NoWorkers`], with
     /// [`LedgerFault::TooManyWorkers`] above 64 workers, with [`LedgerFault::TooManyPieces`] above
     /// 16,777,216 pieces, and with [`LedgerFault::Memory`]. It takes a byte a piece, twice for a
-    /// moment, and for each seat 8 bytes a class that has a piece, for the first 65,536 classes.
+    /// moment. For each seat it takes 8 bytes a class that has a piece, for the first 65,536
+    /// classes.
     #[tactic(auto, using(crate::proofs::AllSeats::newcomers_placed))]
     pub fn new(
         alloc: Global,
@@ -150,15 +152,15 @@ impl SharedLedger {
         Ok((SharedLedger { words, shape }, seats))
     }
 
-    /// The next piece for a seat that holds none, or [`Claim::Exhausted`] where all are claimed. It
-    /// is one atomic step, but for a seat that was told so before and is told so again without a
-    /// step.
+    /// Claims the next piece for a seat that holds none, or returns [`Claim::Exhausted`] if all are
+    /// claimed. It is one atomic step. A seat that has got [`Claim::Exhausted`] before gets it
+    /// again without a step.
     ///
-    /// Each piece moves two cache lines between cores, that of the cursor and that of its word,
-    /// which takes 80 to 120 nanoseconds. A claim gives one piece all the same, since that fixes
-    /// the order of pieces.
+    /// Each piece moves two cache lines between cores, the cursor's and its word's, which takes 80
+    /// to 120 nanoseconds. A claim still takes only one piece, because that fixes the order of
+    /// pieces.
     ///
-    /// It is refused with [`Refusal::Holding`], without a step.
+    /// It fails with [`Refusal::Holding`], without a step.
     pub fn claim(&self, seat: &mut Seat) -> Result<Claim, Refusal>
         requires { seat.old.place ≡ self.now }
         ensures kept { (seat.new.place ≡ seat.old.place) × (seat.new.worker ≡ seat.old.worker) }
@@ -194,12 +196,12 @@ impl SharedLedger {
         Ok(Claim::Piece { class, block })
     }
 
-    /// Takes a seat's outcome of the piece that it holds, which it then no longer holds. It is one
-    /// atomic step.
+    /// Takes a seat's outcome of the piece that it holds; the seat then no longer holds it. It is
+    /// one atomic step.
     ///
-    /// It is refused, without a step, with [`Refusal::NothingHeld`], else with
-    /// [`Refusal::BadOutcome`] where the outcome names a test that the piece's block hasn't; the
-    /// seat then still holds the piece.
+    /// It fails, without a step, with [`Refusal::NothingHeld`], else with [`Refusal::BadOutcome`]
+    /// if the outcome names a test that the piece's block doesn't have; the seat then still holds
+    /// the piece.
     pub fn report(&self, seat: &mut Seat, outcome: Outcome) -> Result<(), Refusal>
         requires { seat.old.place ≡ self.now }
         ensures kept { Keeps seat.old seat.new }
@@ -222,20 +224,19 @@ impl SharedLedger {
         Ok(())
     }
 
-    /// Skips the piece that a seat holds, which it then no longer holds. It looks at the earlier
+    /// Skips the piece that a seat holds; the seat then no longer holds it. It looks at the earlier
     /// blocks of the piece's class until it sees a hit, and then drops the piece in one atomic
     /// step.
     ///
-    /// The looks begin at the first block that the seat hasn't seen clear, which it remembers for
-    /// the first 65,536 classes; for any other class they begin at block 0. Where it remembers that
-    /// block as a hit it takes no look. It takes at most the time of two looks at each block from
-    /// there to the piece's, so constant time where the seat has seen all earlier blocks clear, or
-    /// all up to a hit.
+    /// The looks begin at the first block that the seat hasn't seen clear. The seat remembers it
+    /// for the first 65,536 classes; for any other class the looks begin at block 0. If it
+    /// remembers that block as a hit, it takes no look. It takes at most the time of two looks at
+    /// each block from there to the piece's. So it takes constant time if the seat has seen all
+    /// earlier blocks clear, or all up to a hit.
     ///
-    /// It is refused with [`Refusal::NothingHeld`], without a step, else, after the looks, with
-    /// [`Refusal::NoEarlierHit`] where no earlier block of the class was a hit at the first of
-    /// them; the seat then still holds the piece. A piece of block 0 is always refused, without a
-    /// look.
+    /// It fails with [`Refusal::NothingHeld`], without a step. After the looks it fails with
+    /// [`Refusal::NoEarlierHit`] if no earlier block of the class was a hit at the first look; the
+    /// seat then still holds the piece. A drop of a piece of block 0 always fails, without a look.
     pub fn drop_piece(&self, seat: &mut Seat) -> Result<(), Refusal>
         requires { seat.old.place ≡ self.now }
         ensures kept { Keeps seat.old seat.new }
@@ -311,9 +312,9 @@ impl SharedLedger {
         false
     }
 
-    /// The clear blocks at the head of a class, below an end. It looks at those that the seat
-    /// doesn't remember as clear, and remembers them. Where the seat remembers all as clear, it
-    /// takes no look, and remembers what it did.
+    /// Returns the clear blocks at the head of a class, below an end. It looks at the blocks that
+    /// the seat doesn't remember as clear, and remembers them. If the seat remembers all as clear,
+    /// it takes no look, and its memory stays the same.
     fn passes_clear(&self, seat: &mut Seat, class: u32, end: u32) -> ClearHead
         requires place { seat.old.place ≡ self.now }
         requires range { (class < self.now.shape.classes) × (end ≤ block_count self.now.shape) }
@@ -336,8 +337,8 @@ impl SharedLedger {
         head
     }
 
-    /// The clear blocks at the head of a class, below an end, of which those below another are
-    /// known.
+    /// Returns the clear blocks at the head of a class, below an end, if the blocks below `from`
+    /// are known.
     fn passes_clear_from(&self, token: &mut Token, class: u32, from: u32, end: u32) -> ClearHead
         requires place { token.old.place ≡ self.now }
         requires sitter { IsSitter token.old }
@@ -364,7 +365,7 @@ impl SharedLedger {
         }
     }
 
-    /// What the ledger has of a piece. It is one atomic step.
+    /// Returns the state of a piece. It is one atomic step.
     pub fn look(&self, seat: &mut Seat, class: u32, block: u32) -> PieceState
         requires place { seat.old.place ≡ self.now }
         requires range { (class < self.now.shape.classes) × (block < block_count self.now.shape) }
@@ -376,10 +377,9 @@ impl SharedLedger {
             .look(&mut seat.token, class + self.shape.classes * block)
     }
 
-    /// Whether a class is settled, and at which test, else the block that it waits for. It looks at
-    /// the blocks of the class up to the first that isn't clear, and takes effect at its last look.
-    /// The looks begin as those of [`SharedLedger::drop_piece`] do. Where there is no block it
-    /// takes no look.
+    /// Returns at which test a class is settled, else the block that it waits for. It looks at the
+    /// blocks of the class up to the first that isn't clear, and takes effect at its last look. The
+    /// looks begin as in [`SharedLedger::drop_piece`]. If there is no block, it takes no look.
     pub fn status(&self, seat: &mut Seat, class: u32) -> Status
         requires place { seat.old.place ≡ self.now }
         requires range { class < self.now.shape.classes }
@@ -395,15 +395,15 @@ impl SharedLedger {
             Some(PieceState::Open) => Status::Waiting(head.clear),
             // The block isn't clear.
             Some(PieceState::Clear) => unreachable!(),
-            // A skipped piece stands behind a hit of its class.
+            // A skipped piece comes after a hit of its class.
             Some(PieceState::Skipped) => unreachable!(),
         }
     }
 
-    /// Whether all classes are settled, else the lowest class that isn't, with the block that it
-    /// waits for. It takes the looks of [`SharedLedger::status`] for that class and each lower one,
-    /// and takes effect at its last look. Where there is no piece it takes no look, and constant
-    /// time.
+    /// Returns `Finished` if all classes are settled, else the lowest class that isn't, with the
+    /// block that it waits for. It takes the looks of [`SharedLedger::status`] for that class and
+    /// each lower one, and takes effect at its last look. If there is no piece, it takes no look,
+    /// and constant time.
     pub fn finished(&self, seat: &mut Seat) -> Finish
         requires { seat.old.place ≡ self.now }
         ensures kept { Keeps seat.old seat.new }
@@ -424,8 +424,8 @@ impl SharedLedger {
         Finish::Finished
     }
 
-    /// Puts together what two seats have seen: afterwards both have seen all that either had seen
-    /// or done. It takes three looks at the cursor.
+    /// Joins what two seats have seen: afterwards both have seen all that either had seen or done.
+    /// It takes three looks at the cursor.
     pub fn meet(&self, first: &mut Seat, second: &mut Seat)
         requires { (first.old.place ≡ self.now) × (second.old.place ≡ self.now) }
         ensures first { Keeps first.old first.new }
@@ -435,11 +435,11 @@ impl SharedLedger {
         self.words.meet(&mut first.token, &mut second.token);
     }
 
-    /// What became of each piece, once all seats are back. Seats may also stay away: the states
-    /// then hold what these did too, but the contract ties them only to what the seats given have
-    /// seen.
+    /// Closes the ledger, and returns the state of each piece. Seats may be missing: the states
+    /// then include their reports, but the contract ties the states only to what the given seats
+    /// have seen.
     ///
-    /// It is refused only with [`LedgerFault::Memory`]; the ledger and the seats are gone then too.
+    /// It fails only with [`LedgerFault::Memory`]; the ledger and the seats are gone then, too.
     pub fn close(self, alloc: Global, seats: Vec<Seat>) -> Result<Closed, LedgerFault>
         requires some { 0 < length seats.items }
         requires places { All (λ seat. seat.place ≡ self) seats.items }
@@ -457,13 +457,13 @@ impl SharedLedger {
 /// The clear blocks at the head of a class.
 #[derive(Clone, Copy)]
 struct ClearHead {
-    /// How many they are.
+    /// Their number.
     clear: u32,
-    /// What the ledger has of the block behind them, where that was looked at: it isn't clear.
+    /// The state of the block after them, if a look was made at it: it isn't clear.
     next: Option<PieceState>,
 }
 
-/// What is remembered of a class.
+/// Returns what a seat remembers of a class.
 fn remembered_of(remembered: &[Remembered], class: u32) -> Remembered
     ensures { result ≡ slice_index_or remembered.now class nothing_seen }
 {
@@ -473,7 +473,7 @@ fn remembered_of(remembered: &[Remembered], class: u32) -> Remembered
     }
 }
 
-/// Remembers this of a class, where it is one of the first.
+/// Remembers this of a class, if it is one of the first.
 fn remember(remembered: &mut Vec<Remembered>, class: u32, known: Remembered)
     ensures { remembered.new.items ≡ set remembered.old.items class known }
 {
@@ -483,7 +483,7 @@ fn remember(remembered: &mut Vec<Remembered>, class: u32, known: Remembered)
     }
 }
 
-/// Whether the block behind the clear ones is a hit.
+/// Returns whether the block after the clear ones is a hit.
 fn ends_in_hit(head: ClearHead) -> bool
     ensures { result ≡ true → (test : ℕ) × (head.next ≡ Some (PieceState.Hit test)) }
 {
@@ -493,7 +493,7 @@ fn ends_in_hit(head: ClearHead) -> bool
     }
 }
 
-/// A seat for each worker of a group of newcomers.
+/// Makes a seat for each worker of a group of newcomers.
 fn seats_of(
     alloc: Global,
     words: &Words,
@@ -522,7 +522,7 @@ fn seats_of(
     Ok(seats)
 }
 
-/// The workers of all seats in one group.
+/// Puts the workers of all seats into one group.
 fn group_of(words: &Words, mut seats: Vec<Seat>) -> Group
     requires some { 0 < length seats.items }
     requires places { All (λ seat. seat.place ≡ words.now) seats.items }
@@ -538,7 +538,7 @@ fn group_of(words: &Words, mut seats: Vec<Seat>) -> Group
     group
 }
 
-/// The token of a seat.
+/// Returns the token of a seat.
 fn token_of(seat: Seat) -> Token
     ensures { result ≡ seat }
 {

@@ -1,4 +1,4 @@
-//! What the states of all pieces say of the classes.
+//! The status of the classes by the states of all pieces.
 
 ghost use Rattle.std.specs.Prelude.{◌≡◌, ◌<◌, None};
 ghost use Rattle.fault_ledger.specs.History.{History, states_of};
@@ -10,7 +10,7 @@ ghost use Rattle.fault_ledger.specs.Seats.{AreStates};
 use crate::{Finish, PieceState, Shape, Status};
 use patterns::BLOCK_SIZE;
 
-/// Whether a class is settled, and at which test, else the block that it waits for.
+/// Returns at which test a class is settled, else the block that it waits for.
 pub(crate) fn status_in(shape: Shape, states: &[PieceState], class: u32) -> Status
     requires limits { shape_fault shape ≡ None }
     requires states { AreStates shape states.now }
@@ -24,15 +24,15 @@ pub(crate) fn status_in(shape: Shape, states: &[PieceState], class: u32) -> Stat
             PieceState::Clear => {}
             PieceState::Hit(test) => return Status::Settled(Some(BLOCK_SIZE * block + test)),
             PieceState::Open => return Status::Waiting(block),
-            // A skipped piece stands behind a hit of its class.
+            // A skipped piece comes after a hit of its class.
             PieceState::Skipped => unreachable!(),
         }
     }
     Status::Settled(None)
 }
 
-/// Whether all classes are settled, else the lowest class that isn't, with the block that it waits
-/// for.
+/// Returns `Finished` if all classes are settled, else the lowest class that isn't, with the block
+/// that it waits for.
 pub(crate) fn finish_in(shape: Shape, states: &[PieceState]) -> Finish
     requires limits { shape_fault shape ≡ None }
     requires states { AreStates shape states.now }

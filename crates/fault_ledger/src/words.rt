@@ -1,8 +1,8 @@
 //! The words of a shared ledger, and the tokens that step on them.
 //!
-//! Word 0 is the cursor, which counts the claims that were tried. Behind it stand the pieces, eight
-//! to a word: piece p, counted from 0, has the field of eight bits from bit 8 * (p % 8) on of word
-//! p / 8 + 1.
+//! Word 0 is the cursor, which counts the claims that were tried. The pieces follow it, eight to a
+//! word: piece p, counted from 0, has the field of eight bits from bit 8 * (p % 8) on of word p / 8
+//! + 1.
 //!
 //! ```text
 //! bit      63    56    48    40    32    24    16     8     0
@@ -18,11 +18,11 @@
 //! ```
 //!
 //! Each step is one atomic operation on one word. A field goes from 0 to one code, once, and only
-//! the worker that holds the piece changes it. So the code is added, as no carry leaves the field,
-//! and no step is ever tried again, as one by compare and swap would be where a neighbour's field
-//! has changed. There are 67 codes, so a field is wider than it has to be, but eight fill a word.
+//! the worker that holds the piece changes it. So the code is added, and no carry leaves the field.
+//! No step is ever tried again; a compare and swap would be, after a change of a neighbour's field.
+//! There are 67 codes, so a field is wider than it has to be, but eight fill a word.
 //!
-//! Views and events are facts of the proof: no value of [`View`] or [`Post`] is made.
+//! Views and events exist only in the proof: no value of [`View`] or [`Post`] is made.
 
 ghost use Rattle.std.specs.Prelude.{◌≡◌, ◌<◌, ◌≤◌, ◌+◌, ◌*◌, ◌/◌, ◌%◌, true, false, [], ◌∷◌, map};
 ghost use Rattle.std.specs.Prelude.{IfOk, Some, None};
@@ -49,7 +49,7 @@ use std::collections::LinkedList;
 use std::marker::Model;
 use std::mem;
 
-/// How many pieces stand in a word, each with the code of its state in a field of its own.
+/// The number of pieces in a word, each with the code of its state in a field of its own.
 const PIECES_PER_WORD: usize = 8;
 
 /// The number of bits of a field.
@@ -64,10 +64,10 @@ const CLEAR: u64 = 1;
 /// The code of a skipped piece.
 pub(crate) const SKIPPED: u64 = 2;
 
-/// The code of a hit at test 0 of its block; that of a hit at test k is `HIT + k`.
+/// The code of a hit at test 0 of its block; a hit at test k has `HIT + k`.
 const HIT: u64 = 128;
 
-/// A worker that a token stands for, whether it was told that all pieces are claimed, and the
+/// A worker that a token represents, whether it has seen that all pieces are claimed, and the
 /// history that it has seen, the newest event first.
 pub(crate) struct Post {
     pub(crate) worker: u32,
@@ -75,13 +75,13 @@ pub(crate) struct Post {
     pub(crate) seen: LinkedList<Event>,
 }
 
-/// What a token knows: the shape of its ledger, and the workers that it stands for.
+/// The knowledge of a token: the shape of its ledger, and the workers that it represents.
 pub(crate) struct View {
     pub(crate) shape: Shape,
     pub(crate) posts: LinkedList<Post>,
 }
 
-/// The rule: there is one legal history of which the words are.
+/// The rule: the words represent one legal history.
 struct OneHistory;
 
 impl TableRule<u8, View, Shape> for OneHistory {
@@ -92,7 +92,7 @@ impl TableRule<u8, View, Shape> for OneHistory {
     ghost first = { everybody };
 }
 
-/// The step of a claim: the piece of the number found is the worker's, or all are claimed.
+/// The step of a claim: the piece of the returned number is the worker's, or all are claimed.
 struct Claiming;
 
 impl Play<u8, View> for Claiming {
@@ -119,7 +119,7 @@ impl Play<u8, View> for Dropping {
     ghost then = { Drops };
 }
 
-/// A look: what the fields of the word found say is so in a legal history, which all workers of the
+/// A look: the fields of the returned word are true in a legal history, which all workers of the
 /// token have seen.
 struct Looking;
 
@@ -189,7 +189,7 @@ impl Model for Token {
     ghost invariant = { λ t. StandsAlone t.badge.views (sitter t.badge.table_id t.badge.views) };
 }
 
-/// A token that stands for several workers.
+/// A token that represents several workers.
 #[derive(Drop)]
 pub(crate) struct Group {
     seat: atomic_table::Seat<u8, View>,
@@ -207,7 +207,7 @@ impl Model for Group {
 }
 
 impl Group {
-    /// A group of one.
+    /// Makes a group of one worker.
     pub(crate) fn of(token: Token) -> Group
         ensures { (result.place ≡ token.place) × (result.posts ≡ post_of token ∷ []) }
     {
@@ -219,7 +219,7 @@ impl Group {
 }
 
 impl Words {
-    /// Words on which nothing is claimed, and a token for all workers.
+    /// Makes words without claims, and a token for all workers.
     pub(crate) fn new(alloc: Global, shape: Shape) -> Result<(Words, Group), AllocError>
         requires { shape_fault shape ≡ None }
         ensures words { IfOk result (λ made. made.0.shape ≡ shape) }
@@ -232,7 +232,7 @@ impl Words {
         Ok((Words { table }, Group { seat }))
     }
 
-    /// One load: the first worker of a group, and the others.
+    /// Splits the first worker of a group from the others, by one load.
     pub(crate) fn part(&self, group: Group) -> (Token, Group)
         requires place { group.place ≡ self.now }
         requires worker { (first : _) × (rest : _) × (group.posts ≡ first ∷ rest) }
@@ -249,7 +249,7 @@ impl Words {
         )
     }
 
-    /// One load: a group with one more worker, who stands first.
+    /// Adds a worker to a group, as its first, by one load.
     pub(crate) fn join(&self, group: Group, token: Token) -> Group
         requires { (group.place ≡ self.now) × (token.place ≡ self.now) }
         ensures { (result.place ≡ self.now) × (result.posts ≡ post_of token ∷ group.posts) }
@@ -262,8 +262,8 @@ impl Words {
         Group { seat }
     }
 
-    /// One atomic step: 1 is added to the cursor. The piece of the number that was found is the
-    /// worker's, where there is one, and else all are claimed.
+    /// Claims the next piece: adds 1 to the cursor, in one atomic step. The piece of the returned
+    /// number is the worker's, if there is one, and else all are claimed.
     pub(crate) fn claim(&self, token: &mut Token) -> u64
         requires place { token.old.place ≡ self.now }
         requires free { (token.old.told ≡ false)
@@ -279,15 +279,15 @@ impl Words {
             → Sees token.old true token.new × (claims token.new.seen ≡ piece_count self.now.shape) }
     {
         let mut seat = take_seat(&mut token.badge);
-        // The cursor also counts claims that find no piece: whoever looked first, and added only
-        // where a piece is left, would make two steps, and another claim could come between them.
+        // The cursor also counts claims that find no piece. A look, and an addition only if a piece
+        // is left, would be two steps, and another claim could come between them.
         let piece = self.table.shared.fetch_add::<Claiming>(&mut seat, 0, 1);
         token.badge = seat.into_badge();
         piece
     }
 
-    /// One atomic step: the outcome's code is added to the field of the worker's piece, which was
-    /// 0. The other seven pieces of the word stay.
+    /// Adds the outcome's code to the field of the worker's piece, which was 0, in one atomic step.
+    /// The other seven pieces of the word stay.
     pub(crate) fn report(&self, token: &mut Token, piece: u32, outcome: Outcome)
         requires place { token.old.place ≡ self.now }
         requires piece { piece < piece_count self.now.shape }
@@ -297,7 +297,7 @@ impl Words {
         ensures { Makes token.old (Event.Report token.old.worker outcome) Done token.new }
     {
         let mut seat = take_seat(&mut token.badge);
-        // No load before it: the field is known to be 0, since the worker holds the piece.
+        // No load comes before it: the field is 0, because the worker holds the piece.
         self.table.shared.fetch_add::<Reporting>(
             &mut seat,
             word_with(piece as usize),
@@ -306,8 +306,8 @@ impl Words {
         token.badge = seat.into_badge();
     }
 
-    /// One atomic step: the code of a skipped piece is added to the field of the worker's piece,
-    /// which was 0. The other seven pieces of the word stay. The worker has seen a hit of an
+    /// Adds the code of a skipped piece to the field of the worker's piece, which was 0, in one
+    /// atomic step. The other seven pieces of the word stay. The worker has seen a hit at an
     /// earlier block of the piece's class.
     pub(crate) fn drop_piece(&self, token: &mut Token, piece: u32)
         requires place { token.old.place ≡ self.now }
@@ -325,7 +325,7 @@ impl Words {
         token.badge = seat.into_badge();
     }
 
-    /// One atomic step: the word in which a piece stands is loaded.
+    /// Loads the word of a piece, in one atomic step.
     pub(crate) fn look(&self, token: &mut Token, piece: u32) -> PieceState
         requires place { token.old.place ≡ self.now }
         requires piece { piece < piece_count self.now.shape }
@@ -341,7 +341,7 @@ impl Words {
         state_at(field_of(piece as usize, word))
     }
 
-    /// Three loads of the cursor: both workers on one token, a look, and apart again.
+    /// Loads the cursor three times: both workers on one token, a look, and apart again.
     pub(crate) fn meet(&self, first: &mut Token, second: &mut Token)
         requires { (first.old.place ≡ self.now) × (second.old.place ≡ self.now) }
         ensures { Meets first.old second.old first.new second.new }
@@ -355,7 +355,7 @@ impl Words {
         second.badge = parted.into_badge();
     }
 
-    /// The code of the state of each piece.
+    /// Returns the code of the state of each piece.
     pub(crate) fn close(
         self,
         alloc: Global,
@@ -377,7 +377,7 @@ impl Words {
     }
 }
 
-/// Takes the seat of the table out of a badge, which is blank then.
+/// Takes the seat of the table out of a badge, which is blank afterwards.
 fn take_seat(badge: &mut Badge<View>) -> atomic_table::Seat<u8, View>
     requires { (view : View) × (badge.old.views ≡ view ∷ []) }
     ensures place { (result.table_id ≡ badge.old.table_id) × (result.id ≡ badge.old.id) }
@@ -386,7 +386,7 @@ fn take_seat(badge: &mut Badge<View>) -> atomic_table::Seat<u8, View>
     mem::replace(badge, Badge::blank()).into_seat()
 }
 
-/// What stands in the fields of all pieces in the words of a closed table.
+/// Returns the fields of all pieces in the words of a closed table.
 fn read_codes(
     alloc: Global,
     closed: &ClosedTable<u8, Global>,
@@ -403,21 +403,21 @@ fn read_codes(
     Ok(codes)
 }
 
-/// The number of the word in which a piece stands.
+/// Returns the number of the word of a piece.
 fn word_with(piece: usize) -> usize
     ensures { result ≡ rule.word_with piece }
 {
     piece / PIECES_PER_WORD + 1
 }
 
-/// The lowest bit of the field of a piece.
+/// Returns the lowest bit of the field of a piece.
 fn lowest_bit(piece: usize) -> u32
     ensures { result ≡ 8 * (piece % 8) }
 {
     FIELD_BITS * (piece % PIECES_PER_WORD) as u32
 }
 
-/// A word with this code in the field of a piece, and 0 in the others.
+/// Returns a word with this code in the field of a piece, and 0 in the others.
 fn in_field(piece: usize, code: u64) -> u64
     requires { code < 256 }
     ensures { result ≡ rule.in_field piece code }
@@ -425,14 +425,14 @@ fn in_field(piece: usize, code: u64) -> u64
     code << lowest_bit(piece)
 }
 
-/// What stands in the field of a piece.
+/// Returns the field of a piece in a word.
 fn field_of(piece: usize, word: u64) -> u64
     ensures { result ≡ rule.field word (piece % 8) }
 {
     (word >> lowest_bit(piece)) % (1 << FIELD_BITS)
 }
 
-/// The code of a piece that was reported with this outcome.
+/// Returns the code of a piece that was reported with this outcome.
 fn code_of(outcome: Outcome) -> u64
     ensures { result ≡ rule.code_of (state_of outcome) }
 {
@@ -442,7 +442,7 @@ fn code_of(outcome: Outcome) -> u64
     }
 }
 
-/// The state of a piece by its code.
+/// Returns the state of a piece by its code.
 pub(crate) fn state_at(code: u64) -> PieceState
     ensures { result ≡ rule.state_at code }
 {

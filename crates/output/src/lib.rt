@@ -1,5 +1,5 @@
-//! Where bytes go: outputs that say how much of a piece they took and count how often they failed,
-//! and calls that put whole texts.
+//! Byte outputs: they report how much of a piece they took and count their failures. Calls put
+//! whole texts.
 #![tactic(auto)]
 
 ghost use Rattle.std.specs.List.{flat_map};
@@ -16,13 +16,13 @@ use thiserror::Error;
 #[error("cannot write")]
 pub struct OutFailed;
 
-/// Something that takes bytes, and counts how often it failed to.
+/// An output of bytes, which counts its failures.
 pub trait Out {
-    // The bytes that it has taken, where it tells them, and how many of its calls failed, or took
+    // The bytes that it has taken, if it records them, and how many of its calls failed, or took
     // nothing of a piece that isn't empty. The number stays at the greatest u64.
     ghost seen: { Self → Output };
 
-    /// Takes a front part of the piece and says how long it is; an error took nothing.
+    /// Takes a front part of the piece and returns its length; an error took nothing.
     fn put(&mut self, piece: &[u8]) -> Result<usize, OutFailed>
         ensures within { IfOk result (λ n. n ≤ length piece.now) }
         ensures taken { WriteAppends (seen self.old).bytes (seen self.new).bytes result piece.now }
@@ -30,8 +30,8 @@ pub trait Out {
             ≡ fails_after (seen self.old).fails (is_refusal result piece.now) };
 }
 
-/// The output over a writer of std, by one `write` a call. It tells the bytes that the writer
-/// tells: over a vector, those that the vector holds.
+/// The output over a writer of std, by one `write` a call. It records the bytes that the writer
+/// records: over a vector, the bytes of the vector.
 #[derive(Drop)]
 pub struct Plain<W> {
     writer: W,
@@ -39,7 +39,7 @@ pub struct Plain<W> {
 }
 
 impl<W: Write> Plain<W> {
-    /// An output over a writer, which has not failed yet.
+    /// Makes an output over a writer, without a failure so far.
     pub fn new(writer: W) -> Self
         ensures writer { result.writer ≡ writer }
         ensures fresh { result.fails ≡ 0 }
@@ -47,7 +47,7 @@ impl<W: Write> Plain<W> {
         Plain { writer, fails: 0 }
     }
 
-    /// The writer.
+    /// Returns the writer.
     pub fn into_writer(self) -> W
         ensures { result ≡ self.writer }
     {

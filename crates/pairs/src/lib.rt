@@ -1,8 +1,8 @@
-//! Pairs of tests that launch a transition and capture what becomes of it.
+//! Pairs of tests that launch a transition and capture the result.
 //!
-//! Under launch on capture the first test of a pair is shifted into the scan cells, and the second
-//! is what the circuit itself makes of it: one clock later the flip-flops have captured their data
-//! pins, and the primary inputs are held. [`launch_pairs`] makes such pairs of tests.
+//! Under launch-on-capture the launch test of a pair is shifted into the scan cells. One clock
+//! later the flip-flops have captured their data pins, and the primary inputs are held: that is the
+//! capture test. [`launch_pairs`] makes such pairs of tests.
 #![tactic(auto)]
 
 ghost use Rattle.std.specs.Prelude.{◌≡◌, ◌+◌, ◌*◌, ◌-◌, ◌<◌, ◌≤◌, ◌++◌, ◌∷◌, [], drop, take};
@@ -16,15 +16,16 @@ use block_sim::responses;
 use patterns::{MAX_TESTS, PushFault, TestFault, Tests};
 use std::alloc::{AllocError, Global};
 
-/// The pairs of launch on capture of tests for a circuit: for each test two, the test itself, and a
-/// test with its bits at the primary inputs, which are held, and with what each flip-flop captures
-/// under it in the scan cells (Bushnell and Agrawal, Essentials of Electronic Testing, chapter 12,
-/// on delay test). They are a list of pairs for [`fault_model::Model::TransitionPairs`].
+/// Returns the launch-on-capture pairs of tests for a circuit, two tests for each: the test itself,
+/// and its capture test. That has the test's bits at the primary inputs, which are held, and in the
+/// scan cells the bits that the flip-flops capture under it (Bushnell and Agrawal, Essentials of
+/// Electronic Testing, chapter 12, on delay test). The result is a list of pairs for
+/// [`fault_model::Model::TransitionPairs`].
 ///
 /// # Errors
 ///
 /// [`TestFault::TooMany`] if the pairs are more than [`MAX_TESTS`] tests, and else
-/// [`TestFault::Memory`] where memory ran out.
+/// [`TestFault::Memory`] if memory ran out.
 pub fn launch_pairs(alloc: Global, circuit: Circuit, tests: &Tests) -> Result<Tests, TestFault>
     requires { tests.now.width ≡ length (sources circuit) }
     ensures pairs { IfOk result (λ pairs. AreLaunchPairs circuit tests.now.tests pairs.tests) }
@@ -42,8 +43,8 @@ pub fn launch_pairs(alloc: Global, circuit: Circuit, tests: &Tests) -> Result<Te
     Ok(pair_rows(alloc, tests, &shown, held, from)?)
 }
 
-/// For each test its row, and then a row of its first bits, as many as are held, and of the bits
-/// of the row that is shown under it from a place on.
+/// Returns two rows for each test: its own, and a row of its first bits, as many as are held, and
+/// then of the bits of its response from a place on.
 fn pair_rows(
     alloc: Global,
     tests: &Tests,
@@ -122,7 +123,7 @@ fn add_pair(
     add_row(alloc, row, pairs)
 }
 
-/// Copies the bits of a test from a source on to a row from a place on, as many as there are.
+/// Copies the bits of a test, from a source on, to a row, from a place on, as many as there are.
 fn copy_bits(tests: &Tests, test: u32, from: u32, at: usize, row: &mut [bool])
     requires test { test < length tests.now.tests }
     requires source { from ≤ tests.now.width }
@@ -134,7 +135,7 @@ fn copy_bits(tests: &Tests, test: u32, from: u32, at: usize, row: &mut [bool])
     }
 }
 
-/// Adds a row of the right width to tests where there is room for it.
+/// Adds a row of the right width to tests with room for it.
 fn add_row(alloc: Global, row: &[bool], tests: &mut Tests) -> Result<(), AllocError>
     requires room { length tests.old.tests < max_tests }
     requires width { length row.now ≡ tests.old.width }
