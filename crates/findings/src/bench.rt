@@ -1,4 +1,4 @@
-//! All faults of a bench text, line by line.
+//! All errors of a bench file, line by line.
 
 use crate::cycle::{Cycle, cycles};
 use crate::finding::{Fault, Finding, Found};
@@ -11,9 +11,9 @@ use indexmap::IndexSet;
 use std::alloc::{AllocError, Global};
 use text_lines::without_carriage_return;
 
-/// The faults of a bench text that `bench_net::read_bench` refuses by this one, in the order in
-/// which a text is looked through: its lines, names defined again, names that no line defines, and
-/// cycles. Only memory can be refused.
+/// Finds the errors of a bench file, of which `bench_net::read_bench` reports this one. They come
+/// in the order of the search: lines, names defined again, names that no line defines, and cycles.
+/// Only memory can make it fail.
 pub fn find_in_bench<'a>(
     alloc: Global,
     text: &'a [u8],
@@ -29,7 +29,7 @@ pub fn find_in_bench<'a>(
     Ok(found)
 }
 
-/// A fault of a whole text, of which there is too much.
+/// Returns an error of a whole file that is past a limit.
 fn whole<'a>(fault: BenchFault, found: usize, what: &'static str) -> Finding<'a> {
     Finding {
         fault: Fault::Bench(fault),
@@ -39,7 +39,7 @@ fn whole<'a>(fault: BenchFault, found: usize, what: &'static str) -> Finding<'a>
     }
 }
 
-/// A name on a line of the text, and the gate that reads it.
+/// A name on a line of the file, and the gate that reads it.
 #[derive(Clone, Copy)]
 pub(crate) struct Use<'a> {
     pub(crate) name: Name<'a>,
@@ -47,25 +47,26 @@ pub(crate) struct Use<'a> {
     pub(crate) line: u64,
 }
 
-/// The names of a text.
+/// The names of a file.
 #[derive(Drop)]
 pub(crate) struct Names<'a> {
     /// The defined names, in the order of their first lines.
     pub(crate) defined: IndexSet<&'a str>,
-    /// Where each is defined first.
+    /// For each its first definition.
     pub(crate) definitions: Vec<Use<'a>>,
-    /// For the name of a gate its reads, from one number to another; none for other names.
+    /// For the name of a gate the numbers of its first read and of the one after its last; none for
+    /// other names.
     pub(crate) pins: Vec<(usize, usize)>,
-    /// All reads, in the order of the text.
+    /// All reads, in the order of the file.
     pub(crate) reads: Vec<Use<'a>>,
-    /// Where a name is defined again.
+    /// The further definitions of names.
     again: Vec<Use<'a>>,
-    /// Names that lines seem to define which state nothing.
+    /// The names that lines with an error seem to define.
     meant: IndexSet<&'a str>,
 }
 
 impl<'a> Names<'a> {
-    /// No names.
+    /// Makes a list without names.
     fn new(alloc: Global) -> Self {
         Names {
             defined: IndexSet::new(alloc),
@@ -102,7 +103,7 @@ impl<'a> Names<'a> {
     }
 }
 
-/// Looks through all lines of a text.
+/// Checks all lines of a file.
 fn look_through<'a>(
     alloc: Global,
     text: &'a [u8],
@@ -113,7 +114,7 @@ fn look_through<'a>(
     tell_names(alloc, text, fault, &names, found)
 }
 
-/// Tells what is wrong with the names of a text, or with how many there are.
+/// Reports the errors of the names of a file, or of their number.
 fn tell_names<'a>(
     alloc: Global,
     text: &'a [u8],
@@ -135,7 +136,7 @@ fn tell_names<'a>(
     tell_cycles(alloc, text, names, found)
 }
 
-/// The fault of a text without a statement.
+/// Returns the error of a file without a statement.
 fn empty<'a>() -> Finding<'a> {
     Finding {
         fault: Fault::Bench(BenchFault::Empty),
@@ -145,7 +146,7 @@ fn empty<'a>() -> Finding<'a> {
     }
 }
 
-/// Looks at each line of a text, and tells those that state nothing.
+/// Checks each line of a file, and reports those that are no statement.
 fn look_at_lines<'a>(
     alloc: Global,
     text: &'a [u8],
@@ -171,7 +172,7 @@ fn add_lines<'a>(
     Ok(())
 }
 
-/// Adds the names of a line, and tells it where it states nothing.
+/// Adds the names of a line, and reports the line if it is no statement.
 fn add_line<'a>(
     alloc: Global,
     number: u64,
@@ -196,7 +197,7 @@ fn add_line<'a>(
     }
 }
 
-/// A finding at a name.
+/// Returns a finding at a name.
 fn at_name<'a>(text: &'a [u8], at: Use<'a>, fault: BenchFault, note: Note<'a>) -> Finding<'a> {
     Finding {
         fault: Fault::Bench(fault),
@@ -206,7 +207,7 @@ fn at_name<'a>(text: &'a [u8], at: Use<'a>, fault: BenchFault, note: Note<'a>) -
     }
 }
 
-/// Tells the lines that define a name again.
+/// Reports the lines that define a name again.
 fn tell_again<'a>(
     text: &'a [u8],
     names: &Names<'a>,
@@ -232,12 +233,12 @@ fn tell_again<'a>(
     Ok(())
 }
 
-/// Whether a name is defined, or seems to be by a line that states nothing.
+/// Returns whether a name is defined, or a line with an error seems to define it.
 fn is_known(names: &Names<'_>, name: &str) -> bool {
     names.defined.contains(name) || names.meant.contains(name)
 }
 
-/// A name that is defined, or seems to be, and is near to another.
+/// Returns a near name that is defined, or that a line with an error seems to define.
 fn near_name<'a>(
     alloc: Global,
     name: &str,
@@ -249,7 +250,7 @@ fn near_name<'a>(
     }
 }
 
-/// Tells the reads of names that no line defines.
+/// Reports the reads of names that no line defines.
 fn tell_undefined<'a>(
     alloc: Global,
     text: &'a [u8],
@@ -272,7 +273,7 @@ fn tell_undefined<'a>(
     Ok(())
 }
 
-/// Tells the cycles of gates.
+/// Reports the cycles of gates.
 fn tell_cycles<'a>(
     alloc: Global,
     text: &'a [u8],
@@ -294,7 +295,7 @@ fn tell_cycles<'a>(
     Ok(())
 }
 
-/// What is said of a cycle at the gate of this name.
+/// Returns the note on a cycle at the gate of this name.
 fn cycle_note<'a>(
     alloc: Global,
     names: &Names<'a>,

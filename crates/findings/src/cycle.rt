@@ -6,24 +6,25 @@ use std::alloc::{AllocError, Global};
 /// A cycle of gates.
 #[derive(Drop)]
 pub(crate) struct Cycle {
-    /// The gate that it is told at, by the number of its name: one that is on it or fed by it.
+    /// The gate that the error is reported at, by the number of its name: one that is on the cycle
+    /// or fed by it.
     pub(crate) at: usize,
-    /// The gates of which each feeds the next, from one round to the same.
+    /// The gates on the cycle: each feeds the next, and the last the first.
     pub(crate) gates: Vec<usize>,
 }
 
-/// What is known of a gate.
+/// The state of a gate in the search.
 #[derive(Clone, Copy, PartialEq, Eq)]
 enum State {
-    /// Nothing yet.
+    /// Unknown so far.
     New,
-    /// It is on the path from the gate at which the search began.
+    /// On the path from the gate where the search began.
     Open,
-    /// All that it reads is known.
+    /// Done: the gates that feed it are known.
     Done,
 }
 
-/// A gate on the path, and the read that is looked at next.
+/// A gate on the path, and its read that comes next.
 #[derive(Clone, Copy)]
 struct Visit {
     gate: usize,
@@ -31,7 +32,7 @@ struct Visit {
     end: usize,
 }
 
-/// A search for cycles against the reads.
+/// A search for cycles from gates to the gates that feed them.
 #[derive(Drop)]
 struct Search {
     states: Vec<State>,
@@ -40,8 +41,8 @@ struct Search {
     found: Vec<Cycle>,
 }
 
-/// The cycles of the gates of a text, of cycles with a gate in common one at least. The first is
-/// told at the first gate of the text that is on a cycle or fed by one.
+/// Returns cycles of gates, at least one of several cycles with a gate in common. The first is
+/// reported at the first gate of the file that is on a cycle or fed by one.
 pub(crate) fn cycles(alloc: Global, names: &Names<'_>) -> Result<Vec<Cycle>, AllocError> {
     let count = names.pins.len();
     let mut search = Search {
@@ -56,7 +57,7 @@ pub(crate) fn cycles(alloc: Global, names: &Names<'_>) -> Result<Vec<Cycle>, All
     Ok(search.found)
 }
 
-/// Searches from a gate that nothing is known of.
+/// Searches from an unknown gate.
 fn search_from(
     alloc: Global,
     names: &Names<'_>,
@@ -64,7 +65,7 @@ fn search_from(
     search: &mut Search,
 ) -> Result<(), AllocError> {
     enter(names, root, search)?;
-    // Each read is looked at once, and each gate is entered and left once.
+    // Each read is visited once, and each gate is entered and left once.
     let reads = names.reads.len();
     let steps = reads.saturating_add(names.pins.len()).saturating_add(1);
     for _ in 0..steps {
@@ -76,7 +77,7 @@ fn search_from(
     Ok(())
 }
 
-/// Puts a gate on the path, where nothing is known of it.
+/// Puts a gate on the path, if it is unknown.
 fn enter(names: &Names<'_>, gate: usize, search: &mut Search) -> Result<(), AllocError> {
     let Some(state) = search.states.get_mut(gate) else {
         return Ok(());
@@ -91,7 +92,7 @@ fn enter(names: &Names<'_>, gate: usize, search: &mut Search) -> Result<(), Allo
     Ok(())
 }
 
-/// Looks at the next read of the gate at the end of the path, or leaves the gate.
+/// Visits the next read of the gate at the end of the path, or leaves the gate.
 fn step(
     alloc: Global,
     names: &Names<'_>,
@@ -117,8 +118,8 @@ fn step(
     enter(names, gate, search)
 }
 
-/// Tells the cycle that the end of the path closes by reading a gate of the path, where none of its
-/// gates was told of.
+/// Adds the cycle that the end of the path closes by reading a gate of the path, if none of its
+/// gates was reported.
 fn close(alloc: Global, root: usize, gate: usize, search: &mut Search) -> Result<(), AllocError> {
     let mut gates = vec![in alloc; gate]?;
     let mut is_told = false;

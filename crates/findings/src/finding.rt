@@ -1,4 +1,4 @@
-//! Faults of a text with their places, and how they are told.
+//! Errors of a file with their places, and how they are printed.
 
 use crate::note::Note;
 use crate::tokens::Place;
@@ -7,7 +7,7 @@ use patterns::TestFault;
 use std::alloc::{AllocError, Global};
 use std::fmt::{self, Display, Formatter};
 
-/// Why a text is refused.
+/// An error of a file.
 #[derive(Clone, Copy, Debug, PartialEq, Eq)]
 pub enum Fault {
     Bench(BenchFault),
@@ -15,7 +15,7 @@ pub enum Fault {
 }
 
 impl Fault {
-    /// The line that it names, from 1.
+    /// Returns the line that it names, from 1.
     pub(crate) fn line(self) -> Option<u64> {
         match self {
             Fault::Bench(
@@ -31,7 +31,7 @@ impl Fault {
 }
 
 impl Display for Fault {
-    /// Writes the words of the refusal, without the text and the line that it names.
+    /// Writes the words of the error, without the file and the line that it names.
     fn fmt<W: fmt::Write>(&self, f: &mut Formatter<W>) -> fmt::Result {
         match self {
             Fault::Bench(fault) => fmt_bench(fault, f),
@@ -40,7 +40,7 @@ impl Display for Fault {
     }
 }
 
-/// Writes the words of a bench text's refusal.
+/// Writes the words of a bench file's error.
 fn fmt_bench<W: fmt::Write>(fault: &BenchFault, f: &mut Formatter<W>) -> fmt::Result {
     match fault {
         BenchFault::TooLarge(limit) => write!(f, "more than {limit}"),
@@ -53,7 +53,7 @@ fn fmt_bench<W: fmt::Write>(fault: &BenchFault, f: &mut Formatter<W>) -> fmt::Re
     }
 }
 
-/// Writes the words of a test text's refusal.
+/// Writes the words of a test file's error.
 fn fmt_tests<W: fmt::Write>(fault: &TestFault, f: &mut Formatter<W>) -> fmt::Result {
     match fault {
         TestFault::BadByte(_) => f.write_str("not 0 or 1"),
@@ -63,46 +63,46 @@ fn fmt_tests<W: fmt::Write>(fault: &TestFault, f: &mut Formatter<W>) -> fmt::Res
     }
 }
 
-/// A fault of a text: the refusal, the line where it is, and what is said of it.
+/// An error of a file with the line where it is, and a note on it.
 #[derive(Debug, Drop)]
 pub struct Finding<'a> {
-    /// The refusal, which names the line.
+    /// The error, which names the line.
     pub fault: Fault,
-    /// The line's bytes without its end; none where the refusal names no line.
+    /// The line's bytes without its end; none if the error names no line.
     pub text: &'a [u8],
     /// The place on the line.
     pub place: Place,
-    /// What was found and expected.
+    /// The note: what was found and expected.
     pub note: Note<'a>,
 }
 
-/// All faults of a text: the refusal first, then others, and how many more there are.
+/// All errors of a file: the first, then others, and how many more there are.
 #[derive(Debug, Drop)]
 pub struct Findings<'a> {
-    /// The refusal of the text.
+    /// The error that the reader reports.
     pub first: Finding<'a>,
     /// Others, at most 19.
     pub others: Vec<Finding<'a>>,
-    /// How many there are besides.
+    /// The number of further errors.
     pub more: u64,
 }
 
-/// How many faults are kept beside the first.
+/// The number of errors that are kept beside the first.
 const MAX_OTHERS: usize = 19;
 
-/// Faults in the order in which they were found.
+/// Errors in the order in which they were found.
 #[derive(Drop)]
 pub struct Found<'a> {
-    /// The first that was found.
+    /// The first error.
     pub first: Option<Finding<'a>>,
     /// Others, at most 19.
     pub others: Vec<Finding<'a>>,
-    /// How many were found besides.
+    /// The number of further errors.
     pub more: u64,
 }
 
 impl<'a> Found<'a> {
-    /// No fault yet.
+    /// Makes a list without errors.
     pub(crate) fn new(alloc: Global) -> Self {
         Found {
             first: None,
@@ -111,17 +111,17 @@ impl<'a> Found<'a> {
         }
     }
 
-    /// Whether one more fault is counted alone.
+    /// Returns whether one more error is only counted.
     pub(crate) fn is_full(&self) -> bool {
         self.others.len() >= MAX_OTHERS
     }
 
-    /// Counts one more fault.
+    /// Counts one more error.
     pub(crate) fn count(&mut self) {
         self.more = self.more.saturating_add(1);
     }
 
-    /// Adds a fault, or counts it alone.
+    /// Adds an error, or only counts it.
     pub(crate) fn push(&mut self, finding: Finding<'a>) -> Result<(), AllocError> {
         if self.is_full() {
             self.count();
@@ -136,13 +136,13 @@ impl<'a> Found<'a> {
     }
 }
 
-/// Findings of a text with the path of its file. Each is told as `PATH:LINE: WORDS`, the line's
-/// text, a mark under the place, and what was found and expected.
+/// The findings of a file with its path. Each is printed as `PATH:LINE: WORDS`, the line's text, a
+/// mark under the place, and what was found and expected.
 #[derive(Clone, Copy)]
 pub struct Located<'p, 'f, 't> {
     /// The path of the file.
     pub path: &'p str,
-    /// Its faults.
+    /// Its errors.
     pub findings: &'f Findings<'t>,
 }
 
@@ -183,13 +183,13 @@ fn fmt_finding<W: fmt::Write>(
     }
 }
 
-/// How many bytes of a line are shown.
+/// The number of bytes of a line that are shown.
 const SHOWN: usize = 80;
 
-/// How many of these stand before the place, where the line is long.
+/// The number of shown bytes before the place, if the line is long.
 const BEFORE: usize = 40;
 
-/// Writes a line's text, from a place near the mark where the line is long, and the mark below.
+/// Writes a line's text, from a place near the mark if the line is long, and the mark below.
 fn fmt_mark<W: fmt::Write>(text: &[u8], place: Place, f: &mut Formatter<W>) -> fmt::Result {
     let from = if text.len() > SHOWN {
         place.start.saturating_sub(BEFORE)
@@ -207,7 +207,7 @@ fn fmt_mark<W: fmt::Write>(text: &[u8], place: Place, f: &mut Formatter<W>) -> f
     f.write_str("\n")
 }
 
-/// Writes the bytes of a line that are shown: a space for a tab, and `?` for what is no ASCII.
+/// Writes the shown bytes of a line: a space for a tab, and `?` for a byte that is no ASCII.
 fn fmt_bytes<W: fmt::Write>(bytes: &[u8], f: &mut Formatter<W>) -> fmt::Result {
     for byte in bytes.iter().take(SHOWN) {
         f.write_char(match *byte {

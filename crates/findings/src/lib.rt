@@ -1,8 +1,8 @@
-//! What is wrong with a text that was refused, line by line: each fault with its place, what was
-//! found and expected, and what may have been meant. And what is no fault, but seldom meant.
+//! The errors of a file line by line, each with its place, what was found and expected, and a
+//! suggestion. Also warnings: oddities that are no errors.
 //!
-//! Whether a text is refused, and by which fault, is what `bench_net` and `patterns` say. This is a
-//! second look at the lines, which decides nothing and promises nothing but that it is safe.
+//! `bench_net` and `patterns` decide whether a file is accepted, and which error is its first. This
+//! is a second look at the lines, which decides nothing and only promises that it is safe.
 #![tactic(auto)]
 
 mod bench;

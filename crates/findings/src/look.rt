@@ -1,6 +1,6 @@
-//! A second look at one line of a bench text, with the places of what it finds.
+//! A second look at one line of a bench file, with the places of its tokens.
 //!
-//! Whether a text is accepted is never decided here but by `bench_net::read_bench`.
+//! Only `bench_net::read_bench` decides whether a file is accepted.
 
 use crate::note::{Note, OfAbc};
 use crate::suggest::{nearest_gate, nearest_port};
@@ -15,7 +15,7 @@ pub(crate) struct Name<'a> {
     pub(crate) place: Place,
 }
 
-/// What a line states.
+/// The statement of a line.
 #[derive(Drop)]
 pub(crate) struct Statement<'a> {
     pub(crate) defines: Option<Name<'a>>,
@@ -23,7 +23,7 @@ pub(crate) struct Statement<'a> {
     pub(crate) reads: Vec<Name<'a>>,
 }
 
-/// Why a line states nothing.
+/// The reason why a line is no statement.
 #[derive(Drop)]
 pub(crate) struct Wrong<'a> {
     pub(crate) place: Place,
@@ -32,7 +32,7 @@ pub(crate) struct Wrong<'a> {
     pub(crate) meant: Option<&'a str>,
 }
 
-/// What a line is.
+/// The result of looking at a line.
 #[derive(Drop)]
 pub(crate) enum Look<'a> {
     Nothing,
@@ -40,7 +40,7 @@ pub(crate) enum Look<'a> {
     Wrong(Wrong<'a>),
 }
 
-/// What ends the look at a line.
+/// The reason why the look at a line ends early.
 #[derive(Drop)]
 enum Stop<'a> {
     Wrong(Place, Note<'a>),
@@ -59,12 +59,12 @@ impl<T: Drop> From<AllocFailed<T>> for Stop<'_> {
     }
 }
 
-/// A place with another token than is expected.
+/// Returns the stop at a place with another token than is expected.
 fn unexpected<'a>(found: Token<'a>, place: Place, expected: &'static str) -> Stop<'a> {
     Stop::Wrong(place, Note::Expected { found, expected })
 }
 
-/// The name at a place of a line.
+/// Returns the name at a place of a line.
 fn name_from<'a>(line: &'a [u8], at: usize, expected: &'static str) -> Result<Name<'a>, Stop<'a>> {
     let spot = token_from(line, at);
     match spot.token {
@@ -76,7 +76,7 @@ fn name_from<'a>(line: &'a [u8], at: usize, expected: &'static str) -> Result<Na
     }
 }
 
-/// The place behind an opening parenthesis.
+/// Returns the place after an opening parenthesis.
 fn open_from<'a>(line: &'a [u8], at: usize) -> Result<usize, Stop<'a>> {
     let spot = token_from(line, at);
     match spot.token {
@@ -85,7 +85,7 @@ fn open_from<'a>(line: &'a [u8], at: usize) -> Result<usize, Stop<'a>> {
     }
 }
 
-/// Looks that a line ends at a place.
+/// Checks that a line ends at a place.
 fn end_from<'a>(line: &'a [u8], at: usize) -> Result<(), Stop<'a>> {
     let spot = token_from(line, at);
     match spot.token {
@@ -94,7 +94,7 @@ fn end_from<'a>(line: &'a [u8], at: usize) -> Result<(), Stop<'a>> {
     }
 }
 
-/// The arguments from a place up to the parenthesis that ends the line.
+/// Returns the arguments from a place up to the parenthesis that ends the line.
 fn arguments<'a>(alloc: Global, line: &'a [u8], from: usize) -> Result<Vec<Name<'a>>, Stop<'a>> {
     let mut names = Vec::new(alloc);
     let mut at = from;
@@ -115,7 +115,7 @@ fn arguments<'a>(alloc: Global, line: &'a [u8], from: usize) -> Result<Vec<Name<
     Err(unexpected(Token::End, Place { start: at, len: 0 }, "a name"))
 }
 
-/// The only argument of a word that takes one.
+/// Returns the only argument of a word that takes one.
 fn only<'a>(word: Name<'a>, arguments: &[Name<'a>]) -> Result<Name<'a>, Stop<'a>> {
     match arguments {
         [name] => Ok(*name),
@@ -131,7 +131,7 @@ fn only<'a>(word: Name<'a>, arguments: &[Name<'a>]) -> Result<Name<'a>, Stop<'a>
     }
 }
 
-/// `INPUT ( n )` or `OUTPUT ( n )`, from the word before the parenthesis and the arguments.
+/// Makes `INPUT ( n )` or `OUTPUT ( n )` from the word before the parenthesis and the arguments.
 fn port<'a>(
     alloc: Global,
     word: Name<'a>,
@@ -167,12 +167,12 @@ static MANY: [&str; 6] = ["AND", "NAND", "OR", "NOR", "XOR", "XNOR"];
 /// The words of gates that take one argument.
 static ONE: [&str; 3] = ["NOT", "BUFF", "BUF"];
 
-/// Whether a word in any case is in a list.
+/// Returns whether a word in any case is in a list.
 fn is_in(word: &str, list: &[&str]) -> bool {
     list.iter().any(|known| word.eq_ignore_ascii_case(*known))
 }
 
-/// `q = DFF ( d )` or `n = KIND ( a , b , .. )`, from the name, the word and the arguments.
+/// Makes `q = DFF ( d )` or `n = KIND ( a , b , .. )` from the name, the word and the arguments.
 fn driven<'a>(
     alloc: Global,
     name: Name<'a>,
@@ -200,7 +200,7 @@ fn driven<'a>(
 /// The words of ABC's constants.
 static CONSTANTS: [&str; 2] = ["vdd", "gnd"];
 
-/// What the word behind `=` is, where ABC alone writes it so.
+/// Returns the statement of ABC that the word after `=` begins, if no bench file has it.
 fn of_abc(line: &[u8], word: Name<'_>) -> Option<OfAbc> {
     match token_from(line, word.place.end()).token {
         Token::End if is_in(word.text, &CONSTANTS) => Some(OfAbc::Constant),
@@ -210,7 +210,7 @@ fn of_abc(line: &[u8], word: Name<'_>) -> Option<OfAbc> {
     }
 }
 
-/// Looks that the word behind `=` isn't one that ABC alone writes.
+/// Checks that the word after `=` isn't one that only ABC writes.
 fn no_abc<'a>(line: &'a [u8], word: Name<'a>) -> Result<(), Stop<'a>> {
     match of_abc(line, word) {
         Some(what) => Err(Stop::Wrong(word.place, Note::OfAbc(what))),
@@ -218,7 +218,7 @@ fn no_abc<'a>(line: &'a [u8], word: Name<'a>) -> Result<(), Stop<'a>> {
     }
 }
 
-/// The statement of a line that begins with a name.
+/// Returns the statement of a line that begins with a name.
 fn stated_behind<'a>(
     alloc: Global,
     line: &'a [u8],
@@ -242,7 +242,7 @@ fn stated_behind<'a>(
     }
 }
 
-/// The name that a line seems to define.
+/// Returns the name that a line seems to define.
 fn meant_by<'a>(line: &'a [u8]) -> Option<&'a str> {
     let first = token_from(line, 0);
     let mark = token_from(line, first.place.end());
@@ -254,7 +254,7 @@ fn meant_by<'a>(line: &'a [u8]) -> Option<&'a str> {
     }
 }
 
-/// Whether a line holds bits alone.
+/// Returns whether a line has only bits.
 fn is_test_row(line: &[u8]) -> bool {
     let spot = token_from(line, 0);
     let Token::Word(word) = spot.token else {
@@ -263,7 +263,7 @@ fn is_test_row(line: &[u8]) -> bool {
     are_bits(word.as_bytes()) && matches!(token_from(line, spot.place.end()).token, Token::End)
 }
 
-/// A line that states nothing.
+/// Returns the reason why a line is no statement.
 fn nothing_stated<'a>(line: &'a [u8], place: Place, note: Note<'a>) -> Wrong<'a> {
     if is_test_row(line) {
         let spot = token_from(line, 0);
@@ -292,13 +292,13 @@ pub(crate) fn look_at<'a>(alloc: Global, line: &'a [u8]) -> Result<Look<'a>, All
     }
 }
 
-/// The statement of a line that has a token.
+/// Returns the statement of a line that has a token.
 fn stated_from<'a>(alloc: Global, line: &'a [u8]) -> Result<Statement<'a>, Stop<'a>> {
     let first = name_from(line, 0, "a name, INPUT or OUTPUT")?;
     stated_behind(alloc, line, first)
 }
 
-/// The line of this number, from 1, of a text, without its end.
+/// Returns the line of this number, from 1, of a file, without its end.
 pub(crate) fn line_at<'a>(text: &'a [u8], number: u64) -> &'a [u8] {
     let place = usize::try_from(number).unwrap_or(0);
     let mut lines = text.split(|byte| *byte == b'\n');

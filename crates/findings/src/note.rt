@@ -1,12 +1,12 @@
-//! What is said of a fault beside the words of the refusal.
+//! The notes on errors beside their words.
 
 use crate::tokens::{Short, Token};
 use std::fmt::{self, Display, Formatter};
 
-/// What was found at a fault, what was expected there, and what may have been meant.
+/// A note on an error: what was found, what was expected, and a suggestion.
 #[derive(Debug, Drop)]
 pub enum Note<'a> {
-    /// Nothing more than the words of the refusal.
+    /// Nothing beside the words of the error.
     Nothing,
     /// Another token than is expected.
     Expected {
@@ -23,14 +23,14 @@ pub enum Note<'a> {
         word: &'a str,
         near: Option<&'static str>,
     },
-    /// What ABC writes into such a text, and no bench text has.
+    /// A statement that ABC writes and no bench file has.
     OfAbc(OfAbc),
     /// Another number of arguments than one.
     OneArgument {
         word: &'a str,
         found: usize,
     },
-    /// A line of a bench text that looks like a test.
+    /// A line of a bench file that looks like a test.
     TestRow,
     /// No line defines the name.
     NotDefined {
@@ -42,7 +42,7 @@ pub enum Note<'a> {
         name: &'a str,
         line: u64,
     },
-    /// Gates of which each feeds the next, from one round to the same.
+    /// The gates on a cycle: each feeds the next, and the last the first.
     Cycle {
         names: Vec<&'a str>,
     },
@@ -51,18 +51,18 @@ pub enum Note<'a> {
         name: &'a str,
         names: Vec<&'a str>,
     },
-    /// How many there are of what there is too much of.
+    /// The number of what is past its limit.
     TooMany {
         found: usize,
         what: &'static str,
     },
-    /// The text has no statement.
+    /// The file has no statement.
     NoStatement,
     /// A byte of a test that is neither `0` nor `1`.
     NoBit(u8),
     /// A row with a number and a colon before its bits.
     NumberedRow,
-    /// A line of a test text that looks like one of a bench text.
+    /// A line of a test file that looks like a line of a bench file.
     BenchLine,
     /// Another number of bits than the circuit has sources.
     Width {
@@ -72,7 +72,7 @@ pub enum Note<'a> {
     },
 }
 
-/// What ABC writes into a text of this kind, and no bench text has.
+/// A statement that ABC writes into a netlist, and no bench file has.
 #[derive(Clone, Copy, Debug, PartialEq, Eq)]
 pub enum OfAbc {
     /// `n = vdd` or `n = gnd`.
@@ -93,12 +93,12 @@ impl Display for OfAbc {
     }
 }
 
-/// The end of a number of things.
+/// Returns the plural ending for a number of things.
 fn plural(count: usize) -> &'static str {
     if count == 1 { "" } else { "s" }
 }
 
-/// Writes what may have been meant.
+/// Writes a suggestion.
 fn write_near<W: fmt::Write>(near: Option<&str>, f: &mut Formatter<W>) -> fmt::Result {
     match near {
         Some(word) => write!(f, "; did you mean {word}?"),
@@ -106,7 +106,7 @@ fn write_near<W: fmt::Write>(near: Option<&str>, f: &mut Formatter<W>) -> fmt::R
     }
 }
 
-/// Writes that no line defines a name, and which may have been meant.
+/// Writes that no line defines a name, and a suggestion.
 fn write_not_defined<W: fmt::Write>(
     name: &str,
     near: Option<&str>,
@@ -119,14 +119,14 @@ fn write_not_defined<W: fmt::Write>(
     }
 }
 
-/// What is said of a row with a number and a colon before its bits.
+/// The note on a row with a number and a colon before its bits.
 const NUMBERED: &str =
     "looks like numbered rows of another tool; docs/VERILOG.md has a line that makes tests of them";
 
-/// How many names of a cycle are told.
+/// The number of names of a cycle that are printed.
 const MAX_NAMES: usize = 12;
 
-/// Writes the names of a cycle, of a long one those at its front.
+/// Writes the names of a cycle; of a long one only the first ones.
 fn write_cycle<W: fmt::Write>(names: &[&str], f: &mut Formatter<W>) -> fmt::Result {
     for (place, name) in names.iter().enumerate() {
         if place >= MAX_NAMES {
@@ -154,7 +154,7 @@ fn write_no_bit<W: fmt::Write>(byte: u8, f: &mut Formatter<W>) -> fmt::Result {
     }
 }
 
-/// Writes how wide a test is and how wide it should be.
+/// Writes the width of a test and the width that it should have.
 fn write_width<W: fmt::Write>(
     found: usize,
     inputs: usize,
@@ -208,7 +208,7 @@ impl Display for Note<'_> {
 }
 
 impl Note<'_> {
-    /// Writes that a text looks like the other one.
+    /// Writes that a file looks like the other one.
     fn fmt_swapped<W: fmt::Write>(&self, f: &mut Formatter<W>) -> fmt::Result {
         f.write_str(match self {
             Note::TestRow => "looks like a test; are --bench and --tests swapped?",

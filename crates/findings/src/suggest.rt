@@ -1,10 +1,10 @@
-//! What a word may have been meant for.
+//! Suggestions for misspelled words.
 
 use indexmap::IndexSet;
 use std::alloc::{AllocError, Global};
 use strsim::osa_distance;
 
-/// The words of gates and flip-flops, each with what it is called here.
+/// The words for gates and flip-flops in other formats and here, each with its name here.
 static GATES: [(&str, &str); 20] = [
     ("AND", "AND"),
     ("NAND", "NAND"),
@@ -38,12 +38,14 @@ static PORTS: [(&str, &str); 6] = [
     ("PO", "OUTPUT"),
 ];
 
-/// Up to how many changes a word is taken for another: letters, and neighbours in the wrong order.
+/// Returns the number of changes up to which a word counts as another one misspelled. A change is a
+/// letter, or two neighbours in the wrong order.
 fn far(word: &str) -> usize {
     1 + word.len() / 4
 }
 
-/// The word of a table that a word in any case is nearest to, by its changed letters and by neighbours that changed places.
+/// Returns the word of a table that is nearest to a word in any case, by changed letters and by
+/// neighbours in the wrong order.
 fn nearest_of(
     alloc: Global,
     word: &str,
@@ -63,20 +65,20 @@ fn nearest_of(
     Ok(near)
 }
 
-/// The gate that a word may have been meant for.
+/// Returns the gate that a word may stand for.
 pub(crate) fn nearest_gate(alloc: Global, word: &str) -> Result<Option<&'static str>, AllocError> {
     nearest_of(alloc, word, &GATES)
 }
 
-/// INPUT or OUTPUT, where a word may have been meant for it.
+/// Returns INPUT or OUTPUT, if a word may stand for it.
 pub(crate) fn nearest_port(alloc: Global, word: &str) -> Result<Option<&'static str>, AllocError> {
     nearest_of(alloc, word, &PORTS)
 }
 
-/// How many names are looked at for one that is near.
+/// The number of names that are compared.
 const MAX_LOOKED: usize = 100_000;
 
-/// The name among names that a word is nearest to, if one is near.
+/// Returns the name that is nearest to a word, if one is near.
 pub(crate) fn nearest_name<'a>(
     alloc: Global,
     word: &str,

@@ -1,4 +1,4 @@
-//! All faults of a test text, row by row.
+//! All errors of a test file, row by row.
 
 use crate::finding::{Fault, Finding, Found};
 use crate::look::{Look, line_at, look_at};
@@ -8,8 +8,8 @@ use patterns::{MAX_TESTS, TestFault};
 use std::alloc::{AllocError, Global};
 use text_lines::{Row, Rows, is_blank};
 
-/// The faults of the rows of a test text, in their order, where a row has a bit for each of so many
-/// inputs and then one for each of so many flip-flops. Only memory can be refused.
+/// Finds the errors of the rows of a test file, in their order. A row has a bit for each of the
+/// inputs and then one for each of the flip-flops. Only memory can make it fail.
 pub fn find_in_tests<'a>(
     alloc: Global,
     text: &'a [u8],
@@ -21,14 +21,14 @@ pub fn find_in_tests<'a>(
     Ok(found)
 }
 
-/// What a test has a bit for.
+/// The bits of a test.
 #[derive(Clone, Copy)]
 struct Width {
     inputs: usize,
     cells: usize,
 }
 
-/// Looks at each row of a text.
+/// Checks each row of a file.
 fn look_at_rows<'a>(
     alloc: Global,
     text: &'a [u8],
@@ -49,7 +49,7 @@ fn look_at_rows<'a>(
     Ok(())
 }
 
-/// Tells that there are too many rows.
+/// Reports that there are too many rows.
 fn tell_too_many<'a>(rows: u32, found: &mut Found<'a>) -> Result<(), AllocError> {
     found.push(Finding {
         fault: Fault::Tests(TestFault::TooMany),
@@ -67,18 +67,18 @@ fn tell_too_many<'a>(rows: u32, found: &mut Found<'a>) -> Result<(), AllocError>
 struct PlacedRow<'a> {
     row: Row<'a>,
     line: &'a [u8],
-    /// Where the row begins on the line.
+    /// The place where the row begins on the line.
     start: usize,
 }
 
-/// A row of a text with its line.
+/// Returns a row of a file with its line.
 fn placed<'a>(text: &'a [u8], row: Row<'a>) -> PlacedRow<'a> {
     let line = line_at(text, row.line);
     let start = line.iter().take_while(|byte| is_blank(**byte)).count();
     PlacedRow { row, line, start }
 }
 
-/// Tells what is wrong with a row, if anything is.
+/// Reports the error of a row, if it has one.
 fn tell_row<'a>(
     alloc: Global,
     text: &'a [u8],
@@ -105,7 +105,7 @@ fn tell_row<'a>(
     found.push(finding)
 }
 
-/// A row of a wrong width.
+/// Returns the error of a row of a wrong width.
 fn bad_width<'a>(placed: PlacedRow<'a>, width: Width) -> Finding<'a> {
     let len = placed.row.bytes.len();
     Finding {
@@ -123,7 +123,7 @@ fn bad_width<'a>(placed: PlacedRow<'a>, width: Width) -> Finding<'a> {
     }
 }
 
-/// A row with a byte at this place that is no bit.
+/// Returns the error of a row with a byte at this place that is no bit.
 fn bad_byte<'a>(
     alloc: Global,
     placed: PlacedRow<'a>,
@@ -140,7 +140,7 @@ fn bad_byte<'a>(
     })
 }
 
-/// What is said of the first byte of a row that is no bit.
+/// Returns the note on the first byte of a row that is no bit.
 fn byte_note<'a>(alloc: Global, placed: PlacedRow<'a>, at: usize) -> Result<Note<'a>, AllocError> {
     if matches!(look_at(alloc, placed.line)?, Look::Stated(_)) {
         return Ok(Note::BenchLine);

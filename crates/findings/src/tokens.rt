@@ -1,4 +1,4 @@
-//! The tokens of a line of a bench text, with their places.
+//! The tokens of a line of a bench file, with their places.
 
 use std::fmt::{self, Display, Formatter};
 use std::str;
@@ -9,18 +9,18 @@ use text_lines::is_blank;
 pub struct Place {
     /// Its first byte, from 0.
     pub start: usize,
-    /// How many bytes it has.
+    /// Its number of bytes.
     pub len: usize,
 }
 
 impl Place {
-    /// The byte behind it.
+    /// Returns the byte after it.
     pub(crate) fn end(self) -> usize {
         self.start.saturating_add(self.len)
     }
 }
 
-/// What stands on a line of a bench text.
+/// A token of a line of a bench file.
 #[derive(Clone, Copy, Debug, PartialEq, Eq)]
 pub enum Token<'a> {
     Open,
@@ -30,7 +30,7 @@ pub enum Token<'a> {
     Word(&'a str),
     /// The line ends here, or a comment begins.
     End,
-    /// A byte that may stand in a comment alone.
+    /// A byte that may only be in a comment.
     Bad(u8),
 }
 
@@ -48,10 +48,10 @@ impl Display for Token<'_> {
     }
 }
 
-/// How many bytes of a word are told.
+/// The number of bytes of a word that are printed.
 const MAX_TOLD: usize = 80;
 
-/// A word as it is told: of a long one the front.
+/// A word as it is printed: a long one is cut off.
 #[derive(Clone, Copy)]
 pub(crate) struct Short<'a>(pub(crate) &'a str);
 
@@ -71,17 +71,17 @@ pub(crate) struct Spot<'a> {
     pub(crate) place: Place,
 }
 
-/// Whether the byte may stand in a word.
+/// Returns whether the byte may be in a word.
 fn is_word_byte(byte: u8) -> bool {
     matches!(byte, 0x21..=0x7e) && !matches!(byte, b'(' | b')' | b',' | b'=' | b'#')
 }
 
-/// The bytes from a place on, and none past the end.
+/// Returns the bytes from a place on, and none past the end.
 pub(crate) fn behind<'a>(bytes: &'a [u8], at: usize) -> &'a [u8] {
     bytes.get(at..).unwrap_or(&[])
 }
 
-/// The token at the front of bytes, and how many bytes it has.
+/// Returns the token at the front of bytes, and its number of bytes.
 fn front_token<'a>(bytes: &'a [u8]) -> (Token<'a>, usize) {
     match bytes {
         [] | [b'#', ..] => (Token::End, 0),
@@ -93,7 +93,7 @@ fn front_token<'a>(bytes: &'a [u8]) -> (Token<'a>, usize) {
     }
 }
 
-/// The word at the front of bytes, or their first byte where none stands there.
+/// Returns the word at the front of bytes, or their first byte if there is no word.
 fn word_token<'a>(bytes: &'a [u8], first: u8) -> (Token<'a>, usize) {
     let len = bytes.iter().take_while(|byte| is_word_byte(**byte)).count();
     let word = bytes.get(..len).unwrap_or(&[]);
@@ -103,7 +103,7 @@ fn word_token<'a>(bytes: &'a [u8], first: u8) -> (Token<'a>, usize) {
     }
 }
 
-/// The next token of a line from a place on.
+/// Returns the next token of a line from a place on.
 pub(crate) fn token_from<'a>(line: &'a [u8], at: usize) -> Spot<'a> {
     let rest = behind(line, at);
     let blanks = rest.iter().take_while(|byte| is_blank(**byte)).count();

@@ -1,4 +1,4 @@
-//! What is no fault of a text, but seldom meant.
+//! Warnings: oddities of a circuit or its tests that are no errors.
 
 ghost use Rattle.std.specs.Prelude.{◌<◌};
 
@@ -8,10 +8,10 @@ use patterns::Tests;
 use std::alloc::{AllocError, Global};
 use std::fmt::{self, Display, Formatter};
 
-/// How many names of a list are told.
+/// The number of names of a list that are printed.
 const MAX_NAMES: usize = 5;
 
-/// Names of signals, of many those at the front.
+/// Names of signals; of many only the first ones.
 #[derive(Debug, Drop)]
 pub struct NameList<'a> {
     names: Vec<&'a str>,
@@ -19,7 +19,7 @@ pub struct NameList<'a> {
 }
 
 impl<'a> NameList<'a> {
-    /// No names.
+    /// Makes a list without names.
     fn new(alloc: Global) -> Self {
         NameList {
             names: Vec::new(alloc),
@@ -37,7 +37,7 @@ impl<'a> NameList<'a> {
         Ok(())
     }
 
-    /// Whether there is none.
+    /// Returns whether there is none.
     fn is_empty(&self) -> bool {
         self.names.is_empty()
     }
@@ -58,7 +58,7 @@ impl Display for NameList<'_> {
     }
 }
 
-/// What is no fault of a text, but seldom meant.
+/// An oddity that is no error.
 #[derive(Debug, Drop)]
 pub enum Warning<'a> {
     /// The circuit has no OUTPUT line and no flip-flop, so no test detects anything.
@@ -71,10 +71,10 @@ pub enum Warning<'a> {
     NoTest,
     /// A test that is the same as one before it, both counted from 0, and how many more there are.
     SameTest { test: u32, as_test: u32, more: u64 },
-    /// A pair of tests that is the same as one before it, each named by the number of its first test,
-    /// and how many more there are.
+    /// A pair of tests that is the same as one before it, both named by the number of their first
+    /// test, and how many more there are.
     SamePair { test: u32, as_test: u32, more: u64 },
-    /// The last test, where tests are pairs and their number is odd.
+    /// The last test, if tests are pairs and their number is odd.
     NoSecond { test: u32 },
     /// Inputs and flip-flops that have the same bit in all tests.
     Unturned(NameList<'a>),
@@ -135,7 +135,7 @@ fn fmt_same_pair<W: fmt::Write>(
     }
 }
 
-/// The warnings of a circuit. Only memory can be refused.
+/// Returns the warnings of a circuit. Only memory can make it fail.
 pub fn circuit_warnings<'a>(
     alloc: Global,
     circuit: &'a Circuit,
@@ -164,7 +164,7 @@ pub fn circuit_warnings<'a>(
     Ok(warnings)
 }
 
-/// How many of the readers are OUTPUT lines.
+/// Returns how many of the sinks are OUTPUT lines.
 fn output_lines(sinks: &[Sink]) -> usize {
     sinks
         .iter()
@@ -172,7 +172,7 @@ fn output_lines(sinks: &[Sink]) -> usize {
         .count()
 }
 
-/// The warnings of tests for a circuit. Only memory can be refused.
+/// Returns the warnings of tests for a circuit. Only memory can make it fail.
 pub fn test_warnings<'a>(
     alloc: Global,
     circuit: &'a Circuit,
@@ -201,8 +201,8 @@ pub fn test_warnings<'a>(
     Ok(warnings)
 }
 
-/// The warnings of a list of launch and capture pairs of tests for a circuit: tests 0 and 1 are a
-/// pair, 2 and 3, and so on. Only memory can be refused.
+/// Returns the warnings of a list of launch/capture pairs for a circuit: tests 0 and 1 are a pair,
+/// 2 and 3, and so on. Only memory can make it fail.
 pub fn pair_warnings<'a>(
     alloc: Global,
     circuit: &'a Circuit,
@@ -235,7 +235,7 @@ pub fn pair_warnings<'a>(
     Ok(warnings)
 }
 
-/// Adds the warning of sources that have the same bit in all tests, of two or more.
+/// Adds the warning of sources that have the same bit in all of two or more tests.
 fn add_unturned<'a>(
     warnings: &mut Vec<Warning<'a>>,
     alloc: Global,
@@ -249,7 +249,7 @@ fn add_unturned<'a>(
     Ok(())
 }
 
-/// The sources that have the same bit in all tests.
+/// Returns the sources that have the same bit in all tests.
 fn unturned_sources<'a>(
     alloc: Global,
     circuit: &'a Circuit,
@@ -268,7 +268,7 @@ fn unturned_sources<'a>(
     Ok(unturned)
 }
 
-/// How many tests have a 1 at a source.
+/// Returns how many tests have a 1 at a source.
 fn ones_of(tests: &Tests, source: u32) -> u64
     requires { source < tests.now.width }
 {
@@ -279,7 +279,7 @@ fn ones_of(tests: &Tests, source: u32) -> u64
     ones
 }
 
-/// The name of a source, by its place in a test.
+/// Returns the name of a source, by its place in a test.
 fn source_name(circuit: &Circuit, source: usize) -> Option<&str> {
     let inputs = circuit.inputs();
     let signal = match inputs.get(source) {
@@ -296,7 +296,7 @@ fn source_name(circuit: &Circuit, source: usize) -> Option<&str> {
     }
 }
 
-/// A test with a number that equal tests have in common.
+/// Returns a number for a test, which is the same for equal tests.
 fn sum_of(row: &[u8]) -> u64 {
     let mut sum: u64 = 0xcbf2_9ce4_8422_2325;
     for byte in row {
@@ -305,7 +305,7 @@ fn sum_of(row: &[u8]) -> u64 {
     sum
 }
 
-/// What of a list of tests stands by itself.
+/// The unit of a list of tests.
 #[derive(Clone, Copy)]
 enum Unit {
     /// Each test.
@@ -315,7 +315,7 @@ enum Unit {
 }
 
 impl Unit {
-    /// How many of them a list has.
+    /// Returns the number of units of a list.
     fn count(self, tests: &Tests) -> u32 {
         match self {
             Unit::Test => tests.count(),
@@ -323,7 +323,7 @@ impl Unit {
         }
     }
 
-    /// Adds the bits of the one of this number to a row.
+    /// Adds the bits of the unit of this number to a row.
     fn push_row(self, tests: &Tests, number: u32, row: &mut Vec<u8>) -> Result<(), AllocError> {
         match self {
             Unit::Test => push_test(tests, number, row),
@@ -336,7 +336,7 @@ impl Unit {
     }
 }
 
-/// Adds the bits of a test to a row, where the list has it.
+/// Adds the bits of a test to a row, if the list has it.
 fn push_test(tests: &Tests, test: u32, row: &mut Vec<u8>) -> Result<(), AllocError> {
     if test < tests.count() {
         tests.push_row(test, row)?;
@@ -344,8 +344,8 @@ fn push_test(tests: &Tests, test: u32, row: &mut Vec<u8>) -> Result<(), AllocErr
     Ok(())
 }
 
-/// A test or a pair that is the same as one before it, the first of them, by their numbers, and how
-/// many more there are.
+/// The first unit that is the same as one before it, both by their numbers, and how many more there
+/// are.
 #[derive(Clone, Copy)]
 struct Same {
     test: u32,
@@ -353,7 +353,7 @@ struct Same {
     more: u64,
 }
 
-/// The first that is the same as one before it.
+/// Returns the first unit that is the same as one before it.
 fn first_same(alloc: Global, tests: &Tests, unit: Unit) -> Result<Option<Same>, AllocError> {
     let same = same_as_before(alloc, tests, unit)?;
     let Some(first) = same.iter().copied().min() else {
@@ -366,7 +366,7 @@ fn first_same(alloc: Global, tests: &Tests, unit: Unit) -> Result<Option<Same>, 
     }))
 }
 
-/// Each that is the same as one before it, with that one.
+/// Returns each unit that is the same as one before it, with that one.
 fn same_as_before(alloc: Global, tests: &Tests, unit: Unit) -> Result<Vec<(u32, u32)>, AllocError> {
     let sums = sums_of(alloc, tests, unit)?;
     let mut same = Vec::new(alloc);
@@ -390,8 +390,8 @@ fn same_as_before(alloc: Global, tests: &Tests, unit: Unit) -> Result<Vec<(u32, 
     Ok(same)
 }
 
-/// The numbers of all, each with a sum that equal ones have in common, by the sums and then in their
-/// order.
+/// Returns the numbers of all units, each with a sum that equal ones share, by the sums and then in
+/// their order.
 fn sums_of(alloc: Global, tests: &Tests, unit: Unit) -> Result<Vec<(u64, u32)>, AllocError> {
     let mut sums = Vec::new(alloc);
     let mut row = Vec::new(alloc);
