@@ -4,7 +4,7 @@ ghost use Rattle.std.specs.Prelude.{◌≤◌};
 
 use crate::command::run_words;
 use crate::source::Files;
-use crate::status::{DONE, Fault, NO_MEMORY, UNWRITTEN, answer_fault};
+use crate::status::{DONE, Fault, MISSED, NO_MEMORY, UNWRITTEN, answer_fault};
 use report::{Out, Plain};
 use std::alloc::{AllocError, Global};
 use std::env;
@@ -20,7 +20,7 @@ pub fn run_arguments<
     W: Write + Drop,
     E: Out + Send,
 >(rt: &R, out: W, err: &mut E) -> u8
-    ensures { result ≤ 3 }
+    ensures { result ≤ 4 }
 {
     match read_arguments(rt) {
         Ok(arguments) => run_on_files(rt, &arguments, out, err),
@@ -48,7 +48,7 @@ fn run_on_files<R: HasFiles + AllocGlobal + Threads + Wait, W: Write + Drop, E: 
     out: W,
     err: &mut E,
 ) -> u8
-    ensures { result ≤ 3 }
+    ensures { result ≤ 4 }
 {
     match words_of(rt.alloc(), arguments) {
         Ok(words) => run_with_buffer(rt, &words, out, err),
@@ -68,7 +68,7 @@ fn run_with_buffer<'a, R: HasFiles + AllocGlobal + Threads + Wait, W: Write + Dr
     out: W,
     err: &mut E,
 ) -> u8
-    ensures { result ≤ 3 }
+    ensures { result ≤ 4 }
 {
     let Ok(buffered) = BufWriter::new(rt.alloc(), out) else {
         return answer_fault(&NO_MEMORY, err);
@@ -76,7 +76,7 @@ fn run_with_buffer<'a, R: HasFiles + AllocGlobal + Threads + Wait, W: Write + Dr
     let mut out = Plain::new(buffered);
     let status = run_words(rt, rt.alloc(), words, &mut Files::new(rt), &mut out, err);
     let flushed = out.into_writer().flush();
-    if status == DONE && flushed.is_err() {
+    if matches!(status, DONE | MISSED) && flushed.is_err() {
         return answer_fault(&UNWRITTEN, err);
     }
     status

@@ -7,28 +7,26 @@ use crate::compact::do_compact;
 use crate::curve::do_curve;
 use crate::detected::do_detections;
 use crate::format::{read_format, write_faults_table};
-use crate::options::{Task, command_line, model_named, workers_help};
+use crate::merge::do_merge;
+use crate::options::{Setting, Task, command_line, model_named, workers_help};
 use crate::responses::do_responses;
 use crate::run::do_run;
 use crate::source::{Source, SourceFault, Stream, is_standard_input};
-use crate::status::{
-    DONE, Fault, MISUSED, NO_MEMORY, UNWRITTEN, answer_fault, merge_fault, part_fault,
-};
+use crate::split::is_auto;
+use crate::status::{DONE, Fault, MISUSED, NO_MEMORY, UNWRITTEN, answer_fault};
 use clap::error::ErrorKind;
 use clap::{ArgMatches, Error};
 use fault_model::Model;
-use report::{
-    Contents, Formatted, Lines, Merge, Merged, Out, ReportFault, faults_text_in,
-    schedule_text_with, write_merged,
-};
+use report::{Contents, Formatted, Lines, Out, faults_text_in, schedule_text_with};
 use std::alloc::{AllocError, Global};
 use std::fmt::Write;
 use std::sync::Wait;
 use std::thread::Threads;
 
 /// Does what the words ask for and answers the status: 0 done or helped, 1 a text is refused, 2 the
-/// command line is refused, 3 a file, the output, memory or a thread is refused. `words[0]` is the
-/// program's name. It joins the threads that it starts.
+/// command line is refused, 3 a file, the output, memory or a thread is refused, 4 all was written
+/// and the coverage is below a threshold. `words[0]` is the program's name. It joins the threads
+/// that it starts.
 pub fn run_words<'a, R: Threads + Wait, S: Source, W: Out, E: Out + Send>(
     rt: &R,
     alloc: Global,
@@ -37,7 +35,7 @@ pub fn run_words<'a, R: Threads + Wait, S: Source, W: Out, E: Out + Send>(
     out: &mut W,
     err: &mut E,
 ) -> u8
-    ensures { result ≤ 3 }
+    ensures { result ≤ 4 }
 {
     match workers_help(alloc) {
         Ok(workers) => run_with_help(rt, alloc, &workers, words, files, out, err),
@@ -45,7 +43,8 @@ pub fn run_words<'a, R: Threads + Wait, S: Source, W: Out, E: Out + Send>(
     }
 }
 
-/// The same with the help of `--workers N`.
+/// The same with the help of `--workers N`. Whether the words have one for `--parts` decides on the
+/// parser of that option.
 fn run_with_help<'a, R: Threads + Wait, S: Source, W: Out, E: Out + Send>(
     rt: &R,
     alloc: Global,
@@ -55,9 +54,10 @@ fn run_with_help<'a, R: Threads + Wait, S: Source, W: Out, E: Out + Send>(
     out: &mut W,
     err: &mut E,
 ) -> u8
-    ensures { result ≤ 3 }
+    ensures { result ≤ 4 }
 {
-    let Ok(command) = command_line(alloc, workers) else {
+    let auto = is_auto(words);
+    let Ok(command) = command_line(alloc, Setting { workers, auto }) else {
         return answer_fault(&NO_MEMORY, err);
     };
     match command.try_get_matches_from(words) {
@@ -75,7 +75,7 @@ fn run_matched<'a, R: Threads + Wait, S: Source, W: Out, E: Out + Send>(
     out: &mut W,
     err: &mut E,
 ) -> u8
-    ensures { result ≤ 3 }
+    ensures { result ≤ 4 }
 {
     match do_task(rt, alloc, matches, files, out, err) {
         Ok(()) => DONE,
@@ -85,7 +85,7 @@ fn run_matched<'a, R: Threads + Wait, S: Source, W: Out, E: Out + Send>(
 
 /// Answers a command line that asks for help, or is refused.
 fn answer_error<W: Out, E: Out>(error: &Error, out: &mut W, err: &mut E) -> u8
-    ensures { result ≤ 3 }
+    ensures { result ≤ 4 }
 {
     if error.kind() == ErrorKind::OutOfMemory {
         return answer_fault(&NO_MEMORY, err);
@@ -205,7 +205,7 @@ pub(crate) fn read_file<'a, S: Source>(
 }
 
 /// Which faults the command line asks for.
-fn read_lines<'a>(matches: &ArgMatches<'a>) -> Result<Lines, Fault<'a>> {
+pub(crate) fn read_lines<'a>(matches: &ArgMatches<'a>) -> Result<Lines, Fault<'a>> {
     match (matches.get_flag("list"), matches.get_flag("undetected")) {
         (false, false) => Ok(Lines::Omitted),
         (true, false) => Ok(Lines::All),
@@ -281,49 +281,4 @@ fn do_faults<'a, S: Source, W: Out>(
         Ok(()) => Ok(()),
         Err(fault) => Err(Fault::Sim(fault)),
     }
-}
-
-/// `merge`: one file is read after another. The names of the faults stay in the first text, and
-/// each other text is let go once its verdicts are taken over. All is known before anything is
-/// written.
-fn do_merge<'a, S: Source, W: Out>(
-    alloc: Global,
-    matches: &ArgMatches<'a>,
-    files: &mut S,
-    out: &mut W,
-) -> Result<(), Fault<'a>> {
-    let Some(paths) = matches.get_strs("part texts") else {
-        return Err(Fault::Misused("FILE"));
-    };
-    let Some((first, others)) = paths.split_first() else {
-        return Err(Fault::Misused("FILE"));
-    };
-    let text = read_file(alloc, first, files)?;
-    let merged = merge_files(alloc, first, &text, others, files)?;
-    match write_merged(&merged, read_lines(matches)?, out) {
-        Ok(()) => Ok(()),
-        Err(ReportFault::Write) => Err(UNWRITTEN),
-    }
-}
-
-/// What the part text of the first file and those of the other files say together.
-fn merge_files<'a, 't, S: Source>(
-    alloc: Global,
-    first: &'a str,
-    text: &'t [u8],
-    others: &[&'a str],
-    files: &mut S,
-) -> Result<Merged<'t>, Fault<'a>> {
-    let mut merge = match Merge::of(alloc, text) {
-        Ok(merge) => merge,
-        Err(fault) => return Err(part_fault(first, fault)),
-    };
-    for path in others {
-        let more = read_file(alloc, path, files)?;
-        merge = match merge.add(alloc, &more) {
-            Ok(sum) => sum,
-            Err(fault) => return Err(part_fault(path, fault)),
-        };
-    }
-    merge.end(alloc).map_err(merge_fault)
 }

@@ -2,6 +2,7 @@
 
 use crate::form::{Form, write_form};
 use crate::source::Source;
+use crate::split::read_split;
 use crate::status::Fault;
 use clap::ArgMatches;
 use report::Out;
@@ -18,5 +19,6 @@ pub(crate) fn do_curve<'a, R: Threads + Wait, S: Source, W: Out, E: Out + Send>(
     out: &mut W,
     err: &mut E,
 ) -> Result<(), Fault<'a>> {
-    write_form(rt, alloc, matches, Form::Curve, files, out, err)
+    let split = read_split(matches)?;
+    write_form(rt, alloc, matches, Form::Curve { split }, files, out, err)
 }

@@ -1,15 +1,18 @@
 //! The option `--detections` of the command `run`.
 
 use crate::command::{read_model, read_option, read_workers};
+use crate::pieces::run_fault;
 use crate::source::Source;
+use crate::split::read_split;
 use crate::status::Fault;
 use clap::ArgMatches;
-use report::{Out, detections_text_in};
+use report::{Out, Split, detections_text_in, detections_text_of_any_size};
 use std::alloc::Global;
 use std::sync::Wait;
 use std::thread::Threads;
 
-/// `run --detections`: both files are read before either text is looked at.
+/// `run --detections`: both files are read before either text is looked at. Nothing is kept of a
+/// piece of work, so with any number of parts their number has no limit.
 pub(crate) fn do_detections<'a, R: Threads + Wait, S: Source, W: Out>(
     rt: &R,
     alloc: Global,
@@ -23,8 +26,16 @@ pub(crate) fn do_detections<'a, R: Threads + Wait, S: Source, W: Out>(
     let list = matches.get_flag("list");
     let bench = read_option(alloc, matches, "bench", files)?;
     let tests = read_option(alloc, matches, "tests", files)?;
-    match detections_text_in(rt, alloc, model, &bench, &tests, most, workers, list, out) {
+    let done = match read_split(matches)? {
+        Split::Whole => {
+            detections_text_in(rt, alloc, model, &bench, &tests, most, workers, list, out)
+        }
+        Split::Parts(_) | Split::Fitting => detections_text_of_any_size(
+            rt, alloc, model, &bench, &tests, most, workers, list, out,
+        ),
+    };
+    match done {
         Ok(()) => Ok(()),
-        Err(fault) => Err(Fault::Sim(fault)),
+        Err(fault) => Err(run_fault(alloc, fault, model, &bench, &tests)),
     }
 }

@@ -4,13 +4,16 @@ ghost use Rattle.command_line.specs.Form.{HasParts};
 
 use crate::command::{read_model, read_option};
 use crate::crew::read_crew;
+use crate::pieces::run_fault;
 use crate::progress::Progress;
 use crate::source::Source;
 use crate::status::Fault;
+use crate::tally::{Quiet, Tally};
+use crate::threshold::{check_threshold, read_threshold};
 use clap::ArgMatches;
 use fault_model::Model;
 use report::{
-    Contents, Lines, OpenGate, Out, SimFault, Watch, curve_text_watched, part_text_watched,
+    Contents, Lines, Out, SimFault, Split, Watch, curve_text_watched, part_text_watched,
     reasons_text_watched, simulate_text_watched,
 };
 use std::alloc::Global;
@@ -21,15 +24,15 @@ use tables::{Format, run_table_watched};
 /// What is made of a run.
 #[derive(Clone, Copy)]
 pub(crate) enum Form {
-    /// The report of a run, in so many parts where a number is given.
+    /// The report of a run.
     Report {
         contents: Contents,
-        parts: Option<u32>,
+        split: Split,
     },
     /// The report of the undetected faults with their reasons.
     Reasons {
         classes: bool,
-        parts: Option<u32>,
+        split: Split,
     },
     /// The text of one part, counted from 0.
     Part {
@@ -40,9 +43,19 @@ pub(crate) enum Form {
     Table {
         lines: Lines,
         format: Format,
+        split: Split,
     },
     /// The curve of a run.
-    Curve,
+    Curve {
+        split: Split,
+    },
+}
+
+impl Form {
+    /// Whether all classes are run, and not those of a part alone.
+    fn is_whole(self) -> bool {
+        !matches!(self, Form::Part { .. })
+    }
 }
 
 /// What a run is of.
@@ -68,6 +81,7 @@ pub(crate) fn write_form<'a, R: Threads + Wait, S: Source, W: Out, E: Out + Send
     requires { HasParts form }
 {
     let model = read_model(matches)?;
+    let threshold = read_threshold(matches)?;
     let bench = read_option(alloc, matches, "bench", files)?;
     let tests = read_option(alloc, matches, "tests", files)?;
     let workers = read_crew(matches, &bench, &tests)?;
@@ -77,13 +91,18 @@ pub(crate) fn write_form<'a, R: Threads + Wait, S: Source, W: Out, E: Out + Send
         tests: &tests,
         workers,
     };
+    let tally = Tally::new();
     let done = if matches.get_flag("progress") {
-        write_drawn(rt, alloc, inputs, form, out, err)
+        write_drawn(rt, alloc, inputs, form, &tally, out, err)
     } else {
-        write_text(rt, alloc, inputs, form, &OpenGate, out)
+        write_text(rt, alloc, inputs, form, &Quiet::new(&tally), out)
     };
     match done {
-        Ok(()) => Ok(()),
+        Ok(()) => match tally.coverage() {
+            Some(found) => check_threshold(threshold, found.detected, found.faults),
+            None => Ok(()),
+        },
+        Err(fault) if form.is_whole() => Err(run_fault(alloc, fault, model, &bench, &tests)),
         Err(fault) => Err(Fault::Sim(fault)),
     }
 }
@@ -94,12 +113,13 @@ fn write_drawn<R: Threads + Wait, W: Out, E: Out + Send>(
     alloc: Global,
     inputs: Inputs<'_>,
     form: Form,
+    tally: &Tally,
     out: &mut W,
     err: &mut E,
 ) -> Result<(), SimFault>
     requires { HasParts form }
 {
-    let Ok(progress) = Progress::new(alloc, inputs.workers, err) else {
+    let Ok(progress) = Progress::new(alloc, inputs.workers, tally, err) else {
         return Err(SimFault::Memory);
     };
     let done = write_text(rt, alloc, inputs, form, &progress, out);
@@ -125,14 +145,14 @@ fn write_text<R: Threads + Wait, G: Watch + Sync, W: Out>(
         workers,
     } = inputs;
     match form {
-        Form::Report { contents, parts } => {
+        Form::Report { contents, split } => {
             simulate_text_watched(
-                rt, alloc, model, bench, tests, parts, workers, contents, gate, out,
+                rt, alloc, model, bench, tests, split, workers, contents, gate, out,
             )
         }
-        Form::Reasons { classes, parts } => {
+        Form::Reasons { classes, split } => {
             reasons_text_watched(
-                rt, alloc, model, bench, tests, parts, workers, classes, gate, out,
+                rt, alloc, model, bench, tests, split, workers, classes, gate, out,
             )
         }
         Form::Part { part, parts } => {
@@ -140,11 +160,17 @@ fn write_text<R: Threads + Wait, G: Watch + Sync, W: Out>(
                 rt, alloc, model, bench, tests, part, parts, workers, gate, out,
             )
         }
-        Form::Table { lines, format } => {
+        Form::Table {
+            lines,
+            format,
+            split,
+        } => {
             run_table_watched(
-                rt, alloc, model, bench, tests, workers, lines, format, gate, out,
+                rt, alloc, model, bench, tests, split, workers, lines, format, gate, out,
             )
         }
-        Form::Curve => curve_text_watched(rt, alloc, model, bench, tests, workers, gate, out),
+        Form::Curve { split } => {
+            curve_text_watched(rt, alloc, model, bench, tests, split, workers, gate, out)
+        }
     }
 }

@@ -13,12 +13,17 @@ mod curve;
 mod detected;
 mod form;
 mod format;
+mod merge;
 mod options;
+mod pieces;
 mod progress;
 mod responses;
 mod run;
 mod source;
+mod split;
 mod status;
+mod tally;
+mod threshold;
 
 pub use arguments::run_arguments;
 pub use command::run_words;

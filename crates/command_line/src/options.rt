@@ -3,6 +3,7 @@
 ghost use Rattle.std.specs.Prelude.{◌≡◌, Some, IfSome};
 ghost use Rattle.report.specs.PartText.{model_name};
 
+use crate::split::AUTO;
 use clap::{Arg, ArgAction, Command, value_parser};
 use fault_model::Model;
 use report::MAX_WORKERS;
@@ -67,7 +68,7 @@ impl Task {
             Task::Compact => "Writes fewer of the tests, which detect the same faults",
             Task::Responses => "Writes what the circuit answers to each test without a fault",
             Task::Schedule => {
-                "Does what run does by one thread, with the workers' moves in a given order"
+                "Does what run does by one thread in a given order, for tests of the simulator itself"
             }
             Task::Faults => "Lists all faults of a model with their classes",
             Task::Merge => "Tells what a run tells from the texts of all its parts",
@@ -132,6 +133,12 @@ enum Choice {
     RunProgress,
     /// The format of the list of faults.
     Format,
+    /// The coverage of the classes of merged part texts, and the circuit that it wants.
+    MergeClasses,
+    MergeBench,
+    FailUnder,
+    /// The same of a run that may be of one part, or count detections.
+    RunFailUnder,
     PartTexts,
 }
 
@@ -139,7 +146,7 @@ enum Choice {
 static CHECK_CHOICES: [Choice; 3] = [Choice::Bench, Choice::TestsIfAny, Choice::Model];
 
 /// The options of `run`.
-static RUN_CHOICES: [Choice; 13] = [
+static RUN_CHOICES: [Choice; 14] = [
     Choice::Bench,
     Choice::Tests,
     Choice::Model,
@@ -152,15 +159,17 @@ static RUN_CHOICES: [Choice; 13] = [
     Choice::Why,
     Choice::Classes,
     Choice::RunFormat,
+    Choice::RunFailUnder,
     Choice::RunProgress,
 ];
 
 /// The options of `curve`.
-static CURVE_CHOICES: [Choice; 5] = [
+static CURVE_CHOICES: [Choice; 6] = [
     Choice::Bench,
     Choice::Tests,
     Choice::Model,
     Choice::Workers,
+    Choice::Parts,
     Choice::Progress,
 ];
 
@@ -191,7 +200,14 @@ static SCHEDULE_CHOICES: [Choice; 8] = [
 static FAULTS_CHOICES: [Choice; 3] = [Choice::Bench, Choice::Model, Choice::Format];
 
 /// The options of `merge`.
-static MERGE_CHOICES: [Choice; 3] = [Choice::List, Choice::Undetected, Choice::PartTexts];
+static MERGE_CHOICES: [Choice; 6] = [
+    Choice::List,
+    Choice::Undetected,
+    Choice::MergeClasses,
+    Choice::MergeBench,
+    Choice::FailUnder,
+    Choice::PartTexts,
+];
 
 /// The fault models by their names on the command line.
 pub static MODELS: [&str; 3] = ["stuck", "transition", "transition-pairs"];
@@ -500,13 +516,21 @@ fn workers_option<'a>(alloc: Global, help: &'a str) -> Arg<'a> {
         .help(help)
 }
 
-/// The option `--parts N`.
-fn parts_option<'a>(alloc: Global) -> Arg<'a> {
-    Arg::new(alloc, "parts")
+/// The words that `--parts` takes in place of a number.
+static PARTS_WORDS: [&str; 1] = [AUTO];
+
+/// The option `--parts N`, where its value is a word or a number.
+fn parts_option<'a>(alloc: Global, auto: bool) -> Arg<'a> {
+    let option = Arg::new(alloc, "parts")
         .long("parts")
         .value_name("N")
-        .value_parser(value_parser!(u32).range(1..=i64::from(MAX_PARTS)))
-        .help("Run the fault classes in parts, 1 to 65536")
+        .hide_possible_values(true)
+        .help("Run the fault classes in parts, 1 to 65536, or auto: as many as needed");
+    if auto {
+        option.value_parser(PARTS_WORDS.as_slice())
+    } else {
+        option.value_parser(value_parser!(u32).range(1..=i64::from(MAX_PARTS)))
+    }
 }
 
 /// The option `--part I/N`.
@@ -524,7 +548,6 @@ fn detections_option<'a>(alloc: Global) -> Result<Arg<'a>, AllocError> {
         .value_name("N")
         .value_parser(value_parser!(u32).range(1..=i64::from(MAX_DETECTIONS)))
         .help("Count up to N tests that detect each fault, 1 to 65536")
-        .conflicts_with("parts")?
         .conflicts_with("part")?
         .conflicts_with("undetected")?
         .conflicts_with("classes")
@@ -581,6 +604,13 @@ fn pairs_flag<'a>(alloc: Global) -> Arg<'a> {
         .help("Write each test and its capture test: launch-on-capture pairs")
 }
 
+/// The option `--bench FILE` of `merge`.
+fn merge_bench_option<'a>(alloc: Global) -> Result<Arg<'a>, AllocError> {
+    file_option(alloc, "bench", 'b', "The circuit of the run, for --classes")
+        .required(false)
+        .requires_arg("classes")
+}
+
 /// How a list is written.
 static FORMATS: [&str; 3] = ["text", "csv", "json"];
 
@@ -591,16 +621,35 @@ fn format_option<'a>(alloc: Global) -> Arg<'a> {
         .value_name("FORMAT")
         .value_parser(FORMATS.as_slice())
         .default_value("text")
-        .help("How the list of faults is written; csv and json tell all faults")
+        .help("How the list of faults is written")
 }
+
+/// What is said of the option `--format FORMAT` of `run`.
+const RUN_FORMAT_HELP: &str =
+    "How the list is written; csv and json tell all faults, or those of --undetected";
 
 /// The option `--format FORMAT` of `run`.
 fn run_format_option<'a>(alloc: Global) -> Result<Arg<'a>, AllocError> {
     format_option(alloc)
-        .conflicts_with("parts")?
+        .help(RUN_FORMAT_HELP)
         .conflicts_with("part")?
         .conflicts_with("detections")?
         .conflicts_with("classes")
+}
+
+/// The option `--fail-under P`.
+fn fail_under_option<'a>(alloc: Global) -> Arg<'a> {
+    Arg::new(alloc, "fail-under")
+        .long("fail-under")
+        .value_name("P")
+        .help("End with status 4 if the coverage of the faults is below P percent")
+}
+
+/// The option `--fail-under P` of `run`.
+fn run_fail_under_option<'a>(alloc: Global) -> Result<Arg<'a>, AllocError> {
+    fail_under_option(alloc)
+        .conflicts_with("part")?
+        .conflicts_with("detections")
 }
 
 /// The flag `--progress`.
@@ -626,8 +675,17 @@ fn part_texts<'a>(alloc: Global) -> Arg<'a> {
         .help("The part texts of one run, in any order")
 }
 
-/// An option, with the help of `--workers N`.
-fn option<'a>(alloc: Global, choice: Choice, workers: &'a str) -> Result<Arg<'a>, AllocError> {
+/// What some options depend on.
+#[derive(Clone, Copy)]
+pub(crate) struct Setting<'a> {
+    /// The help of `--workers N`.
+    pub(crate) workers: &'a str,
+    /// Whether `--parts` has a word in place of a number.
+    pub(crate) auto: bool,
+}
+
+/// An option.
+fn option<'a>(alloc: Global, choice: Choice, setting: Setting<'a>) -> Result<Arg<'a>, AllocError> {
     let option = match choice {
         Choice::Bench => file_option(alloc, "bench", 'b', "The circuit, a bench text"),
         Choice::Tests => file_option(alloc, "tests", 't', TESTS_HELP),
@@ -639,8 +697,8 @@ fn option<'a>(alloc: Global, choice: Choice, workers: &'a str) -> Result<Arg<'a>
             "The moves, the number of a worker, from 0, a line",
         ),
         Choice::Model => model_option(alloc),
-        Choice::Workers => workers_option(alloc, workers),
-        Choice::Parts => parts_option(alloc),
+        Choice::Workers => workers_option(alloc, setting.workers),
+        Choice::Parts => parts_option(alloc, setting.auto),
         Choice::Part => part_option(alloc),
         Choice::Detections => detections_option(alloc)?,
         Choice::List => list_flag(alloc),
@@ -650,6 +708,10 @@ fn option<'a>(alloc: Global, choice: Choice, workers: &'a str) -> Result<Arg<'a>
         Choice::Pairs => pairs_flag(alloc),
         Choice::RunFormat => run_format_option(alloc)?,
         Choice::Format => format_option(alloc),
+        Choice::MergeClasses => classes_flag(alloc).requires_arg("bench")?,
+        Choice::MergeBench => merge_bench_option(alloc)?,
+        Choice::FailUnder => fail_under_option(alloc),
+        Choice::RunFailUnder => run_fail_under_option(alloc)?,
         Choice::Progress => progress_flag(alloc),
         Choice::RunProgress => run_progress_flag(alloc)?,
         Choice::PartTexts => part_texts(alloc),
@@ -657,37 +719,44 @@ fn option<'a>(alloc: Global, choice: Choice, workers: &'a str) -> Result<Arg<'a>
     Ok(option)
 }
 
-/// A command with options, with the help of `--workers N`.
+/// A command with options.
 fn with_options<'a>(
     alloc: Global,
     mut command: Command<'a>,
     choices: &[Choice],
-    workers: &'a str,
+    setting: Setting<'a>,
 ) -> Result<Command<'a>, AllocError> {
     for choice in choices {
-        command = command.arg(option(alloc, *choice, workers)?)?;
+        command = command.arg(option(alloc, *choice, setting)?)?;
     }
     Ok(command)
 }
 
-/// The subcommand of a task, with the help of `--workers N`.
-fn subcommand<'a>(alloc: Global, task: Task, workers: &'a str) -> Result<Command<'a>, AllocError> {
+/// The subcommand of a task.
+fn subcommand<'a>(
+    alloc: Global,
+    task: Task,
+    setting: Setting<'a>,
+) -> Result<Command<'a>, AllocError> {
     let command = Command::new(alloc, task.name())
         .about(task.about())
         .after_help(FILES)
         .after_long_help(task.example());
-    with_options(alloc, command, task.choices(), workers)
+    with_options(alloc, command, task.choices(), setting)
 }
 
-/// The command line of the program, with the help of `--workers N`.
-pub(crate) fn command_line<'a>(alloc: Global, workers: &'a str) -> Result<Command<'a>, AllocError> {
+/// The command line of the program.
+pub(crate) fn command_line<'a>(
+    alloc: Global,
+    setting: Setting<'a>,
+) -> Result<Command<'a>, AllocError> {
     let mut command = Command::new(alloc, "faultsim")
         .version(VERSION)
         .about("Parallel fault simulation of bench circuits")
         .after_long_help(ABOUT_TEXTS)
         .subcommand_required(true);
     for task in &TASKS {
-        command = command.subcommand(subcommand(alloc, *task, workers)?)?;
+        command = command.subcommand(subcommand(alloc, *task, setting)?)?;
     }
     Ok(command)
 }

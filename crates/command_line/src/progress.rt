@@ -1,6 +1,8 @@
 //! The option `--progress`: how far a run is, on standard error.
 
-use report::{Formatted, Gate, Out, Watch};
+use crate::tally::Tally;
+use block_sim::Job;
+use report::{Formatted, Gate, Out, Verdicts, Watch};
 use std::alloc::{AllocError, Global};
 use std::fmt::Write;
 use std::sync::Mutex;
@@ -171,6 +173,7 @@ pub(crate) struct Progress<'a, E> {
     pieces: AtomicU64,
     blocks: AtomicU64,
     pen: Mutex<Pen<'a, E>>,
+    tally: &'a Tally,
 }
 
 impl<'a, E: Out> Progress<'a, E> {
@@ -178,6 +181,7 @@ impl<'a, E: Out> Progress<'a, E> {
     pub(crate) fn new(
         alloc: Global,
         workers: u32,
+        tally: &'a Tally,
         err: &'a mut E,
     ) -> Result<Progress<'a, E>, AllocError> {
         let mut places = Vec::with_capacity(alloc, workers as usize)?;
@@ -189,6 +193,7 @@ impl<'a, E: Out> Progress<'a, E> {
             pieces: AtomicU64::new(0),
             blocks: AtomicU64::new(0),
             pen: Mutex::new(Pen::new(alloc, err)),
+            tally,
         })
     }
 
@@ -199,6 +204,7 @@ impl<'a, E: Out> Progress<'a, E> {
             pieces: _,
             blocks: _,
             pen,
+            tally: _,
         } = self;
         pen.into_inner().end_line();
     }
@@ -261,5 +267,9 @@ impl<E: Out> Watch for Progress<'_, E> {
         if let Some(mut pen) = self.pen.try_lock() {
             pen.draw_last(self.pieces.load(Ordering::SeqCst));
         }
+    }
+
+    fn finds(&self, job: &Job, verdicts: &Verdicts) {
+        self.tally.note(job, verdicts);
     }
 }

@@ -1,6 +1,7 @@
 //! The command `run` without `--detections`.
 
-ghost use Rattle.std.specs.Prelude.{◌<◌, IfOk, IfSome};
+ghost use Rattle.std.specs.Prelude.{IfOk, IfSome};
+ghost use Rattle.jobs.specs.Splits.{HasSomePart};
 ghost use Rattle.command_line.specs.Form.{HasParts};
 
 use crate::command::read_contents;
@@ -8,9 +9,10 @@ use crate::form::{Form, write_form};
 use crate::format::read_format;
 use crate::options::MAX_PARTS;
 use crate::source::Source;
+use crate::split::read_split;
 use crate::status::Fault;
 use clap::ArgMatches;
-use report::{Contents, Lines, Out};
+use report::{Contents, Lines, Out, Split};
 use std::alloc::Global;
 use std::sync::Wait;
 use std::thread::Threads;
@@ -20,35 +22,42 @@ fn read_form<'a>(matches: &ArgMatches<'a>) -> Result<Form, Fault<'a>>
     ensures { IfOk result HasParts }
 {
     let contents = read_contents(matches)?;
+    let split = read_split(matches)?;
     if let Some(format) = read_format(matches)? {
         let lines = contents.lines;
-        return Ok(Form::Table { lines, format });
+        return Ok(Form::Table {
+            lines,
+            format,
+            split,
+        });
     }
-    let why = matches.get_flag("why");
-    let parts = matches.get_one::<u32>("parts");
-    let part = matches.get_str("part");
-    match (parts, part) {
-        (None, None) => report_form(contents, parts, why),
-        (Some(count), None) if count > 0 => report_form(contents, parts, why),
-        (None, Some(text)) => read_part(text).ok_or(Fault::Misused("--part")),
-        _ => Err(Fault::Misused("--parts")),
+    match (matches.get_str("part"), split) {
+        (None, _) => report_form(contents, split, matches.get_flag("why")),
+        (Some(text), Split::Whole) => read_part(text).ok_or(Fault::Unfit("--part", NO_PART)),
+        (Some(_), _) => Err(Fault::Unfit("--parts", BESIDE_PART)),
     }
 }
 
 /// A report, of the undetected faults with their reasons if `why` is set.
-fn report_form<'a>(contents: Contents, parts: Option<u32>, why: bool) -> Result<Form, Fault<'a>>
-    requires { IfSome parts (λ count. 0 < count) }
+fn report_form<'a>(contents: Contents, split: Split, why: bool) -> Result<Form, Fault<'a>>
+    requires { HasSomePart split }
     ensures { IfOk result HasParts }
 {
     match (why, contents.lines) {
-        (false, _) => Ok(Form::Report { contents, parts }),
+        (false, _) => Ok(Form::Report { contents, split }),
         (true, Lines::Undetected) => Ok(Form::Reasons {
             classes: contents.classes,
-            parts,
+            split,
         }),
         (true, Lines::Omitted | Lines::All) => Err(Fault::Misused("--why")),
     }
 }
+
+/// Why `--parts` cannot be used beside `--part`.
+const BESIDE_PART: &str = "give --part or --parts, not both";
+
+/// Why the text of `--part` cannot be used.
+const NO_PART: &str = "give I/N: part I, from 1 to N, of N parts, at most 65536";
 
 /// The part that a text `I/N` names, I from 1.
 fn read_part(text: &str) -> Option<Form>

@@ -4,6 +4,7 @@ ghost use Rattle.std.specs.Prelude.{◌<◌, ◌≤◌};
 
 use bench_net::BenchFault;
 use block_sim::JobFault;
+use diagnosis::Excess;
 use patterns::{OrderFault, TestFault};
 use report::{Formatted, MergeFault, Out, PartFault, ReportFault, RunFault, SimFault};
 use std::fmt::Write;
@@ -20,21 +21,30 @@ pub(crate) const MISUSED: u8 = 2;
 /// The status of a file, an output, memory or a thread that is refused.
 const FAILED: u8 = 3;
 
-/// Why a command was not done.
+/// The status of a coverage that is below the threshold.
+pub(crate) const MISSED: u8 = 4;
+
+/// Why a command was not done, or what is wrong where it was.
 #[derive(Clone, Copy)]
 pub(crate) enum Fault<'a> {
     /// An argument of the process is no text.
     NoText,
     /// The command line lacks an option, or what it has there doesn't do.
     Misused(&'a str),
+    /// What the command line has for an option doesn't do, and why.
+    Unfit(&'a str, &'static str),
     /// The file at a path is refused.
     Unreadable(&'a str),
     /// A text is refused, or the work on it, or the output.
     Sim(SimFault),
+    /// A run has too many pieces, by so much.
+    TooManyPieces(SimFault, Excess),
     /// The part text in the file at a path is refused.
     Part(&'a str, MergeFault),
     /// Part texts together are refused.
     Merge(MergeFault),
+    /// All was written, and the coverage is below this percentage.
+    Missed(&'a str),
 }
 
 /// The output takes nothing more.
@@ -59,26 +69,32 @@ pub(crate) fn merge_fault(fault: MergeFault) -> Fault<'static> {
     }
 }
 
-/// Tells a fault in one line, and answers its status, which is no other where the line can't be
-/// told.
+/// Tells a fault in one line, and what is known beside it in a second one, and answers its status,
+/// which is no other where the lines can't be told.
 pub(crate) fn answer_fault<E: Out>(fault: &Fault<'_>, err: &mut E) -> u8
     ensures failed { 0 < result }
-    ensures few { result ≤ 3 }
+    ensures few { result ≤ 4 }
 {
     let mut text = Formatted(err);
     let _ = match fault {
         Fault::NoText => writeln!(text, "faultsim: an argument is no text"),
         Fault::Misused(option) => writeln!(text, "faultsim: cannot use {option}"),
+        Fault::Unfit(option, reason) => {
+            writeln!(text, "faultsim: cannot use {option}\n    {reason}")
+        }
         Fault::Unreadable(path) => writeln!(text, "faultsim: cannot read {path}"),
         Fault::Sim(fault) => writeln!(text, "faultsim: {fault}"),
+        Fault::TooManyPieces(fault, excess) => { writeln!(text, "faultsim: {fault}\n    {excess}") }
         Fault::Part(path, fault) => writeln!(text, "faultsim: {path}: {fault}"),
         Fault::Merge(fault) => writeln!(text, "faultsim: {fault}"),
+        Fault::Missed(least) => writeln!(text, "faultsim: coverage below {least}%"),
     };
     match fault {
-        Fault::NoText | Fault::Misused(_) => MISUSED,
+        Fault::NoText | Fault::Misused(_) | Fault::Unfit(..) => MISUSED,
         Fault::Unreadable(_) => FAILED,
-        Fault::Sim(fault) => status_of(fault),
+        Fault::Sim(fault) | Fault::TooManyPieces(fault, _) => status_of(fault),
         Fault::Part(..) | Fault::Merge(_) => REFUSED,
+        Fault::Missed(_) => MISSED,
     }
 }
 

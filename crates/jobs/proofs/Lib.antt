@@ -1,2 +1,3 @@
 mod JobsOfTexts
+mod FewestParts
 pub mod Public

@@ -6,10 +6,12 @@
 #![tactic(auto)]
 
 mod fault;
+mod split;
 mod texts;
 mod watch;
 
 pub use fault::{ReportFault, SimFault};
+pub use split::{Split, least_parts, split_job_of};
 pub use texts::{
     job_for, job_for_in_threads, job_of, job_of_any_size, job_of_any_size_in_threads,
     job_of_in_threads, read_inputs,

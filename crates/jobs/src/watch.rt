@@ -17,6 +17,13 @@ pub trait Watch: Gate {
 
     /// All classes are settled. Nothing of the text is written yet.
     fn ends(&self);
+
+    /// Takes the verdicts of a run of all classes, before anything of the text is written. A run of
+    /// one part has none.
+    fn finds(&self, _job: &Job, _verdicts: &Verdicts)
+        requires { AreFirsts _job.now.list.model _job.now.circuit _job.now.tests.tests
+            _verdicts.now.firsts }
+    {}
 }
 
 impl Watch for OpenGate {
@@ -26,8 +33,8 @@ impl Watch for OpenGate {
 }
 
 /// Runs a job in so many parts, by workers in threads of their own, as [`workers::run_in_parts`]
-/// does and with the same verdicts and refusals. The gate is told when the run begins, and when all
-/// is settled.
+/// does and with the same verdicts and refusals. The gate is told when the run begins, when all is
+/// settled, and of the verdicts.
 pub fn run_watched<R: Threads + Wait, G: Watch + Sync>(
     rt: &R,
     alloc: Global,
@@ -46,9 +53,8 @@ pub fn run_watched<R: Threads + Wait, G: Watch + Sync>(
         (G.stops gate.now)) }
 {
     gate.starts(job.classes().count(), job.tests().blocks());
-    let verdicts = run_in_parts(rt, alloc, job, parts, workers, gate);
-    if verdicts.is_ok() {
-        gate.ends();
-    }
-    verdicts
+    let verdicts = run_in_parts(rt, alloc, job, parts, workers, gate)?;
+    gate.ends();
+    gate.finds(job, &verdicts);
+    Ok(verdicts)
 }

@@ -26,4 +26,5 @@ mod MergedReport
 mod FaultParts
 mod MergeRefusals
 mod WatchedRuns
+mod CountedTexts
 pub mod Public

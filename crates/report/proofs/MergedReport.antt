@@ -1,6 +1,6 @@
 -- The report of a merge of part texts is that of the texts that the parts are of.
 use Rattle.std.proofs.Common.{◌≡◌, ◌<◌, ℕ, suc, List, [], ◌∷◌, All, length, get_or, refl, sym, ap}
-use Rattle.std.proofs.Common.{◌∙◌, subst, Option, Some, false, arith, map, append-nil}
+use Rattle.std.proofs.Common.{◌∙◌, ◌++◌, subst, Option, Some, false, true, arith, map, append-nil}
 use Rattle.std.specs.Prelude.{codes, option_map, slice_get}
 use Rattle.std.proofs.lemmas.List.{length-map}
 use Rattle.std.proofs.lemmas.Option.{get_or_from_slice_get, slice_get-get_or, slice_get-map}
@@ -10,7 +10,7 @@ use Rattle.bench_net.specs.Refusal.{IsAccepted}
 use Rattle.fault_model.specs.declared.Model.{Model}
 use Rattle.fault_model.specs.declared.Model.TheVariants.{StuckAt, Transition, TransitionPairs}
 use Rattle.fault_model.specs.Fault.{Fault, faults}
-use Rattle.fault_model.specs.Collapse.{AreClassesOf}
+use Rattle.fault_model.specs.Collapse.{AreClassesOf, Collapsed}
 use Rattle.fault_model.specs.Solution.{Test}
 use Rattle.block_sim.specs.First.{IsFirst}
 use Rattle.block_sim.specs.Parts.{Parts}
@@ -27,7 +27,7 @@ use Rattle.report.specs.WholeMerge.{AreMerged, IsMergeOf, IsPartOf, IsSomePartOf
 use Rattle.report.specs.WholeMerge.{IsSomePartToldFrom, IsToldFrom, PartedRun}
 use Rattle.report.specs.PartText.{PartHead, head_of, model_name, sum_text}
 use Rattle.report.specs.PartReading.{IsPart}
-use Rattle.report.specs.Report.{fault_text, report, report_text}
+use Rattle.report.specs.Report.{class_coverage_line, fault_text, report, report_text}
 use Rattle.report.proofs.OnePartText.{one_part}
 use Rattle.report.proofs.PartPieces.{report_of_texts}
 use Rattle.report.proofs.WrittenParts.{first_of_part, part_is}
@@ -223,29 +223,68 @@ firsts_are run c tests s merged sound whole = record {
       ∙ slice_get-map First merged.firsts i ∙ ap (option_map First) ev);
 }
 
+-- a merge of parts of a run has the first tests of the run's circuit and tests, and the lines of
+-- its report
+merge_of_run : OneCircuit → (run : PartedRun) (first : List ℕ) (others : List (List ℕ))
+    (merged : MergedRun) (lines : Lines) → IsSomePartOf run first
+    → All (IsSomePartToldFrom run) others → IsMergeOf first others merged
+    → (job : Parts) × IsJobOf run.model run.bench run.tests job
+    × AreFirsts run.model job.circuit job.tests.tests merged.firsts
+    × (report_text merged.faults merged.firsts lines
+    ≡ report run.model job.circuit merged.firsts lines)
+merge_of_run one run first others merged lines of all is =
+    let job = of.1.text.0 in
+    let job_is : IsJobOf run.model run.bench run.tests job = of.1.text.1 in
+    let c = job.circuit in
+    let begun = sound_first run first is.begun of is.first_is in
+    let sound = sound_all run c job.tests.tests others is.begun is.all one job_is.0
+    (λ other at. at.1.2 ∙ sym job_is.1.2) all is.others_are begun in (
+      job,
+      job_is,
+      firsts_are run c job.tests.tests is.all merged sound is.whole,
+      ap (λ l. report_text l merged.firsts lines) (is.whole.faults ∙ sound.faults_are)
+          ∙ report_of_texts run.model c merged.firsts lines,
+    )
+
 pub report_of_merge : OneCircuit → (run : PartedRun) (first : List ℕ) (others : List (List ℕ))
     (merged : MergedRun) (lines : Lines) → IsSomePartOf run first
     → All (IsSomePartToldFrom run) others → IsMergeOf first others merged
     → IsReportOf run.model run.bench run.tests (record { lines = lines; classes = false })
     (report_text merged.faults merged.firsts lines)
 report_of_merge one run first others merged lines of all is =
-    let job = of.1.text.0 in
-    let job_is : IsJobOf run.model run.bench run.tests job = of.1.text.1 in
-    let c = job.circuit in
-    let begun = sound_first run first is.begun of is.first_is in
-    let sound = sound_all run c job.tests.tests others is.begun is.all one job_is.0
-    (λ other at. at.1.2 ∙ sym job_is.1.2) all is.others_are begun in
-    let bytes : report_text merged.faults merged.firsts lines
-    ≡ report run.model c merged.firsts lines =
-    ap (λ l. report_text l merged.firsts lines) (is.whole.faults ∙ sound.faults_are)
-    ∙ report_of_texts run.model c merged.firsts lines in (
-      c,
+    let whole = merge_of_run one run first others merged lines of all is in
+    let job = whole.0 in
+    let job_is : IsJobOf run.model run.bench run.tests job = whole.1 in (
+      job.circuit,
       job.tests,
       job.classes,
       merged.firsts,
       job_is.0,
       job_is.1,
-      subst (λ x. AreClassesOf x c job.classes) job_is.3 job_is.2.classes,
-      firsts_are run c job.tests.tests is.all merged sound is.whole,
-      bytes ∙ sym (append-nil (report run.model c merged.firsts lines)),
+      subst (λ x. AreClassesOf x job.circuit job.classes) job_is.3 job_is.2.classes,
+      whole.2,
+      whole.3 ∙ sym (append-nil (report run.model job.circuit merged.firsts lines)),
+    )
+
+-- the same with the coverage of the classes of the run's circuit
+pub class_report_of_merge : OneCircuit → (run : PartedRun) (first : List ℕ)
+    (others : List (List ℕ)) (merged : MergedRun) (lines : Lines) (c : List Statement)
+    (classes : Collapsed) → IsSomePartOf run first → All (IsSomePartToldFrom run) others
+    → IsMergeOf first others merged → IsAccepted run.bench c → AreClassesOf run.model c classes
+    → IsReportOf run.model run.bench run.tests (record { lines = lines; classes = true })
+    (report_text merged.faults merged.firsts lines ++ class_coverage_line classes merged.firsts)
+class_report_of_merge one run first others merged lines c classes of all is accepted are =
+    let whole = merge_of_run one run first others merged lines of all is in
+    let job = whole.0 in
+    let job_is : IsJobOf run.model run.bench run.tests job = whole.1 in
+    let same : c ≡ job.circuit = one run.bench c job.circuit accepted job_is.0 in (
+      job.circuit,
+      job.tests,
+      classes,
+      merged.firsts,
+      job_is.0,
+      job_is.1,
+      subst (λ x. AreClassesOf run.model x classes) same are,
+      whole.2,
+      ap (λ l. l ++ class_coverage_line classes merged.firsts) whole.3,
     )

@@ -7,15 +7,11 @@ use Rattle.fault_model.specs.declared.Model.{Model}
 use Rattle.fault_model.specs.Collapse.{AreClassesOf}
 use Rattle.fault_model.specs.Fault.{Fault, FaultList}
 use Rattle.block_sim.specs.Parts.{BelongTogether, Parts}
-use Rattle.workers.specs.declared.RunFault.{RunFault}
 use Rattle.workers.specs.Verdict.{AreFirsts}
-use Rattle.jobs.specs.declared.fault.SimFault.{SimFault}
-use Rattle.jobs.specs.declared.fault.SimFault.TheVariants as fault
 use Rattle.jobs.specs.Jobs.{IsJobOf}
 use Rattle.undetected.specs.declared.Reason.{Reason}
 use Rattle.undetected.specs.declared.Reason.TheVariants.{NoPath, NotActivated, NotObserved}
 use Rattle.undetected.specs.Reasons.{AreReasons}
-use Rattle.report.specs.EndToEnd.{IsJobTextFault, IsTextFault}
 use Rattle.report.specs.Reasons.{IsReasonReportOf, IsReasonReportOfJob, reason_count, reason_line}
 use Rattle.report.specs.Reasons.{reason_report, reason_text, reasons_line}
 use Rattle.report.specs.Report.{fault_text}
@@ -71,16 +67,3 @@ reasons_of_texts m bench text wanted job is bytes of_job =
       why,
       of_job.4 ∙ ap (λ k. reason_report k job.circuit job.classes firsts reasons wanted) is.3,
     )
-
--- a text that is made of the verdicts of a job of texts is refused of the texts
-pub made_fault : (m : Model) (bench text : List ℕ) (workers : ℕ)
-    (IsFault : Parts → RunFault → Type 0) (job : Parts) → IsJobOf m bench text job
-    → (f : SimFault) → IsJobTextFault workers (IsFault job) f
-    → IsTextFault m bench text workers IsFault f
-made_fault m bench text workers IsFault job is (fault.Run f) h = (job, is, h)
-made_fault m bench text workers IsFault job is (fault.Report f) h = (job, is, h.0, h.1)
-made_fault m bench text workers IsFault job is (fault.Bench f) h = absurd h
-made_fault m bench text workers IsFault job is (fault.Tests f) h = absurd h
-made_fault m bench text workers IsFault job is (fault.Order f) h = absurd h
-made_fault m bench text workers IsFault job is (fault.Job f) h = absurd h
-made_fault m bench text workers IsFault job is fault.Memory h = tt

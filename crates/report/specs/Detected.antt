@@ -1,5 +1,5 @@
 -- The text of how many tests detect each fault.
-use Rattle.std.specs.Prelude.{◌≡◌, ℕ, Bool, List, [], ◌++◌, count_by, codes, decimal, flat_map}
+use Rattle.std.specs.Prelude.{◌≡◌, ℕ, ◌<◌, ◌≤◌, Bool, List, [], ◌++◌, count_by, codes, decimal, flat_map}
 use Rattle.std.specs.Prelude.{if◌then◌else◌, length, nat_le, zip}
 use Rattle.bench_net.specs.Statement.{Statement}
 use Rattle.bench_net.specs.Refusal.{IsAccepted}
@@ -9,6 +9,9 @@ use Rattle.fault_model.specs.Fault.{Fault, faults}
 use Rattle.patterns.specs.Tests.{TestList, HasTests}
 use Rattle.block_sim.specs.Parts.{Parts}
 use Rattle.detections.specs.Detections.{AreCounts}
+use Rattle.workers.specs.declared.RunFault.{RunFault}
+use Rattle.workers.specs.declared.RunFault.TheVariants.{Memory, Threads}
+use Rattle.workers.specs.Refused.{IsWorkersFault}
 use Rattle.report.specs.Report.{coverage_line, fault_text}
 
 -- a line: `FAULT COUNT`
@@ -35,7 +38,13 @@ IsDetectionReportOf m bench text most list bytes = (c : List Statement) × (test
     × HasTests text (length (sources c)) tests × AreCounts m c tests.tests most counts
     × (bytes ≡ detection_report m c most counts list)
 
--- the same of a job
+-- when so many workers don't count: for their number, and then for want of memory or of a thread
+abbrev pub IsCountFault : ℕ → RunFault → Type 0
+IsCountFault workers Memory = (0 < workers) × (workers ≤ 64)
+IsCountFault workers Threads = (0 < workers) × (workers ≤ 64)
+IsCountFault workers fault = IsWorkersFault workers fault
+
+-- the bytes are this report of a job
 abbrev pub IsDetectionReportOfJob : Parts → ℕ → Bool → List ℕ → Type 0
 IsDetectionReportOfJob job most list bytes = (counts : List ℕ)
     × AreCounts job.list.model job.circuit job.tests.tests most counts

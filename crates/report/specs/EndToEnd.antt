@@ -1,5 +1,5 @@
 -- From the bytes read to the bytes written.
-use Rattle.std.specs.Prelude.{◌≡◌, ◌⊎◌, ⊤, ℕ, ◌<◌, ◌≤◌, List, length, Option, Some, None, Result}
+use Rattle.std.specs.Prelude.{◌≡◌, ◌⊎◌, ⊤, ℕ, ◌<◌, ◌≤◌, List, length, Option, Result}
 use Rattle.std.specs.Prelude.{Ok, Err}
 use Rattle.bench_net.specs.declared.BenchFault.TheVariants as bench_fault
 use Rattle.bench_net.specs.Statement.{Statement}
@@ -20,6 +20,8 @@ use Rattle.workers.specs.Stops.{Stops, no_stop}
 use Rattle.workers.specs.Verdict.{AreFirsts}
 use Rattle.jobs.specs.declared.fault.SimFault.{SimFault}
 use Rattle.jobs.specs.declared.fault.SimFault.TheVariants as fault
+use Rattle.jobs.specs.declared.split.Split.{Split}
+use Rattle.jobs.specs.declared.split.Split.TheVariants as split
 use Rattle.jobs.specs.Jobs.{IsInputFault, IsJobFault, IsJobOf, IsJobWithin, IsReadFault}
 use Rattle.output.specs.Output.{Output, TakesAll, TakesFront}
 use Rattle.report.specs.declared.contents.Contents.{Contents}
@@ -100,25 +102,36 @@ abbrev pub IsPartReportFault : Model → List ℕ → List ℕ → ℕ → ℕ �
 IsPartReportFault m bench text part parts workers f =
     IsTextFault m bench text workers (λ job. IsPartFault job parts part workers ⊤ no_stop) f
 
--- When the report of a run that a gate watches is refused, in so many parts where a number is
--- given:
--- as that of the run without, but where the gate stopped workers. Then the fault names the class
--- and
--- the block for which the run in parts waits, and the gate isn't one that lets every piece pass.
-abbrev pub IsWatchedFault : Model → List ℕ → List ℕ → Option ℕ → ℕ → Type 0 → Stops → SimFault
+-- what a run that was done says of the pieces: those of the whole are within the limit, or those of
+-- each part where a number of parts is given
+abbrev pub IsWithin : Model → List ℕ → List ℕ → Split → Type 0
+IsWithin m bench text split.Whole = (job : Parts) × IsJobWithin m bench text job
+IsWithin m bench text (split.Parts parts) = HasPartsWithin m bench text parts
+IsWithin m bench text split.Fitting = ⊤
+
+-- when a run in parts that fit is refused: in some number of parts that are each within the limit
+-- of pieces, and never for the pieces
+abbrev pub IsFittingFault : Parts → ℕ → Type 0 → Stops → RunFault → Type 0
+IsFittingFault job workers passing stops run_fault.TooManyPieces = ⊥
+IsFittingFault job workers passing stops f =
+    (parts : ℕ) × ArePartsWithin job parts × IsPartsFault job parts workers passing stops f
+
+-- When the report of a run that a gate watches is refused, cut into parts so: as that of the run
+-- without a gate, but where the gate stopped workers. Then the fault names the class and the block
+-- for which the run in parts waits, and the gate isn't one that lets every piece pass.
+abbrev pub IsWatchedFault : Model → List ℕ → List ℕ → Split → ℕ → Type 0 → Stops → SimFault
     → Type 0
-IsWatchedFault m bench text (Some parts) workers passing stops
-    (fault.Run (run_fault.Unfinished class block)) =
-    (job : Parts) × IsJobOf m bench text job
-    × IsPartsFault job parts workers passing stops (run_fault.Unfinished class block)
-IsWatchedFault m bench text (Some parts) workers passing stops f =
-    IsPartsReportFault m bench text parts workers f
-IsWatchedFault m bench text None workers passing stops
+IsWatchedFault m bench text split.Whole workers passing stops
     (fault.Run (run_fault.Unfinished class block)) =
     (job : Parts) × IsJobWithin m bench text job
     × IsPartsFault job (parts_for job workers) workers passing stops
     (run_fault.Unfinished class block)
-IsWatchedFault m bench text None workers passing stops f = IsReportFault m bench text workers f
+IsWatchedFault m bench text split.Whole workers passing stops f =
+    IsReportFault m bench text workers f
+IsWatchedFault m bench text (split.Parts parts) workers passing stops f =
+    IsTextFault m bench text workers (λ job. IsPartsFault job parts workers passing stops) f
+IsWatchedFault m bench text split.Fitting workers passing stops f =
+    IsTextFault m bench text workers (λ job. IsFittingFault job workers passing stops) f
 
 -- the order text spells moves of so many workers
 abbrev pub HasSomeMoves : List ℕ → ℕ → Type 0

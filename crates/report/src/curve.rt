@@ -1,27 +1,28 @@
 //! The curve of a run: how many faults are detected up to each test.
 
 ghost use Rattle.std.specs.Prelude.{◌≡◌, ◌+◌, ◌-◌, ◌<◌, ◌≤◌, ◌^◌, ℕ, get_or, length, IfErr, IfOk};
-ghost use Rattle.std.specs.Prelude.{None, OnOk};
+ghost use Rattle.std.specs.Prelude.{OnOk};
 ghost use Rattle.std.specs.List.{flat_map};
 ghost use Rattle.block_sim.specs.Parts.{BelongTogether};
+ghost use Rattle.jobs.specs.Splits.{HasSomePart};
 ghost use Rattle.output.specs.Output.{Writes};
 ghost use Rattle.report.specs.Curve.{IsCurveOf, IsCurveOfJob, curve, curve_text};
 ghost use Rattle.report.specs.Curve.{counts_at, news_at, point_line};
 ghost use Rattle.report.specs.EndToEnd.{IsJobTextFault, IsReportFault, IsWatchedFault};
-ghost use Rattle.report.specs.EndToEnd.{WritesOneOf};
-ghost use Rattle.workers.specs.Refused.{IsPartsFault};
+ghost use Rattle.report.specs.EndToEnd.{IsWithin, WritesOneOf};
+ghost use Rattle.workers.specs.Refused.{ArePartsWithin, IsPartsFault};
 
 use crate::report::{hundredths, put_coverage};
 use block_sim::Job;
 use fault_model::Model;
 use fault_model::laws::stems;
 use itoa::Buffer;
-use jobs::{ReportFault, SimFault, Watch, job_of_in_threads, run_watched};
+use jobs::{ReportFault, SimFault, Split, Watch, run_watched, split_job_of};
 use output::{Out, OutFailed, put_pieces};
 use std::alloc::{AllocError, Global};
 use std::sync::Wait;
 use std::thread::Threads;
-use workers::{OpenGate, Verdicts, parts_for};
+use workers::{OpenGate, Verdicts};
 
 /// A test that is the first to detect some fault, and how many faults are detected by it or by a
 /// test before it. Tests count from 0.
@@ -52,32 +53,37 @@ pub fn curve_text_in<R: Threads + Wait, W: Out>(
     ensures refused { IfErr result (IsReportFault model bench.now tests.now workers) }
     ensures workers { OnOk result ((0 < workers) × (workers ≤ 64)) }
 {
-    curve_text_watched(rt, alloc, model, bench, tests, workers, &OpenGate, out)
+    let split = Split::Whole;
+    curve_text_watched(
+        rt, alloc, model, bench, tests, split, workers, &OpenGate, out,
+    )
 }
 
 /// Reads a circuit and tests for it, and writes the curve that [`curve_text_in`] writes, with the
-/// same bytes. The gate is told when the run begins and when it ends, and is asked before each
-/// piece of work; it decides nothing of the curve but whether there is one.
+/// same bytes, however the run is split. The gate is told when the run begins and when it ends, and
+/// is asked before each piece of work; it decides nothing of the curve but whether there is one.
 ///
-/// It is refused as [`crate::simulate_text_watched`] is without a number of parts.
+/// It is refused as [`crate::simulate_text_watched`] is.
 pub fn curve_text_watched<R: Threads + Wait, G: Watch + Sync, W: Out>(
     rt: &R,
     alloc: Global,
     model: Model,
     bench: &[u8],
     tests: &[u8],
+    split: Split,
     workers: u32,
     gate: &G,
     out: &mut W,
 ) -> Result<(), SimFault>
+    requires { HasSomePart split }
     ensures written { WritesOneOf (IsCurveOf model bench.now tests.now) result (W.seen out.old)
         (W.seen out.new) }
-    ensures refused { IfErr result (IsWatchedFault model bench.now tests.now None workers
+    ensures refused { IfErr result (IsWatchedFault model bench.now tests.now split workers
         (G.passing gate.now) (G.stops gate.now)) }
     ensures workers { OnOk result ((0 < workers) × (workers ≤ 64)) }
+    ensures within { OnOk result (IsWithin model bench.now tests.now split) }
 {
-    let job = job_of_in_threads(rt, alloc, model, bench, tests, workers)?;
-    let parts = parts_for(&job, workers);
+    let (job, parts) = split_job_of(rt, alloc, model, bench, tests, split, workers)?;
     report_curve(rt, alloc, &job, parts, workers, gate, out)
 }
 
@@ -97,6 +103,7 @@ fn report_curve<R: Threads + Wait, G: Watch + Sync, W: Out>(
     ensures refused { IfErr result (IsJobTextFault workers
         (IsPartsFault job.now parts workers (G.passing gate.now) (G.stops gate.now))) }
     ensures workers { OnOk result ((0 < workers) × (workers ≤ 64)) }
+    ensures within { OnOk result (ArePartsWithin job.now parts) }
 {
     let verdicts = run_watched(rt, alloc, job, parts, workers, gate)?;
     let points = curve_of(alloc, &verdicts, job.tests().count())?;

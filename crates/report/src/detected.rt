@@ -1,17 +1,15 @@
 //! How many tests detect each fault, from the bytes of texts to the bytes of a report.
 
-ghost use Rattle.std.specs.Prelude.{◌≡◌, ◌<◌, ◌≤◌, ◌^◌, ◌++◌, ⊤, IfErr, IfOk, OnOk, Some, length};
+ghost use Rattle.std.specs.Prelude.{◌≡◌, ◌<◌, ◌≤◌, ◌^◌, ◌++◌, IfErr, IfOk, OnOk, Some, length};
 ghost use Rattle.std.specs.Prelude.{slice_get, zip};
 ghost use Rattle.std.specs.List.{flat_map};
 ghost use Rattle.fault_model.specs.Fault.{faults};
 ghost use Rattle.block_sim.specs.Parts.{BelongTogether};
 ghost use Rattle.detections.specs.Detections.{AreCounts};
 ghost use Rattle.output.specs.Output.{Writes};
-ghost use Rattle.report.specs.Detected.{IsDetectionReportOf, IsDetectionReportOfJob, count_line};
-ghost use Rattle.report.specs.Detected.{detection_report, reached_count};
-ghost use Rattle.report.specs.EndToEnd.{IsReportFault, IsRunReportFault, WritesOneOf};
-ghost use Rattle.workers.specs.Refused.{IsRunFault};
-ghost use Rattle.workers.specs.Stops.{no_stop};
+ghost use Rattle.report.specs.Detected.{IsCountFault, IsDetectionReportOf, IsDetectionReportOfJob};
+ghost use Rattle.report.specs.Detected.{count_line, detection_report, reached_count};
+ghost use Rattle.report.specs.EndToEnd.{IsJobReportFault, IsReportFault, IsTextFault, WritesOneOf};
 
 use crate::report::{put_coverage, put_fault_line};
 use bench_net::Circuit;
@@ -19,7 +17,7 @@ use block_sim::Job;
 use detections::{CountFault, detections};
 use fault_model::{Faults, Model};
 use itoa::Buffer;
-use jobs::{ReportFault, SimFault, job_of_in_threads};
+use jobs::{ReportFault, SimFault, job_of_any_size_in_threads, job_of_in_threads};
 use output::{Out, OutFailed};
 use std::alloc::Global;
 use std::sync::Wait;
@@ -51,6 +49,32 @@ pub fn detections_text_in<R: Threads + Wait, W: Out>(
     report_counts(rt, alloc, &job, most, workers, list, out)
 }
 
+/// Reads a circuit and tests for it, and writes the report that [`detections_text_in`] writes, with
+/// the same bytes, whatever the number of pieces: nothing is kept of a piece, so there needn't be a
+/// limit.
+///
+/// It is refused as [`detections_text_in`] is, and for no number of pieces.
+pub fn detections_text_of_any_size<R: Threads + Wait, W: Out>(
+    rt: &R,
+    alloc: Global,
+    model: Model,
+    bench: &[u8],
+    tests: &[u8],
+    most: u32,
+    workers: u32,
+    list: bool,
+    out: &mut W,
+) -> Result<(), SimFault>
+    ensures written { WritesOneOf (IsDetectionReportOf model bench.now tests.now most list) result
+        (W.seen out.old) (W.seen out.new) }
+    ensures refused { IfErr result (IsTextFault model bench.now tests.now workers
+        (λ job. IsCountFault workers)) }
+    ensures workers { OnOk result ((0 < workers) × (workers ≤ 64)) }
+{
+    let job = job_of_any_size_in_threads(rt, alloc, model, bench, tests, workers)?;
+    report_counts(rt, alloc, &job, most, workers, list, out)
+}
+
 /// Counts for a job, and writes the report.
 fn report_counts<R: Threads + Wait, W: Out>(
     rt: &R,
@@ -64,7 +88,7 @@ fn report_counts<R: Threads + Wait, W: Out>(
     requires job { BelongTogether job.now }
     ensures written { WritesOneOf (IsDetectionReportOfJob job.now most list) result
         (W.seen out.old) (W.seen out.new) }
-    ensures refused { IfErr result (IsRunReportFault job.now workers) }
+    ensures refused { IfErr result (IsJobReportFault workers (IsCountFault workers)) }
     ensures workers { OnOk result ((0 < workers) × (workers ≤ 64)) }
 {
     let counts = counts_of(rt, alloc, job, most, workers)?;
@@ -82,7 +106,7 @@ fn counts_of<R: Threads + Wait>(
 ) -> Result<Vec<u32>, RunFault>
     ensures counts { IfOk result (λ counts. AreCounts job.now.list.model job.now.circuit
         job.now.tests.tests most counts.items) }
-    ensures refused { IfErr result (IsRunFault job.now workers ⊤ no_stop) }
+    ensures refused { IfErr result (IsCountFault workers) }
     ensures workers { OnOk result ((0 < workers) × (workers ≤ 64)) }
 {
     match workers {

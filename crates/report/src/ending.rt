@@ -5,7 +5,6 @@ ghost use Rattle.std.specs.Prelude.{MatchOption, OnOk, length, map, zip};
 ghost use Rattle.std.specs.List.{flat_map};
 ghost use Rattle.output.specs.Output.{Writes};
 ghost use Rattle.workers.specs.declared.parts.PartVerdict.TheVariants.{First};
-ghost use Rattle.workers.specs.Verdict.{detected_count};
 ghost use Rattle.report.specs.Merging.{HasParts, IsOpenRefusal, run_of};
 ghost use Rattle.report.specs.PartReading.{texts_in};
 ghost use Rattle.report.specs.Report.{name_line, report_text, wanted_name};
@@ -56,14 +55,6 @@ fn add_first(firsts: &mut Vec<Option<u32>>, first: Option<u32>) -> Result<(), Al
     ensures { OnOk result (firsts.new.items ≡ firsts.old.items ++ first ∷ []) }
 {
     Ok(firsts.push(first)?)
-}
-
-/// How many faults a test detects.
-fn count_detected(firsts: &[Option<u32>]) -> u32
-    requires { length firsts.now < 2 ^ 32 }
-    ensures { result ≡ detected_count firsts.now }
-{
-    firsts.iter().filter(|first| first.is_some()).count() as u32
 }
 
 /// Writes the line of the report for a fault, given by its name: the fault, and the first test that
@@ -128,9 +119,7 @@ pub fn write_merged<W: Out>(
         (report_text (run_of merged.now).faults (run_of merged.now).firsts lines) }
 {
     let firsts = merged.firsts();
-    let detected = count_detected(firsts);
-    let total = firsts.len() as u32;
     put_names(merged.faults(), firsts, lines, out)?;
-    put_coverage(detected, total, "", out)?;
+    put_coverage(merged.detected(), merged.total(), "", out)?;
     Ok(())
 }

@@ -1,9 +1,11 @@
 //! The laws of part texts, of their merge and its report, and of the coverage of classes.
 
-ghost use Rattle.std.specs.Prelude.{◌≡◌, ◌<◌, ◌^◌, ◌∷◌, ℕ, All, List, Option, Some, false, map};
+ghost use Rattle.std.specs.Prelude.{◌≡◌, ◌<◌, ◌^◌, ◌∷◌, ◌++◌, ℕ, All, List, Option, Some, false};
+ghost use Rattle.std.specs.Prelude.{map, true};
 ghost use Rattle.std.specs.Prelude.{slice_get};
 ghost use Rattle.bench_net.specs.Statement.{Statement};
 ghost use Rattle.bench_net.specs.Circuit.{IsCircuit};
+ghost use Rattle.bench_net.specs.Refusal.{IsAccepted};
 ghost use Rattle.fault_model.specs.declared.Model.{Model};
 ghost use Rattle.fault_model.specs.Fault.{Fault, faults};
 ghost use Rattle.fault_model.specs.Collapse.{AreClassesOf, Collapsed, IsClassOf};
@@ -23,7 +25,8 @@ ghost use Rattle.report.specs.declared.joining.MergeFault.{MergeFault};
 ghost use Rattle.report.specs.declared.part_reader.PartFault.{PartFault};
 ghost use Rattle.report.specs.declared.part_reader.PartFault.TheVariants as fault;
 ghost use Rattle.report.specs.PartReading.{IsPart, IsPartRefusal};
-ghost use Rattle.report.specs.Report.{class_firsts, fault_text, report, report_text};
+ghost use Rattle.report.specs.Report.{class_coverage_line, class_firsts, fault_text, report};
+ghost use Rattle.report.specs.Report.{report_text};
 ghost use Rattle.report.specs.declared.contents.Lines.{Lines};
 
 use bench_net::one_answer;
@@ -78,6 +81,20 @@ pub fn merged_report()
         → IsMergeOf first others merged
         → IsReportOf run.model run.bench run.tests (record { lines = lines; classes = false })
         (report_text merged.faults merged.firsts lines) }
+{
+    one_answer();
+}
+
+/// The report of such a merge with the coverage of the classes of the run's circuit is that of the
+/// run, too.
+pub fn merged_class_report()
+    ensures { (run : PartedRun) (first : List ℕ) (others : List (List ℕ)) (merged : MergedRun)
+        (lines : Lines) (c : List Statement) (classes : Collapsed) → IsSomePartOf run first
+        → All (IsSomePartToldFrom run) others → IsMergeOf first others merged
+        → IsAccepted run.bench c → AreClassesOf run.model c classes
+        → IsReportOf run.model run.bench run.tests (record { lines = lines; classes = true })
+        (report_text merged.faults merged.firsts lines
+        ++ class_coverage_line classes merged.firsts) }
 {
     one_answer();
 }

@@ -18,6 +18,7 @@ mod launched;
 mod laws;
 mod merge;
 mod merged;
+mod merged_classes;
 mod part;
 mod part_reader;
 mod reasoned;
@@ -30,22 +31,23 @@ mod whole;
 pub use compacted::compact_text_in;
 pub use contents::{Contents, Lines};
 pub use curve::{CurvePoint, curve_of, curve_text_in, curve_text_watched, write_curve};
-pub use detected::{detections_text_in, write_detections};
+pub use detected::{detections_text_in, detections_text_of_any_size, write_detections};
 pub use ending::write_merged;
-pub use jobs::{ReportFault, SimFault, Watch, job_of, job_of_in_threads};
+pub use jobs::{ReportFault, SimFault, Split, Watch, job_of, job_of_in_threads};
 pub use joining::MergeFault;
 pub use launched::pairs_text_in;
 pub use laws::{
-    class_firsts_are, merged_report, no_refusal_of_merge, no_refusal_of_part_text, one_part_text,
-    one_report, part_text_is_read,
+    class_firsts_are, merged_class_report, merged_report, no_refusal_of_merge,
+    no_refusal_of_part_text, one_part_text, one_report, part_text_is_read,
 };
 pub use merge::Merge;
 pub use merged::Merged;
+pub use merged_classes::write_merged_with_classes;
 pub use output::{Formatted, Out, OutFailed, Plain};
-pub use part::{part_text_in, part_text_watched};
+pub use part::{part_text_in, part_text_watched, sum_of};
 pub use part_reader::{PartFault, PartHeader, PartText, read_part};
 pub use reasoned::{reasons_text_watched, write_reasons};
-pub use report::{write_fault, write_listing, write_report, write_report_with};
+pub use report::{detected_classes, write_fault, write_listing, write_report, write_report_with};
 pub use responses::responses_text_in;
 pub use text::{
     faults_text, faults_text_in, listing_bytes, report_bytes, schedule_text, schedule_text_in,
@@ -54,4 +56,4 @@ pub use text::{
 };
 pub use undetected::Reason;
 pub use watched::simulate_text_watched;
-pub use workers::{Gate, MAX_WORKERS, OpenGate, RunFault};
+pub use workers::{Gate, MAX_WORKERS, OpenGate, RunFault, Verdicts};

@@ -13,6 +13,9 @@ pub struct Merged<'a> {
 }
 
 impl<'a> Merged<'a> {
+    ghost use Rattle.report.specs.Merging.{run_of};
+    ghost use Rattle.workers.specs.Verdict.{detected_count};
+
     /// Faults with their first tests.
     pub(crate) fn of(faults: Vec<&'a [u8]>, firsts: Vec<Option<u32>>) -> Merged<'a>
         requires same { length firsts.items ≡ length faults.items }
@@ -22,6 +25,20 @@ impl<'a> Merged<'a> {
         ensures firsts { result.firsts ≡ firsts }
     {
         Merged { faults, firsts }
+    }
+
+    /// The number of faults that a test detects.
+    pub fn detected(&self) -> u32
+        ensures { result ≡ detected_count (run_of self.now).firsts }
+    {
+        self.firsts.iter().filter(|first| first.is_some()).count() as u32
+    }
+
+    /// The number of faults, before collapsing.
+    pub fn total(&self) -> u32
+        ensures { result ≡ length (run_of self.now).firsts }
+    {
+        self.firsts.len() as u32
     }
 
     /// The names of the faults.

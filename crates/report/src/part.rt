@@ -126,8 +126,8 @@ fn name_of(model: Model) -> &'static str
     }
 }
 
-/// The SHA-256 of a text in lower case hex digits.
-fn sum_of(alloc: Global, text: &[u8]) -> Result<String, AllocError>
+/// Returns the SHA-256 of a text in lower-case hex digits, as a part text has it.
+pub fn sum_of(alloc: Global, text: &[u8]) -> Result<String, AllocError>
     ensures { IfOk result (λ sum. string_bytes sum ≡ sum_text text.now) }
 {
     encode(alloc, Sha256::digest(text))

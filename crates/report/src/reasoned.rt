@@ -1,14 +1,14 @@
 //! The report of the undetected faults with their reasons.
 
-ghost use Rattle.std.specs.Prelude.{◌≡◌, ◌<◌, ◌≤◌, ◌++◌, IfErr, IfSome, None, OnOk, Some, codes};
+ghost use Rattle.std.specs.Prelude.{◌≡◌, ◌<◌, ◌≤◌, ◌++◌, IfErr, OnOk, Some, codes};
 ghost use Rattle.std.specs.Prelude.{count_by, length, slice_get, zip};
 ghost use Rattle.std.specs.List.{flat_map};
 ghost use Rattle.fault_model.specs.Fault.{faults};
 ghost use Rattle.block_sim.specs.Parts.{BelongTogether};
+ghost use Rattle.jobs.specs.Splits.{HasSomePart};
 ghost use Rattle.output.specs.Output.{Writes};
 ghost use Rattle.workers.specs.Refused.{ArePartsWithin, IsPartsFault};
-ghost use Rattle.report.specs.EndToEnd.{HasPartsWithin, IsJobTextFault, IsTextFault};
-ghost use Rattle.report.specs.EndToEnd.{IsWatchedFault, WritesOneOf};
+ghost use Rattle.report.specs.EndToEnd.{IsJobTextFault, IsWatchedFault, IsWithin, WritesOneOf};
 ghost use Rattle.report.specs.Reasons.{IsReasonReportOf, IsReasonReportOfJob, has_reason};
 ghost use Rattle.report.specs.Reasons.{reason_line, reason_report, reason_text, reasons_line};
 
@@ -18,19 +18,19 @@ use bench_net::Circuit;
 use block_sim::Job;
 use fault_model::{Faults, Model};
 use itoa::Buffer;
-use jobs::{ReportFault, SimFault, Watch, job_of, job_of_any_size, run_watched};
+use jobs::{ReportFault, SimFault, Split, Watch, run_watched, split_job_of};
 use output::{Out, OutFailed, put_pieces};
 use std::alloc::Global;
 use std::sync::Wait;
 use std::thread::Threads;
 use undetected::{Reason, reasons};
-use workers::{Verdicts, parts_for};
+use workers::Verdicts;
 
 /// Reads a circuit and tests for it, and writes the report of the faults that no test detects, each
 /// with the reason why none does: a line for each of these faults, then the coverage line, with
 /// `classes` that of the classes, and last how many faults there are of each reason.
 ///
-/// The gate and the parts are those of [`crate::simulate_text_watched`], and it is refused as that
+/// The gate and the split are those of [`crate::simulate_text_watched`], and it is refused as that
 /// is.
 pub fn reasons_text_watched<R: Threads + Wait, G: Watch + Sync, W: Out>(
     rt: &R,
@@ -38,76 +38,21 @@ pub fn reasons_text_watched<R: Threads + Wait, G: Watch + Sync, W: Out>(
     model: Model,
     bench: &[u8],
     tests: &[u8],
-    parts: Option<u32>,
+    split: Split,
     workers: u32,
     classes: bool,
     gate: &G,
     out: &mut W,
 ) -> Result<(), SimFault>
-    requires { IfSome parts (λ count. 0 < count) }
+    requires { HasSomePart split }
     ensures written { WritesOneOf (IsReasonReportOf model bench.now tests.now classes) result
         (W.seen out.old) (W.seen out.new) }
-    ensures refused { IfErr result (IsWatchedFault model bench.now tests.now parts workers
+    ensures refused { IfErr result (IsWatchedFault model bench.now tests.now split workers
         (G.passing gate.now) (G.stops gate.now)) }
     ensures workers { OnOk result ((0 < workers) × (workers ≤ 64)) }
-    ensures within { IfSome parts (λ count. OnOk result
-        (HasPartsWithin model bench.now tests.now count)) }
+    ensures within { OnOk result (IsWithin model bench.now tests.now split) }
 {
-    match parts {
-        Some(parts) => {
-            reasons_in_parts(
-                rt, alloc, model, bench, tests, parts, workers, classes, gate, out,
-            )
-        }
-        None => reasons_of_whole(rt, alloc, model, bench, tests, workers, classes, gate, out),
-    }
-}
-
-/// The report of a run in so many parts, whatever the number of pieces of the whole.
-fn reasons_in_parts<R: Threads + Wait, G: Watch + Sync, W: Out>(
-    rt: &R,
-    alloc: Global,
-    model: Model,
-    bench: &[u8],
-    tests: &[u8],
-    parts: u32,
-    workers: u32,
-    classes: bool,
-    gate: &G,
-    out: &mut W,
-) -> Result<(), SimFault>
-    requires { 0 < parts }
-    ensures written { WritesOneOf (IsReasonReportOf model bench.now tests.now classes) result
-        (W.seen out.old) (W.seen out.new) }
-    ensures refused { IfErr result (IsTextFault model bench.now tests.now workers
-        (λ job. IsPartsFault job parts workers (G.passing gate.now) (G.stops gate.now))) }
-    ensures workers { OnOk result ((0 < workers) × (workers ≤ 64)) }
-    ensures within { OnOk result (HasPartsWithin model bench.now tests.now parts) }
-{
-    let job = job_of_any_size(alloc, model, bench, tests)?;
-    report_reasons(rt, alloc, &job, parts, workers, classes, gate, out)
-}
-
-/// The report of a run in as many parts as serve so many workers.
-fn reasons_of_whole<R: Threads + Wait, G: Watch + Sync, W: Out>(
-    rt: &R,
-    alloc: Global,
-    model: Model,
-    bench: &[u8],
-    tests: &[u8],
-    workers: u32,
-    classes: bool,
-    gate: &G,
-    out: &mut W,
-) -> Result<(), SimFault>
-    ensures written { WritesOneOf (IsReasonReportOf model bench.now tests.now classes) result
-        (W.seen out.old) (W.seen out.new) }
-    ensures refused { IfErr result (IsWatchedFault model bench.now tests.now None workers
-        (G.passing gate.now) (G.stops gate.now)) }
-    ensures workers { OnOk result ((0 < workers) × (workers ≤ 64)) }
-{
-    let job = job_of(alloc, model, bench, tests)?;
-    let parts = parts_for(&job, workers);
+    let (job, parts) = split_job_of(rt, alloc, model, bench, tests, split, workers)?;
     report_reasons(rt, alloc, &job, parts, workers, classes, gate, out)
 }
 

@@ -201,7 +201,7 @@ fn is_detected(verdicts: &Verdicts, fault: u32) -> bool
 }
 
 /// The number of classes whose faults are detected.
-fn detected_classes(classes: &Classes, verdicts: &Verdicts) -> u32
+pub fn detected_classes(classes: &Classes, verdicts: &Verdicts) -> u32
     ensures { result ≡ detected_count (class_firsts classes.now verdicts.now.firsts) }
 {
     let mut found = 0;

@@ -12,11 +12,11 @@ ghost use Rattle.report.specs.Report.{contents_of};
 
 use crate::contents::Contents;
 use crate::report::{write_listing, write_report_with};
-use crate::watched::{watch_parts, watch_whole};
+use crate::watched::simulate_text_watched;
 use bench_net::{Circuit, read_bench};
 use block_sim::Job;
 use fault_model::{Model, collapse, list_faults_in};
-use jobs::{ReportFault, SimFault, job_for, read_inputs};
+use jobs::{ReportFault, SimFault, Split, job_for, read_inputs};
 use output::{Out, Plain};
 use patterns::read_order;
 use std::alloc::Global;
@@ -88,8 +88,9 @@ pub fn simulate_text_with<R: Threads + Wait, W: Out>(
     ensures refused { IfErr result (IsReportFault model bench.now tests.now workers) }
     ensures workers { OnOk result ((0 < workers) × (workers ≤ 64)) }
 {
-    watch_whole(
-        rt, alloc, model, bench, tests, workers, contents, &OpenGate, out,
+    let split = Split::Whole;
+    simulate_text_watched(
+        rt, alloc, model, bench, tests, split, workers, contents, &OpenGate, out,
     )
 }
 
@@ -119,8 +120,9 @@ pub fn simulate_text_in_parts<R: Threads + Wait, W: Out>(
     ensures workers { OnOk result ((0 < workers) × (workers ≤ 64)) }
     ensures within { OnOk result (HasPartsWithin model bench.now tests.now parts) }
 {
-    watch_parts(
-        rt, alloc, model, bench, tests, parts, workers, contents, &OpenGate, out,
+    let split = Split::Parts(parts);
+    simulate_text_watched(
+        rt, alloc, model, bench, tests, split, workers, contents, &OpenGate, out,
     )
 }
 

@@ -1,15 +1,16 @@
 //! Tables of faults, from the bytes of texts.
 
-ghost use Rattle.std.specs.Prelude.{◌≡◌, ◌<◌, ◌≤◌, IfErr, None, OnOk, length};
+ghost use Rattle.std.specs.Prelude.{◌≡◌, ◌<◌, ◌≤◌, IfErr, OnOk, length};
 ghost use Rattle.block_sim.specs.Parts.{BelongTogether};
 ghost use Rattle.fault_model.specs.Fault.{faults};
 ghost use Rattle.output.specs.Output.{Writes};
+ghost use Rattle.jobs.specs.Splits.{HasSomePart};
 ghost use Rattle.report.specs.EndToEnd.{IsJobTextFault, IsListingFault, IsReportFault};
-ghost use Rattle.report.specs.EndToEnd.{IsWatchedFault, WritesOneOf};
+ghost use Rattle.report.specs.EndToEnd.{IsWatchedFault, IsWithin, WritesOneOf};
 ghost use Rattle.tables.specs.Refusals.{IsTableFault};
 ghost use Rattle.tables.specs.Tables.{IsClassTableOf, IsClassTableOfCircuit, IsFirstTableOf};
 ghost use Rattle.tables.specs.Tables.{IsFirstTableOfJob, IsTable, column_in, csv_table, json_table};
-ghost use Rattle.workers.specs.Refused.{IsPartsFault};
+ghost use Rattle.workers.specs.Refused.{ArePartsWithin, IsPartsFault};
 
 use crate::column::Column;
 use crate::csv_table::csv_table;
@@ -17,13 +18,12 @@ use crate::json_table::{json_rows, put_json};
 use bench_net::{Circuit, read_bench};
 use block_sim::Job;
 use fault_model::{Faults, Model, collapse, list_faults_in};
-use jobs::{Watch, job_of_in_threads, run_watched};
+use jobs::{Watch, run_watched, split_job_of};
 use output::put_all;
-use report::{Lines, OpenGate, Out, ReportFault, SimFault};
+use report::{Lines, OpenGate, Out, ReportFault, SimFault, Split};
 use std::alloc::Global;
 use std::sync::Wait;
 use std::thread::Threads;
-use workers::parts_for;
 
 /// How a table is written.
 #[derive(Clone, Copy, Debug, PartialEq, Eq)]
@@ -161,33 +161,37 @@ pub fn run_table_in<R: Threads + Wait, W: Out>(
     ensures refused { IfErr result (IsReportFault model bench.now tests.now workers) }
     ensures workers { OnOk result ((0 < workers) × (workers ≤ 64)) }
 {
+    let split = Split::Whole;
     run_table_watched(
-        rt, alloc, model, bench, tests, workers, lines, format, &OpenGate, out,
+        rt, alloc, model, bench, tests, split, workers, lines, format, &OpenGate, out,
     )
 }
 
-/// Writes the table that [`run_table_in`] writes. The gate is told when the run begins and when it
-/// ends, and is asked before each piece of work. It is refused as `report::curve_text_watched` is.
+/// Writes the table that [`run_table_in`] writes, however the run is split. The gate is told when
+/// the run begins and when it ends, and is asked before each piece of work. It is refused as
+/// `report::curve_text_watched` is.
 pub fn run_table_watched<R: Threads + Wait, G: Watch + Sync, W: Out>(
     rt: &R,
     alloc: Global,
     model: Model,
     bench: &[u8],
     tests: &[u8],
+    split: Split,
     workers: u32,
     lines: Lines,
     format: Format,
     gate: &G,
     out: &mut W,
 ) -> Result<(), SimFault>
+    requires { HasSomePart split }
     ensures written { WritesOneOf (IsFirstTableOf model bench.now tests.now lines format) result
         (W.seen out.old) (W.seen out.new) }
-    ensures refused { IfErr result (IsWatchedFault model bench.now tests.now None workers
+    ensures refused { IfErr result (IsWatchedFault model bench.now tests.now split workers
         (G.passing gate.now) (G.stops gate.now)) }
     ensures workers { OnOk result ((0 < workers) × (workers ≤ 64)) }
+    ensures within { OnOk result (IsWithin model bench.now tests.now split) }
 {
-    let job = job_of_in_threads(rt, alloc, model, bench, tests, workers)?;
-    let parts = parts_for(&job, workers);
+    let (job, parts) = split_job_of(rt, alloc, model, bench, tests, split, workers)?;
     write_run(rt, alloc, &job, parts, workers, lines, format, gate, out)
 }
 
@@ -210,6 +214,7 @@ fn write_run<R: Threads + Wait, G: Watch + Sync, W: Out>(
     ensures refused { IfErr result (IsJobTextFault workers
         (IsPartsFault job.now parts workers (G.passing gate.now) (G.stops gate.now))) }
     ensures workers { OnOk result ((0 < workers) × (workers ≤ 64)) }
+    ensures within { OnOk result (ArePartsWithin job.now parts) }
 {
     let verdicts = run_watched(rt, alloc, job, parts, workers, gate)?;
     let column = Column::First {

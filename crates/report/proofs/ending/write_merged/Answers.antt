@@ -19,8 +19,8 @@ returns-in_err-put_coverage g c =
     c.from_residual-in_err-put_coverage.ensures.1 in
     let wrote = rw (c.faults.ensures, c.firsts-firsts.ensures) at c.in_ok-put_names.ensures in
     let covered = rw (
-      c.count_detected-detected.ensures,
-      c.firsts-firsts.ensures,
+      c.detected.ensures,
+      c.total.ensures,
     ) at c.in_err-put_coverage.ensures in
     rw (p.1) (stopped_after _ _ _ _ _ wrote covered)
 
@@ -28,7 +28,7 @@ pub returns : goal.returns
 returns g c =
     let wrote = rw (c.faults.ensures, c.firsts-firsts.ensures) at c.in_ok-put_names.ensures in
     let covered = rw (
-      c.count_detected-detected.ensures,
-      c.firsts-firsts.ensures,
+      c.detected.ensures,
+      c.total.ensures,
     ) at c.in_ok-put_coverage.ensures in
     takes_more _ _ _ _ _ wrote covered

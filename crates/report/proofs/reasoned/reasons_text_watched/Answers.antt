@@ -1,30 +1,48 @@
-use Rattle.std.proofs.Common.{ℕ, Option, Some, subst, sym}
-use Rattle.std.specs.Prelude.{IfErr, IfSome, OnOk}
-use Rattle.workers.specs.Refused.{IsPartsFault}
-use Rattle.report.specs.EndToEnd.{HasPartsWithin, IsTextFault, IsWatchedFault}
-use Rattle.report.proofs.ReportsOfTexts.{refused_as}
-use Rattle.report.proofs.WatchedRuns.{watched_parts}
+use Rattle.std.proofs.lemmas.Result.{err_from_is_err_and}
+use Rattle.workers.specs.Refused.{ArePartsWithin, IsPartsFault}
+use Rattle.report.specs.EndToEnd.{IsJobTextFault, IsWatchedFault, IsWithin}
+use Rattle.report.specs.Reasons.{IsReasonReportOf, IsReasonReportOfJob}
+use Rattle.report.proofs.ReasonTexts.{reasons_of_texts}
+use Rattle.report.proofs.ReportsOfTexts.{ok_as, refused_as, written_as}
+use Rattle.report.proofs.WatchedRuns.{split_refused, split_text_fault, split_within}
 use Rattle.report.proofs.reasoned.reasons_text_watched.Goals as goal
 
-pub returns-in-Some-clause-within : goal.returns-in-Some-clause-within
-returns-in-Some-clause-within g c =
-    subst (λ (given : Option ℕ). IfSome given (λ count. OnOk c.reasons_in_parts.result
-    (HasPartsWithin c.args.model c.args.bench.now c.args.tests.now count))) (sym c.in-Some.is)
-    c.reasons_in_parts.ensures.within
+pub returns-in_err-job-clause-refused : goal.returns-in_err-job-clause-refused
+returns-in_err-job-clause-refused g c =
+    let p = err_from_is_err_and c.from_residual.result
+    c.from_residual.ensures.1 in
+    rw (p.1, p.2) (split_refused c.args.model c.args.bench.now c.args.tests.now c.args.split
+    c.args.workers (g.G.Gate.passing c.args.gate.now) (g.G.Gate.stops c.args.gate.now) _
+    c.in_err-job.ensures.refused)
 
-pub returns-in-Some-clause-refused : goal.returns-in-Some-clause-refused
-returns-in-Some-clause-refused g c =
-    let m = c.args.model in
-    let bench = c.args.bench.now in
-    let text = c.args.tests.now in
-    let workers = c.args.workers in
+pub returns-clause-written : goal.returns-clause-written
+returns-clause-written g c =
+    let job = c.in_ok-job.job in
+    written_as (IsReasonReportOfJob job c.args.classes)
+    (IsReasonReportOf c.args.model c.args.bench.now c.args.tests.now c.args.classes)
+    c.report_reasons.result _ _ (reasons_of_texts c.args.model c.args.bench.now c.args.tests.now
+    c.args.classes job c.in_ok-job.ensures.job) c.report_reasons.ensures.written
+
+pub returns-clause-refused : goal.returns-clause-refused
+returns-clause-refused g c =
+    let job = c.in_ok-job.job in
+    let parts = c.in_ok-job.parts in
     let passing = g.G.Gate.passing c.args.gate.now in
     let stops = g.G.Gate.stops c.args.gate.now in
-    subst (λ (given : Option ℕ). IfErr c.reasons_in_parts.result
-    (IsWatchedFault m bench text given workers passing stops)) (sym c.in-Some.is)
-    (refused_as
-    (IsTextFault m bench text workers (λ job. IsPartsFault job c.in-Some.parts workers passing
-    stops))
-    (IsWatchedFault m bench text (Some c.in-Some.parts) workers passing stops) c.reasons_in_parts.result
-    (watched_parts m bench text c.in-Some.parts workers passing stops)
-    c.reasons_in_parts.ensures.refused)
+    refused_as (IsJobTextFault c.args.workers (IsPartsFault job parts c.args.workers passing stops))
+    (IsWatchedFault c.args.model c.args.bench.now c.args.tests.now c.args.split c.args.workers
+    passing stops)
+    c.report_reasons.result (split_text_fault c.args.model c.args.bench.now c.args.tests.now
+    c.args.split parts c.args.workers passing stops job c.in_ok-job.ensures.job
+    c.in_ok-job.ensures.parts)
+    c.report_reasons.ensures.refused
+
+pub returns-clause-within : goal.returns-clause-within
+returns-clause-within g c =
+    let job = c.in_ok-job.job in
+    let parts = c.in_ok-job.parts in
+    ok_as (ArePartsWithin job parts)
+    (IsWithin c.args.model c.args.bench.now c.args.tests.now c.args.split) c.report_reasons.result
+    (split_within c.args.model c.args.bench.now c.args.tests.now c.args.split parts c.args.workers
+    job c.in_ok-job.ensures.job c.in_ok-job.ensures.parts)
+    c.report_reasons.ensures.within

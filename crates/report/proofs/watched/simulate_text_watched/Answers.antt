@@ -1,30 +1,43 @@
-use Rattle.std.proofs.Common.{ℕ, Option, Some, subst, sym}
-use Rattle.std.specs.Prelude.{IfErr, IfSome, OnOk}
-use Rattle.workers.specs.Refused.{IsPartsFault}
-use Rattle.report.specs.EndToEnd.{HasPartsWithin, IsTextFault, IsWatchedFault}
-use Rattle.report.proofs.ReportsOfTexts.{refused_as}
-use Rattle.report.proofs.WatchedRuns.{watched_parts}
+use Rattle.std.proofs.lemmas.Result.{err_from_is_err_and}
+use Rattle.workers.specs.Refused.{ArePartsWithin, IsPartsFault}
+use Rattle.report.specs.EndToEnd.{IsJobReportFault, IsWatchedFault, IsWithin}
+use Rattle.report.proofs.ReportsOfTexts.{ok_as, refused_as, written_of_texts}
+use Rattle.report.proofs.WatchedRuns.{split_fault, split_refused, split_within}
 use Rattle.report.proofs.watched.simulate_text_watched.Goals as goal
 
-pub returns-in-Some-clause-within : goal.returns-in-Some-clause-within
-returns-in-Some-clause-within g c =
-    subst (λ (given : Option ℕ). IfSome given (λ count. OnOk c.watch_parts.result
-    (HasPartsWithin c.args.model c.args.bench.now c.args.tests.now count))) (sym c.in-Some.is)
-    c.watch_parts.ensures.within
+pub returns-in_err-job-clause-refused : goal.returns-in_err-job-clause-refused
+returns-in_err-job-clause-refused g c =
+    let p = err_from_is_err_and c.from_residual.result
+    c.from_residual.ensures.1 in
+    rw (p.1, p.2) (split_refused c.args.model c.args.bench.now c.args.tests.now c.args.split
+    c.args.workers (g.G.Gate.passing c.args.gate.now) (g.G.Gate.stops c.args.gate.now) _
+    c.in_err-job.ensures.refused)
 
-pub returns-in-Some-clause-refused : goal.returns-in-Some-clause-refused
-returns-in-Some-clause-refused g c =
-    let m = c.args.model in
-    let bench = c.args.bench.now in
-    let text = c.args.tests.now in
-    let workers = c.args.workers in
+pub returns-clause-written : goal.returns-clause-written
+returns-clause-written g c =
+    written_of_texts c.args.model c.args.bench.now c.args.tests.now c.args.contents c.in_ok-job.job
+    c.report_run.result _ _ c.in_ok-job.ensures.job c.report_run.ensures.written
+
+pub returns-clause-refused : goal.returns-clause-refused
+returns-clause-refused g c =
+    let job = c.in_ok-job.job in
+    let parts = c.in_ok-job.parts in
     let passing = g.G.Gate.passing c.args.gate.now in
     let stops = g.G.Gate.stops c.args.gate.now in
-    subst (λ (given : Option ℕ). IfErr c.watch_parts.result
-    (IsWatchedFault m bench text given workers passing stops)) (sym c.in-Some.is)
-    (refused_as
-    (IsTextFault m bench text workers (λ job. IsPartsFault job c.in-Some.parts workers passing
-    stops))
-    (IsWatchedFault m bench text (Some c.in-Some.parts) workers passing stops) c.watch_parts.result
-    (watched_parts m bench text c.in-Some.parts workers passing stops)
-    c.watch_parts.ensures.refused)
+    refused_as (IsJobReportFault c.args.workers
+    (IsPartsFault job parts c.args.workers passing stops))
+    (IsWatchedFault c.args.model c.args.bench.now c.args.tests.now c.args.split c.args.workers
+    passing stops)
+    c.report_run.result (split_fault c.args.model c.args.bench.now c.args.tests.now c.args.split
+    parts c.args.workers passing stops job c.in_ok-job.ensures.job c.in_ok-job.ensures.parts)
+    c.report_run.ensures.refused
+
+pub returns-clause-within : goal.returns-clause-within
+returns-clause-within g c =
+    let job = c.in_ok-job.job in
+    let parts = c.in_ok-job.parts in
+    ok_as (ArePartsWithin job parts)
+    (IsWithin c.args.model c.args.bench.now c.args.tests.now c.args.split) c.report_run.result
+    (split_within c.args.model c.args.bench.now c.args.tests.now c.args.split parts c.args.workers
+    job c.in_ok-job.ensures.job c.in_ok-job.ensures.parts)
+    c.report_run.ensures.within

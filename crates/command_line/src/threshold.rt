@@ -1,0 +1,86 @@
+//! The option `--fail-under P`: a coverage that is to be reached.
+
+ghost use Rattle.std.specs.Prelude.{◌*◌, ◌<◌, ◌≤◌, ◌↔◌, IsTrue};
+
+use crate::status::Fault;
+use clap::ArgMatches;
+
+/// How many decimals a percentage may have.
+const DECIMALS: usize = 6;
+
+/// A hundred percent, in millionths of a percent.
+const HUNDRED: u64 = 100_000_000;
+
+/// Why a text is no percentage.
+const NO_PERCENTAGE: &str = "give a percentage from 0 to 100, with at most 6 decimals";
+
+/// A coverage that is to be reached, in millionths of a percent, and as it is written.
+#[derive(Clone, Copy)]
+pub(crate) struct Threshold<'a> {
+    pub(crate) text: &'a str,
+    pub(crate) millionths: u64,
+    ghost few: { millionths ≤ 100000000 },
+}
+
+impl<'a> Threshold<'a> {
+    /// Whether so many of so many are too few.
+    pub(crate) fn is_missed(self, detected: u32, faults: u32) -> bool
+        ensures { IsTrue result ↔ (100000000 * detected < self.entry.millionths * faults) }
+    {
+        HUNDRED * u64::from(detected) < self.millionths * u64::from(faults)
+    }
+}
+
+/// The threshold that the command line names, if it names one.
+pub(crate) fn read_threshold<'a>(
+    matches: &ArgMatches<'a>,
+) -> Result<Option<Threshold<'a>>, Fault<'a>> {
+    let Some(text) = matches.get_str("fail-under") else {
+        return Ok(None);
+    };
+    match millionths_of(text) {
+        Some(millionths) if millionths <= HUNDRED => Ok(Some(Threshold { text, millionths })),
+        _ => Err(Fault::Unfit("--fail-under", NO_PERCENTAGE)),
+    }
+}
+
+/// Refuses so many of so many faults where the threshold is missed.
+pub(crate) fn check_threshold<'a>(
+    threshold: Option<Threshold<'a>>,
+    detected: u32,
+    faults: u32,
+) -> Result<(), Fault<'a>> {
+    match threshold {
+        Some(least) if least.is_missed(detected, faults) => Err(Fault::Missed(least.text)),
+        _ => Ok(()),
+    }
+}
+
+/// The millionths of a percent in a text of digits, with or without a point and decimals.
+fn millionths_of(text: &str) -> Option<u64> {
+    let (whole, decimals) = match text.split_once('.') {
+        Some((whole, decimals)) => (whole, decimals),
+        None => (text, "0"),
+    };
+    if decimals.len() > DECIMALS {
+        return None;
+    }
+    let mut millionths = number_of(decimals)?;
+    for _place in decimals.len()..DECIMALS {
+        millionths = millionths.saturating_mul(10);
+    }
+    Some(
+        number_of(whole)?
+            .saturating_mul(1_000_000)
+            .saturating_add(millionths),
+    )
+}
+
+/// The number in a text that has digits alone, one at least.
+fn number_of(text: &str) -> Option<u64> {
+    if text.bytes().all(|byte| byte.is_ascii_digit()) {
+        text.parse::<u64>().ok()
+    } else {
+        None
+    }
+}
