@@ -1,4 +1,4 @@
-//! Whether some test activates a fault: gives its line the complement of the stuck bit.
+//! Activation of faults: whether a test gives the line the complement of the stuck bit.
 
 ghost use Rattle.std.specs.Prelude.{◌≡◌, ◌↔◌, ◌+◌, ◌*◌, ◌<◌, ℕ, IsTrue, Some, length, not};
 ghost use Rattle.std.specs.Prelude.{slice_get};
@@ -16,11 +16,11 @@ use crate::look_back::lanes_that_fit;
 use crate::origin::origin_of;
 use crate::words::Stuck;
 
-/// Whether some test of a job activates the fault of this number in its list: the test gives the
-/// line, without a fault, the complement of the stuck bit. A transition fault is activated where
-/// the test before gives the line the stuck bit, too, and in a list of pairs where that is the
-/// first of the pair. It takes no memory, and reads two words or so of each group of tests up to
-/// the first one with such a test.
+/// Returns whether some test of a job activates the fault of this number in its list: the test
+/// gives the fault's line, in the fault-free circuit, the complement of the stuck bit. For a
+/// transition fault the test before must also give the line the stuck bit, and in a list of pairs
+/// that must be the launch test of the pair. It takes no memory. It reads about two words of each
+/// group of tests up to the first group with such a test.
 pub fn is_activated(job: &Job, fault: u32) -> bool
     requires { fault < length job.now.list.list }
     ensures { (f : Fault) → slice_get job.now.list.list fault ≡ Some f
@@ -40,7 +40,7 @@ pub fn is_activated(job: &Job, fault: u32) -> bool
     false
 }
 
-/// The lanes of a group whose tests activate a fault.
+/// Returns the lanes of a group whose tests activate a fault.
 fn activating_lanes(job: &Job, group: u32, stuck: Stuck) -> u128
     requires group { group < groups (length job.now.tests.tests) }
     requires stuck { (f : Fault) × IsStuckOf job.now.circuit f stuck }
@@ -52,7 +52,8 @@ fn activating_lanes(job: &Job, group: u32, stuck: Stuck) -> u128
     lanes_below(size) & lanes_that_fit(job, group, stuck) & opposite_lanes(job, group, stuck)
 }
 
-/// The lanes of a group whose tests give the line of a fault the complement of the stuck bit.
+/// Returns the lanes of a group whose tests give the line of a fault the complement of the stuck
+/// bit.
 fn opposite_lanes(job: &Job, group: u32, stuck: Stuck) -> u128
     requires group { group < groups (length job.now.tests.tests) }
     requires stuck { (f : Fault) × IsStuckOf job.now.circuit f stuck }

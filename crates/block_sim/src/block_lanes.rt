@@ -1,4 +1,4 @@
-//! Lanes of a word: those below a number, a block's word out of a group's and the other way, and
+//! Lanes of a word: the lanes below a number, a block's word from a group's and the other way, and
 //! the least lane that is 1.
 
 ghost use Rattle.std.specs.Prelude.{◌≡◌, ℕ, ◌+◌, ◌*◌, ◌/◌, ◌<◌, ◌≤◌, nat_lt};
@@ -7,7 +7,7 @@ ghost use Rattle.block_sim.specs.Words.{lane, IsLeastLane};
 
 use patterns::Outcome;
 
-/// A word with this bit in each of its lanes.
+/// Returns a word with this bit in each of its lanes.
 #[inline(always)]
 pub fn in_each_lane(bit: bool) -> u128
     ensures { (k : ℕ) → k < 128 → lane result k ≡ bit }
@@ -15,7 +15,7 @@ pub fn in_each_lane(bit: bool) -> u128
     if bit { !0 } else { 0 }
 }
 
-/// A word whose lanes below this number are 1.
+/// Returns a word whose lanes below this number are 1.
 pub fn lanes_below(size: u32) -> u128
     requires { size ≤ 128 }
     ensures { (k : ℕ) → k < 128 → lane result k ≡ nat_lt k size }
@@ -23,7 +23,7 @@ pub fn lanes_below(size: u32) -> u128
     if size == 128 { !0 } else { (1 << size) - 1 }
 }
 
-/// The word of a block, out of the word of its group.
+/// Returns the word of a block, from the word of its group.
 pub fn block_word(word: u128, block: u32) -> u64
     ensures { (k j : ℕ) → k < 64 → 64 * block + k ≡ 128 * (block / 2) + j
         → lane result k ≡ lane word j }
@@ -35,7 +35,7 @@ pub fn block_word(word: u128, block: u32) -> u64
     }
 }
 
-/// The word of a group, out of those of its two blocks.
+/// Returns the word of a group, from the words of its two blocks.
 pub fn group_word(low: u64, high: u64) -> u128
     ensures low { (k : ℕ) → k < 64 → bit_at result k ≡ bit_at low k }
     ensures high { (k : ℕ) → k < 64 → bit_at result (64 + k) ≡ bit_at high k }
@@ -43,7 +43,7 @@ pub fn group_word(low: u64, high: u64) -> u128
     u128::from(high) << 64 | u128::from(low)
 }
 
-/// The least lane that is 1, as an outcome.
+/// Returns the least lane that is 1, as an outcome.
 pub fn least_lane(word: u64) -> Outcome
     ensures { IsLeastLane word result }
 {

@@ -1,4 +1,4 @@
-//! What a fault changes on a block: the signals that differ, and the gates that wait for that.
+//! The changes of a fault on a block: the signals that differ, and the gates that wait.
 
 ghost use Rattle.std.specs.Prelude.{◌≡◌, ◌+◌, ◌<◌, ◌^◌, IfOk, length};
 ghost use Rattle.block_sim.specs.Changes.{IsAtRest};
@@ -6,7 +6,7 @@ ghost use Rattle.block_sim.specs.Changes.{IsAtRest};
 use event_queue::{Overlay, Places};
 use std::alloc::{AllocError, Global};
 
-/// The words that differ, the gates that wait, and how often a gate was evaluated.
+/// The words that differ, the gates that wait, and the number of evaluations of gates.
 #[derive(Drop)]
 pub struct Changes {
     pub overlay: Overlay,
@@ -15,7 +15,7 @@ pub struct Changes {
 }
 
 impl Changes {
-    /// Nothing differs and no gate waits. There is room for this many signals.
+    /// Makes room for this many signals: none differs, and no gate waits.
     pub fn new(alloc: Global, signals: u32) -> Result<Changes, AllocError>
         requires { signals + 1 < 2 ^ 32 }
         ensures rest { IfOk result IsAtRest }

@@ -1,5 +1,5 @@
-//! The effect of one fault on a group of tests: where it is excited, the first signal that it
-//! changes, and the lanes in which an observer shows it.
+//! The effect of one fault on a group of tests: the lanes in which it is excited, the first signal
+//! that it changes, and the lanes in which an observer shows it.
 
 ghost use Rattle.std.specs.Prelude.{◌≡◌, ℕ, ◌+◌, ◌<◌, ◌≤◌, Contains, List, None, Some, true};
 ghost use Rattle.std.specs.Prelude.{length, bit_xor, slice_index_or};
@@ -20,10 +20,10 @@ use crate::view::BlockView;
 use crate::words::{Stuck, evaluate_gate};
 use fault_model::Line;
 
-/// The lanes, among those that are asked for, in which some observer shows another bit with the
-/// fault than without it. Where first hits are asked for it may leave out lanes above the least: it
-/// gives, for each class that is followed in a lane that it leaves out, a lower lane of that class.
-/// No gate is evaluated where the fault is excited in none of the lanes.
+/// Returns the lanes, among the requested ones, in which some observer shows another bit with the
+/// fault than without it. If first hits are requested, it may leave out lanes: for each class that
+/// is followed in such a lane it returns a lower lane of that class. It evaluates no gate if the
+/// fault is excited in none of the lanes.
 pub fn effect(view: BlockView<'_>, fault: Stuck, extent: Extent<'_>, changes: &mut Changes) -> u128
     requires view { HasWords view.circuit.now.arranged view.good.now }
     requires words { (tests : List Test) × (group : ℕ)
@@ -60,8 +60,8 @@ pub fn effect(view: BlockView<'_>, fault: Stuck, extent: Extent<'_>, changes: &m
     }
 }
 
-/// The lanes, of those that are asked for, in which a fault on a pin of a gate changes the gate's
-/// word.
+/// Returns the lanes, among the requested ones, in which a fault on a pin of a gate changes the
+/// gate's word.
 pub fn gate_change(view: BlockView<'_>, fault: Stuck, gate: u32, changes: &mut Changes) -> u128
     requires view { HasWords view.circuit.now.arranged view.good.now }
     requires room { HasRoomFor view.circuit.now.arranged changes.old }

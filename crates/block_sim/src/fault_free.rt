@@ -1,4 +1,4 @@
-//! The words of all signals without a fault, worked out in one thread or in several.
+//! The fault-free words of all signals, computed in one thread or in several.
 
 ghost use Rattle.std.specs.Prelude.{◌≡◌, ◌+◌, ◌<◌, ◌≤◌, ℕ, IfOk, length, map};
 ghost use Rattle.bench_net.specs.Scan.{sources};
@@ -15,10 +15,10 @@ use std::sync::Wait;
 use std::thread;
 use std::thread::{Promise, Threads};
 
-/// So many words take about a millisecond, some twenty times as long as the start of a thread.
+/// The words of about a millisecond, about twenty times as long as the start of a thread.
 const WORDS_OF_A_THREAD: u64 = 1 << 15;
 
-/// No more threads than this work out words, whatever is asked for.
+/// The most threads that compute words, whatever number is requested.
 const MAX_THREADS: u32 = 64;
 
 /// The words of groups that follow each other.
@@ -30,7 +30,7 @@ struct GroupRows {
     rows: Vec<Vec<u128>>,
 }
 
-/// The words of every group of two blocks without a fault, one row a group.
+/// Returns the fault-free words of every group of two blocks, one row for each group.
 pub fn fault_free_rows(
     alloc: Global,
     circuit: &FlatCircuit,
@@ -45,9 +45,9 @@ pub fn fault_free_rows(
     rows_between(alloc, circuit, tests, 0, groups_of(tests))
 }
 
-/// The rows of [`fault_free_rows`], by no more threads than there are workers. Each thread works
-/// out the rows of groups that follow each other, and the caller's thread those of a thread that
-/// was refused. A job of few words is worked out by the caller's thread alone.
+/// Returns the rows of [`fault_free_rows`], computed by at most as many threads as there are
+/// workers. Each thread computes the rows of adjacent groups. If a thread doesn't start, the
+/// caller's thread computes its rows. Only the caller's thread computes a job of few words.
 pub fn fault_free_rows_in_threads<R: Threads + Wait>(
     rt: &R,
     alloc: Global,
@@ -69,21 +69,22 @@ pub fn fault_free_rows_in_threads<R: Threads + Wait>(
     join_rows(alloc, circuit, tests, parts)
 }
 
-/// How many groups of two blocks the tests have.
+/// Returns how many groups of two blocks the tests have.
 fn groups_of(tests: &Tests) -> u32
     ensures { result ≡ groups (length tests.now.tests) }
 {
     tests.blocks().div_ceil(2)
 }
 
-/// How many threads are worth their start: each works out so many words, and some group.
+/// Returns how many threads are worth their start: each computes enough words, and at least one
+/// group.
 fn threads_for(signals: u32, groups: u32, workers: u32) -> u32 {
     let worth = u64::from(signals) * u64::from(groups) / WORDS_OF_A_THREAD;
     let most = workers.min(groups).min(MAX_THREADS);
     u64::from(most).min(worth) as u32
 }
 
-/// The words of the groups from one up to another, which is not among them.
+/// Returns the words of the groups from one up to another, which is not included.
 fn rows_between(
     alloc: Global,
     circuit: &FlatCircuit,
@@ -111,7 +112,7 @@ fn rows_between(
     Ok(rows)
 }
 
-/// What a thread is promised to give back: words of the groups of these tests.
+/// The promise of a thread: it returns words of the groups of these tests.
 #[derive(Drop)]
 struct WordsOf {
     circuit: Snapshot<FlatCircuit>,
@@ -124,7 +125,7 @@ impl Promise<Result<GroupRows, AllocError>> for WordsOf {
     ghost kept_by = { λ p r. HasRows p.circuit.value.arranged p.tests.value.tests r };
 }
 
-/// The work of one thread.
+/// Does the work of one thread.
 fn group_rows(
     alloc: Global,
     circuit: &FlatCircuit,
@@ -141,8 +142,8 @@ fn group_rows(
     Ok(GroupRows { first, rows })
 }
 
-/// The words of the groups, by so many threads, each of which has as many groups as the others but
-/// for the last. Where the start of a thread is refused no further one is started, and the rows of
+/// Computes the words of the groups in this number of threads. Each thread has the same number of
+/// groups, except the last. If a thread doesn't start, no further one is started, and the rows of
 /// the groups from there on are missing.
 fn share_groups<R: Threads + Wait>(
     rt: &R,
@@ -191,8 +192,8 @@ fn share_groups<R: Threads + Wait>(
     )
 }
 
-/// The rows of all groups: those that threads gave back, one part after another, and then those
-/// that are missing.
+/// Joins the rows of all groups: first the rows that threads returned, one part after another, and
+/// then the missing ones.
 fn join_rows(
     alloc: Global,
     circuit: &FlatCircuit,

@@ -29,8 +29,8 @@ use fault_model::Line;
 use std::alloc::{AllocError, Global};
 use std::marker::Model;
 
-/// A gate that drives a signal: its kind with the form of that, and the signal that each of its
-/// pins reads, in order. Those of the first and of the last stand by themselves.
+/// A gate that drives a signal: its kind and its form, and the signal that each of its pins reads,
+/// in order. The first and the last of these are fields of their own.
 #[derive(Clone, Copy)]
 pub struct Gate<'a> {
     pub kind: Kind,
@@ -47,10 +47,10 @@ struct Driver {
     form: Form,
 }
 
-/// What the simulation asks of a signal each time that it comes to it. The pins of its gate and its
-/// readers are parts of the lists of all. A row has 32 bytes, so two lie on a line of a cache: with
-/// the rest of what is known in it, and places of 8 bytes, it had 56, and most of a simulation's
-/// time went into waiting for rows.
+/// The row of a signal: what the simulation reads each time that it comes to the signal. The pins
+/// of its gate and its readers are ranges of common lists. A row has 32 bytes, so two rows are on a
+/// cache line. With the rarely read fields in it, and places of 8 bytes, it had 56 bytes, and a
+/// simulation spent most of its time waiting for rows.
 ///
 /// ```text
 /// rows     .. | driver observed first last pins_start pins_end readers_start readers_end | ..
@@ -59,14 +59,14 @@ struct Driver {
 /// readers  .. | the live gates that read it              | ..   from readers_start to readers_end
 /// ```
 ///
-/// That is 29 bytes; 3 are empty, since the next row begins at a multiple of 4.
+/// That is 29 bytes; 3 are empty, because the next row begins at a multiple of 4.
 #[derive(Clone, Copy)]
 struct Row {
     /// `None` for a source.
     driver: Option<Driver>,
     observed: bool,
-    /// The signals that the gate's first pin and its last read, which most gates have alone; 0 for
-    /// a source.
+    /// The signals that the gate's first pin and its last read; most gates have only these. 0 for a
+    /// source.
     first: u32,
     last: u32,
     pins_start: u32,
@@ -75,15 +75,15 @@ struct Row {
     readers_end: u32,
 }
 
-/// Where a signal stands in the circuit, which is asked once a class.
+/// The position of a signal in the circuit, which is read once for each class.
 #[derive(Clone, Copy)]
 struct Standing {
-    /// The gate of the pin that is all that reads the signal; `None` for a stem.
+    /// The gate of the pin that is the only sink of the signal; `None` for a stem.
     lone_reader: Option<u32>,
     live: bool,
 }
 
-/// The rows of all signals, with their pins and readers, and where they stand.
+/// The rows of all signals, with their pins and readers, and their positions.
 #[derive(Drop)]
 struct Lists {
     rows: Vec<Row>,
@@ -92,11 +92,11 @@ struct Lists {
     readers: Vec<u32>,
 }
 
-/// A circuit with what a simulation asks of its signals in flat arrays.
+/// A circuit with the data of its signals that a simulation reads, in flat arrays.
 ///
-/// The simulation goes from gates to the gates that read them. So what it reads of signals stands in
-/// an order in which gates that stand near in the circuit stand near, and each behind the signals
-/// that it reads: a signal's number in the lists, its place, is that in the circuit with its
+/// The simulation goes from gates to the gates that read them. So its lists are in an order in
+/// which gates that are near in the circuit are near, and each gate comes after the signals that it
+/// reads. A signal's number in the lists is its place: its number in the circuit with the
 /// statements in this order.
 #[derive(Drop)]
 pub struct FlatCircuit {
@@ -126,8 +126,8 @@ impl Model for FlatCircuit {
 }
 
 impl FlatCircuit {
-    /// The circuit with its rows. It takes a row and two numbers for each signal, and a few numbers
-    /// for each pin.
+    /// Makes the rows of a circuit. It takes a row and two numbers for each signal, and a few
+    /// numbers for each pin.
     pub fn new(alloc: Global, circuit: Circuit) -> Result<FlatCircuit, AllocError>
         ensures { IfOk result (λ flat. flat.statements ≡ circuit) }
     {
@@ -142,7 +142,7 @@ impl FlatCircuit {
         })
     }
 
-    /// The circuit as it was given.
+    /// Returns the circuit as it was given.
     #[inline(always)]
     pub fn circuit(&self) -> &Circuit
         ensures { result.now ≡ self.now.statements }
@@ -150,7 +150,7 @@ impl FlatCircuit {
         &self.circuit
     }
 
-    /// The number of signals.
+    /// Returns the number of signals.
     pub fn signals(&self) -> u32
         ensures count { result ≡ length (names self.now.arranged) }
         ensures given_count { result ≡ length (names self.now.statements) }
@@ -162,7 +162,7 @@ impl FlatCircuit {
         self.circuit.signals()
     }
 
-    /// The greatest level of a signal.
+    /// Returns the greatest level of a signal.
     #[inline(always)]
     pub fn depth(&self) -> u32
         ensures { (signal : ℕ) → signal < length (names self.now.arranged)
@@ -172,7 +172,7 @@ impl FlatCircuit {
         self.circuit.depth()
     }
 
-    /// The place of a signal.
+    /// Returns the place of a signal.
     #[inline(always)]
     pub fn place_of(&self, signal: u32) -> u32
         requires { signal < length (names self.now.statements) }
@@ -183,7 +183,7 @@ impl FlatCircuit {
         self.places[signal as usize]
     }
 
-    /// The signal at a place.
+    /// Returns the signal at a place.
     #[inline(always)]
     pub fn signal_at(&self, at: u32) -> u32
         requires { at < length (names self.now.arranged) }
@@ -194,7 +194,7 @@ impl FlatCircuit {
         self.order[at as usize]
     }
 
-    /// For each signal its place, by the signal's number.
+    /// Returns for each signal its place, by the signal's number.
     pub fn places(&self) -> &[u32]
         ensures count { length result.now ≡ length (names self.now.statements) }
         ensures arranged { IsArranged self.now.statements self.now.arranged }
@@ -204,7 +204,7 @@ impl FlatCircuit {
         self.places.as_slice()
     }
 
-    /// The places of signals, in their order.
+    /// Returns the places of signals, in their order.
     pub fn placed(&self, alloc: Global, signals: &[u32]) -> Result<Vec<u32>, AllocError>
         requires { All (λ signal. signal < length (names self.now.statements)) signals.now }
         ensures { IfOk result (λ placed. placed.items
@@ -216,7 +216,7 @@ impl FlatCircuit {
         Ok(placed)
     }
 
-    /// The line of the circuit as the lists have it.
+    /// Returns the line of the circuit in the numbers of the lists.
     pub fn moved_line(&self, line: Line) -> Line
         requires { (n : Name) × (name_on self.now.statements line ≡ Some n) }
         ensures { result ≡ moved_line self.now.statements self.now.arranged line }
@@ -231,7 +231,7 @@ impl FlatCircuit {
         }
     }
 
-    /// The place of a signal in a test row, from 0; `None` for the signal of a gate.
+    /// Returns the place of a signal in a test, from 0; `None` for the signal of a gate.
     pub fn source_of(&self, signal: u32) -> Option<u32>
         requires { signal < length (names self.now.arranged) }
         ensures place { IfSome result (λ i.
@@ -243,7 +243,7 @@ impl FlatCircuit {
         self.circuit.source_of(self.order[signal as usize])
     }
 
-    /// The gate that drives a signal; `None` for a source.
+    /// Returns the gate that drives a signal; `None` for a source.
     #[inline(always)]
     pub fn gate_of(&self, signal: u32) -> Option<Gate<'_>>
         requires { signal < length (names self.now.arranged) }
@@ -265,8 +265,8 @@ impl FlatCircuit {
         }
     }
 
-    /// The live gates that read a signal: those from which an observer is reached. One that reads
-    /// it twice may stand there twice.
+    /// Returns the live gates that read a signal: the gates that reach an observer. A gate that
+    /// reads it twice may be listed twice.
     #[inline(always)]
     pub fn readers_of(&self, signal: u32) -> &[u32]
         requires { signal < length (names self.now.arranged) }
@@ -276,8 +276,8 @@ impl FlatCircuit {
         &self.lists.readers[row.readers_start as usize..row.readers_end as usize]
     }
 
-    /// The gate of the pin that is the whole fan-out of a signal. `None` for a stem: a signal that
-    /// no pin or several pins read, or an observer.
+    /// Returns the gate of the pin that is the whole fanout of a signal. `None` for a stem: no pin
+    /// or several pins read it, or an observer does.
     #[inline(always)]
     pub fn lone_reader(&self, signal: u32) -> Option<u32>
         requires { signal < length (names self.now.arranged) }
@@ -286,7 +286,7 @@ impl FlatCircuit {
         self.lists.standings[signal as usize].lone_reader
     }
 
-    /// Whether an observer observes a signal.
+    /// Returns whether an observer observes a signal.
     #[inline(always)]
     pub fn is_observed(&self, signal: u32) -> bool
         requires { signal < length (names self.now.arranged) }
@@ -295,7 +295,7 @@ impl FlatCircuit {
         self.lists.rows[signal as usize].observed
     }
 
-    /// Whether a signal is live: whether an observer is reached from it.
+    /// Returns whether a signal is live, that is whether it reaches an observer.
     #[inline(always)]
     pub fn is_live(&self, signal: u32) -> bool
         requires { signal < length (names self.now.arranged) }
@@ -315,7 +315,7 @@ struct Placed<'a> {
     live: &'a [bool],
 }
 
-/// The lists of a circuit in the order of its signals.
+/// Returns the lists of a circuit in the order of its signals.
 fn lists_of(
     alloc: Global,
     circuit: &Circuit,
@@ -354,7 +354,7 @@ fn lists_of(
     })
 }
 
-/// Where a signal stands.
+/// Returns the position of a signal.
 fn standing_of(placed: Placed<'_>, signal: u32) -> Standing
     requires placed { ArePlaced placed.circuit.now placed.order.now placed.places.now
         placed.live.now }
@@ -369,7 +369,7 @@ fn standing_of(placed: Placed<'_>, signal: u32) -> Standing
     }
 }
 
-/// The place of the gate of the pin that is all that reads a signal.
+/// Returns the place of the gate whose pin is the only sink of a signal.
 fn lone_place(placed: Placed<'_>, signal: u32) -> Option<u32>
     requires placed { ArePlaced placed.circuit.now placed.order.now placed.places.now
         placed.live.now }
@@ -385,7 +385,7 @@ fn lone_place(placed: Placed<'_>, signal: u32) -> Option<u32>
     }
 }
 
-/// What stands at a place of a list, 0 behind its end.
+/// Returns the element at a place of a list, 0 after its end.
 fn at(list: &[u32], place: usize) -> u32
     ensures { result ≡ slice_index_or list.now place 0 }
 {
@@ -395,7 +395,8 @@ fn at(list: &[u32], place: usize) -> u32
     }
 }
 
-/// A place in a list as a row has it. No circuit has so many pins that this refuses.
+/// Returns a place in a list in the type of a row. It fails for no circuit, because none has that
+/// many pins.
 fn place_of(length: usize) -> Result<u32, AllocError>
     ensures { IfOk result (λ place. place ≡ length) }
 {
@@ -406,7 +407,7 @@ fn place_of(length: usize) -> Result<u32, AllocError>
     }
 }
 
-/// The row of a signal, whose pins and readers are added behind the others.
+/// Returns the row of a signal, and adds its pins and readers at the end of the lists.
 fn add_row(
     placed: Placed<'_>,
     signal: u32,
@@ -443,8 +444,8 @@ fn add_row(
     })
 }
 
-/// The kind and the form of the gate that drives a signal. The places of the signals that its pins
-/// read are added behind the others.
+/// Returns the kind and the form of the gate that drives a signal, and adds the places of the
+/// signals that its pins read at the end of the list.
 fn add_pins(
     placed: Placed<'_>,
     signal: u32,
@@ -469,7 +470,7 @@ fn add_pins(
     }
 }
 
-/// Adds the places of signals behind others.
+/// Adds the places of signals at the end of a list.
 fn push_places(places: &[u32], signals: &[u32], pins: &mut Vec<u32>) -> Result<(), AllocError>
     requires { All (λ signal. signal < length places.now) signals.now }
     ensures { OnOk result (pins.new.items
@@ -481,7 +482,7 @@ fn push_places(places: &[u32], signals: &[u32], pins: &mut Vec<u32>) -> Result<(
     Ok(())
 }
 
-/// The gate of the pin that is all that reads a signal of a circuit.
+/// Returns the gate of the pin that is the only sink of a signal of a circuit.
 pub fn lone_reader_of(circuit: &Circuit, signal: u32) -> Option<u32>
     requires { signal < length (names circuit.now) }
     ensures { result ≡ lone_reader circuit.now signal }
@@ -489,7 +490,7 @@ pub fn lone_reader_of(circuit: &Circuit, signal: u32) -> Option<u32>
     only_gate(circuit.sinks_of(signal))
 }
 
-/// The gate whose pin is the only one of these sinks.
+/// Returns the gate whose pin is the only one of these sinks.
 fn only_gate(sinks: &[Sink]) -> Option<u32>
     ensures { result ≡ only_gate sinks.now }
 {
@@ -499,8 +500,8 @@ fn only_gate(sinks: &[Sink]) -> Option<u32>
     }
 }
 
-/// Whether an observer observes a signal. The places of the live gates that read it are added
-/// behind the others.
+/// Returns whether an observer observes a signal, and adds the places of the live gates that read
+/// it at the end of the list.
 fn add_readers(placed: Placed<'_>, signal: u32, readers: &mut Vec<u32>) -> Result<bool, AllocError>
     requires placed { ArePlaced placed.circuit.now placed.order.now placed.places.now
         placed.live.now }

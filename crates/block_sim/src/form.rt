@@ -6,8 +6,8 @@ ghost use Rattle.block_sim.specs.Forms.{IsFormOf};
 
 use bench_net::Kind;
 
-/// A gate as the AND or the XOR of what its pins read. An AND may invert each input, and either
-/// may be inverted as a whole: an OR is an AND with both.
+/// A gate as the AND or the XOR of the words of its pins. An AND may invert each input, and either
+/// may invert its output: an OR is an AND with both.
 #[derive(Clone, Copy)]
 pub struct Form {
     pub is_xor: bool,
@@ -16,7 +16,7 @@ pub struct Form {
 }
 
 impl Form {
-    /// The form of a kind.
+    /// Returns the form of a kind.
     pub fn of(kind: Kind) -> Form
         ensures { IsFormOf kind result }
     {

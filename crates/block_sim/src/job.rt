@@ -30,7 +30,7 @@ use std::sync::Wait;
 use std::thread::Threads;
 use thiserror::Error;
 
-/// Why a job is refused.
+/// An error of making a job.
 #[derive(Clone, Copy, Debug, PartialEq, Eq, Error)]
 pub enum JobFault {
     /// Classes times blocks are more than [`patterns::MAX_PIECES`].
@@ -53,16 +53,16 @@ impl From<AllocError> for JobFault {
 }
 
 /// A circuit, its faults and classes, and tests for it, with the fault-free words of every block,
-/// the stem and the representative of each class, and the classes of each fan-out-free region in a
+/// the stem and the representative of each class, and the classes of each fanout-free region in a
 /// circle.
 ///
-/// All of it stands in one place of memory, so a job moves as cheaply as a number.
+/// All of it is in one place of memory, so a job moves as cheaply as a number.
 #[derive(Drop)]
 pub struct Job {
     parts: Box<JobParts>,
 }
 
-/// What a job has.
+/// The parts of a job.
 #[derive(Drop)]
 struct JobParts {
     flat: FlatCircuit,
@@ -110,13 +110,12 @@ impl Model for Job {
 }
 
 impl Job {
-    /// A job of parts that belong together: the faults and the classes are those of the circuit,
-    /// and the tests have its width. It takes a word for each signal and block, and a few numbers
-    /// for each class.
+    /// Makes a job of parts that belong together: the faults and the classes are those of the
+    /// circuit, and the tests have its width. It takes a word for each signal and block, and a few
+    /// numbers for each class.
     ///
-    /// Refused as `TooManyPieces` exactly where classes times blocks are more than
-    /// [`patterns::MAX_PIECES`], before memory is asked for, and as `Memory` where some was
-    /// refused.
+    /// It fails with `TooManyPieces` exactly if classes times blocks are more than
+    /// [`patterns::MAX_PIECES`], before it takes memory, and with `Memory` if an allocation fails.
     pub fn new(
         alloc: Global,
         circuit: Circuit,
@@ -151,8 +150,8 @@ impl Job {
         Ok(Job::of_any_size(alloc, circuit, faults, classes, tests)?)
     }
 
-    /// A job as [`Job::new`] makes it, whatever the number of its pieces: for runs of some of its
-    /// classes at a time. It is refused for want of memory alone.
+    /// Makes a job as [`Job::new`] does, for any number of pieces: for runs of some of its classes
+    /// at a time. It fails only for memory.
     pub fn of_any_size(
         alloc: Global,
         circuit: Circuit,
@@ -178,9 +177,9 @@ impl Job {
         Job::with_rows(alloc, flat, faults, classes, tests, rows)
     }
 
-    /// A job as [`Job::new`] makes it, with the same refusals, by no more threads than there are
-    /// workers: the words of its blocks are shared out among them. If the start of a thread is
-    /// refused, the caller's thread does its work.
+    /// Makes a job as [`Job::new`] does, with the same errors, in at most as many threads as there
+    /// are workers, which share the words of its blocks. If a thread doesn't start, the caller's
+    /// thread does its work.
     pub fn new_in_threads<R: Threads + Wait>(
         rt: &R,
         alloc: Global,
@@ -218,7 +217,7 @@ impl Job {
         Ok(made?)
     }
 
-    /// A job as [`Job::of_any_size`] makes it, by threads as in [`Job::new_in_threads`].
+    /// Makes a job as [`Job::of_any_size`] does, in threads as in [`Job::new_in_threads`].
     pub fn of_any_size_in_threads<R: Threads + Wait>(
         rt: &R,
         alloc: Global,
@@ -246,7 +245,7 @@ impl Job {
         Job::with_rows(alloc, flat, faults, classes, tests, rows)
     }
 
-    /// The job of a circuit in flat rows whose fault-free words these are.
+    /// Makes the job of a circuit in flat rows with these fault-free words.
     fn with_rows(
         alloc: Global,
         flat: FlatCircuit,
@@ -292,11 +291,11 @@ impl Job {
         Ok(Job { parts })
     }
 
-    /// Takes other tests of the same width in place of the job's. The circuit, its faults and its
-    /// classes stay, and so every workspace that fitted fits. It takes a word for each signal and
+    /// Takes other tests of the same width instead of the job's. The circuit, its faults and its
+    /// classes stay, so every workspace that fitted still fits. It takes a word for each signal and
     /// block of the new tests.
     ///
-    /// Refused as [`Job::new`] is, and then the job is as it was.
+    /// It fails as [`Job::new`] does, and then the job is as it was.
     pub fn set_tests(&mut self, alloc: Global, tests: Tests) -> Result<(), JobFault>
         requires tests { IsTestList tests }
         requires width { tests.width ≡ length (sources self.old.circuit) }
@@ -312,8 +311,8 @@ impl Job {
         Ok(self.set_tests_of_any_size(alloc, tests)?)
     }
 
-    /// Takes other tests as [`Job::set_tests`] does, whatever the number of the job's pieces then
-    /// is. It is refused for want of memory alone, and then the job is as it was.
+    /// Takes other tests as [`Job::set_tests`] does, for any number of pieces. It fails only for
+    /// memory, and then the job is as it was.
     pub fn set_tests_of_any_size(&mut self, alloc: Global, tests: Tests) -> Result<(), AllocError>
         requires tests { IsTestList tests }
         requires width { tests.width ≡ length (sources self.old.circuit) }
@@ -325,7 +324,7 @@ impl Job {
         Ok(())
     }
 
-    /// Takes other tests as [`Job::set_tests`] does, by threads as in [`Job::new_in_threads`].
+    /// Takes other tests as [`Job::set_tests`] does, in threads as in [`Job::new_in_threads`].
     pub fn set_tests_in_threads<R: Threads + Wait>(
         &mut self,
         rt: &R,
@@ -347,7 +346,7 @@ impl Job {
         Ok(self.set_tests_of_any_size_in_threads(rt, alloc, tests, workers)?)
     }
 
-    /// Takes other tests as [`Job::set_tests_of_any_size`] does, by threads as in
+    /// Takes other tests as [`Job::set_tests_of_any_size`] does, in threads as in
     /// [`Job::new_in_threads`].
     pub fn set_tests_of_any_size_in_threads<R: Threads + Wait>(
         &mut self,
@@ -366,7 +365,7 @@ impl Job {
         Ok(())
     }
 
-    /// The circuit.
+    /// Returns the circuit.
     pub fn circuit(&self) -> &Circuit
         ensures part { result.now ≡ self.now.circuit }
         ensures together { BelongTogether self.now }
@@ -374,7 +373,7 @@ impl Job {
         self.parts.flat.circuit()
     }
 
-    /// The circuit in flat arrays, with the words of its signals without a fault.
+    /// Returns the circuit in flat arrays, with the fault-free words of its signals.
     pub(crate) fn words(&self) -> GroupWords<'_>
         ensures part { result.circuit.now.statements ≡ self.now.circuit }
         ensures arranged { IsArranged self.now.circuit result.circuit.now.arranged }
@@ -391,9 +390,9 @@ impl Job {
         }
     }
 
-    /// For each signal its place, by the signal's number: its number in a topological order of
-    /// them, in which signals that stand near in the circuit stand near. A run that visits regions
-    /// in the order of their stems' places finds what it reads in the caches.
+    /// Returns for each signal its place, by the signal's number: its number in a topological order
+    /// in which signals that are near in the circuit are near. A run that visits regions in the
+    /// order of their stems' places finds its data in the caches.
     pub fn places(&self) -> &[u32]
         ensures count { length result.now ≡ length (names self.now.circuit) }
         ensures places { (arranged : List Statement) × IsArranged self.now.circuit arranged
@@ -403,7 +402,7 @@ impl Job {
         parts.flat.places()
     }
 
-    /// The fault list.
+    /// Returns the fault list.
     pub fn faults(&self) -> &Faults
         ensures part { result.now ≡ self.now.list }
         ensures together { BelongTogether self.now }
@@ -411,7 +410,7 @@ impl Job {
         &self.parts.faults
     }
 
-    /// The classes of the faults.
+    /// Returns the classes of the faults.
     pub fn classes(&self) -> &Classes
         ensures part { result.now ≡ self.now.classes }
         ensures together { BelongTogether self.now }
@@ -419,7 +418,7 @@ impl Job {
         &self.parts.classes
     }
 
-    /// The tests.
+    /// Returns the tests.
     pub fn tests(&self) -> &Tests
         ensures part { result.now ≡ self.now.tests }
         ensures together { BelongTogether self.now }
@@ -427,7 +426,7 @@ impl Job {
         &self.parts.tests
     }
 
-    /// The representative of a class.
+    /// Returns the representative of a class.
     pub(crate) fn representative(&self, class: u32) -> Stuck
         requires { class < length self.now.classes.representative }
         ensures { IsRepresentativeOf self.now class result }
@@ -436,7 +435,7 @@ impl Job {
         parts.representatives[class as usize]
     }
 
-    /// A class as a list of classes has it.
+    /// Returns a class as an entry of a list of classes.
     pub fn listed(&self, class: u32) -> Listed
         requires { class < length self.now.classes.representative }
         ensures class { result.class ≡ class }
@@ -449,8 +448,8 @@ impl Job {
         }
     }
 
-    /// The last block that is simulated at once with a block and what is behind that: from the
-    /// third block on the other one of its group of two, where it comes behind it.
+    /// Returns the last block that is simulated together with a block: from the third block on the
+    /// other one of its group of two, if it comes after the block.
     pub fn last_together(&self, block: u32) -> u32
         requires { block < blocks (length self.now.tests.tests) }
         ensures { result ≡ (span_of (length self.now.tests.tests) block).last }
@@ -458,10 +457,11 @@ impl Job {
         Span::from(&self.parts.tests, block).last
     }
 
-    /// The number of the signal that is the stem of a class, from 0: the stem of the fan-out-free
-    /// region of its representative. A signal is a stem unless its fan-out is one pin of one gate.
-    /// A fault on a gate's pin lies in the region of the gate's signal, any other in that of the
-    /// signal that its line carries (Lee and Ha, HOPE: An Efficient Parallel Fault Simulator).
+    /// Returns the number of the signal that is the stem of a class, from 0: the stem of the
+    /// fanout-free region of its representative. A signal is a stem unless its fanout is one pin of
+    /// one gate. A fault on a gate's pin lies in the region of the gate's signal, any other in the
+    /// region of the signal that its line carries (Lee and Ha, HOPE: An Efficient Parallel Fault
+    /// Simulator).
     pub fn stem_of_class(&self, class: u32) -> u32
         requires { class < length self.now.classes.representative }
         ensures stem { IsStemOfClass self.now.list.model self.now.circuit class result }
@@ -471,7 +471,7 @@ impl Job {
         parts.class_stems[class as usize]
     }
 
-    /// The class after this one in the circle of its region.
+    /// Returns the class after this one in the circle of its region.
     pub(crate) fn next_in_region(&self, class: u32) -> u32
         requires { class < length self.now.classes.representative }
         ensures { result < length self.now.classes.representative }
@@ -480,9 +480,9 @@ impl Job {
         parts.next_in_region[class as usize]
     }
 
-    /// The word of a signal without a fault, by the signal's number from 0: bit k, from the least,
-    /// is the signal's bit under test `64 * block + k`. Past the last test it is that under a test
-    /// of bits 0.
+    /// Returns the fault-free word of a signal, by the signal's number from 0: bit k, from the
+    /// least, is the signal's bit under test `64 * block + k`. Past the last test it is the bit
+    /// under a test of zeros.
     pub fn word(&self, block: u32, signal: u32) -> u64
         requires block { block < blocks (length self.now.tests.tests) }
         requires signal { signal < length (names self.now.circuit) }
@@ -495,7 +495,7 @@ impl Job {
     }
 }
 
-/// Whether classes times blocks are more than [`patterns::MAX_PIECES`].
+/// Returns whether classes times blocks are more than [`patterns::MAX_PIECES`].
 fn has_too_many_pieces(classes: &Classes, tests: &Tests) -> bool
     ensures { IsTrue result ↔ (max_pieces
         < length classes.now.representative * blocks (length tests.now.tests)) }

@@ -1,4 +1,4 @@
-//! Words that are known of some signals, until all of them are forgotten at once.
+//! Words that are known for some signals, until all of them are forgotten at once.
 
 ghost use Rattle.std.specs.Prelude.{◌≡◌, ℕ, ◌<◌, ◌≤◌, IfOk, None, Some, length, slice_index_or};
 ghost use Rattle.std.specs.Prelude.{slice_set};
@@ -6,9 +6,9 @@ ghost use Rattle.std.specs.Prelude.{slice_set};
 use std::alloc::{AllocError, Global};
 use std::marker::Model;
 
-/// A word for each signal, with the number of the unit of work in which it was found. It is known
-/// in that unit alone, so that all words are forgotten where the next one begins. Where the numbers
-/// are used up, which takes 4 billion units, all marks are cleared.
+/// A word for each signal, with the number of the unit of work in which it was computed. It is
+/// known only in that unit, so the next unit forgets all words. After the last number, which takes
+/// 4 billion units, all marks are cleared.
 #[derive(Drop)]
 pub struct KnownWords {
     words: Vec<u128>,
@@ -28,7 +28,7 @@ impl Model for KnownWords {
 }
 
 impl KnownWords {
-    /// Room for the words of this many signals.
+    /// Makes room for the words of this many signals.
     pub fn new(alloc: Global, signals: u32) -> Result<KnownWords, AllocError>
         ensures { IfOk result (λ known. length known ≡ signals) }
     {
@@ -50,7 +50,7 @@ impl KnownWords {
         self.unit = next_unit(self.unit, &mut self.marks);
     }
 
-    /// The word of a signal, where it is known.
+    /// Returns the word of a signal, if it is known.
     #[inline(always)]
     pub fn of(&self, signal: u32) -> Option<u128>
         requires { signal < length self.now }
@@ -63,7 +63,7 @@ impl KnownWords {
         }
     }
 
-    /// Lets the word of a signal be known.
+    /// Records the word of a signal.
     #[inline(always)]
     pub fn keep(&mut self, signal: u32, word: u128)
         requires { signal < length self.old }
@@ -74,7 +74,7 @@ impl KnownWords {
     }
 }
 
-/// The unit that comes next, of which no mark is.
+/// Returns the number of the next unit, which no mark has.
 #[inline(always)]
 fn next_unit(unit: u32, marks: &mut [u32]) -> u32
     requires { (signal : ℕ) → slice_index_or marks.old signal 0 ≤ unit }
@@ -88,7 +88,7 @@ fn next_unit(unit: u32, marks: &mut [u32]) -> u32
     unit + 1
 }
 
-/// Sets all marks to that of no unit.
+/// Sets all marks to the number of no unit.
 #[inline(never)]
 fn clear_marks(marks: &mut [u32])
     ensures room { length marks.new ≡ length marks.old }

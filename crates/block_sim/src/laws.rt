@@ -20,43 +20,43 @@ ghost use Rattle.block_sim.specs.Reordered.{HasSameActive, HasSameFlips, HasSame
 ghost use Rattle.block_sim.specs.Reordered.{HasSameStems};
 ghost use Rattle.block_sim.specs.Ways.{OneWayLaw, SomeWayLaw};
 
-/// The first test that detects a fault is found by blocks: over a table with the true outcome of
-/// each class and block, the test of a class's first Hit is the first test that detects each fault
-/// of the class, and where all blocks are Clear no test detects one.
+/// States that blocks give the first test that detects a fault. Take a table with the true outcome
+/// of each class and block: the test of a class's first Hit is the first test that detects each
+/// fault of the class, and if all blocks are Clear no test detects one.
 pub fn least_is_first()
     ensures { (m : Model) (c : List Statement) (tests : List Test) (table : Table) → IsWellFormed c
         → HaveArities c → IsTrueTable m c tests table → LeastIsFirst m c tests table }
 {}
 
-/// There is a table with the true outcome of each class and block, under each model.
+/// States that there is a table with the true outcome of each class and block, under each model.
 pub fn true_table()
     ensures { (m : Model) (c : List Statement) (tests : List Test) → IsWellFormed c
         → (table : Table) × IsTrueTable m c tests table }
 {}
 
-/// A class has one true outcome on a block.
+/// States that a class has one true outcome on a block.
 pub fn one_outcome()
     ensures { (m : Model) (c : List Statement) (tests : List Test) (class block : ℕ)
         (first second : Outcome) → IsTrueOutcome m c tests class block first
         → IsTrueOutcome m c tests class block second → first ≡ second }
 {}
 
-/// Each class has one stem, in each model.
+/// States that each class has one stem, in each model.
 pub fn class_stems()
     ensures one { (m : Model) (c : List Statement) → OneClassStemLaw m c }
     ensures some { (m : Model) (c : List Statement) → IsWellFormed c → SomeClassStemLaw m c }
 {}
 
-/// It takes some number of gates to follow a class to its stem, in each model, and no other.
+/// States that each class has exactly one number of gates on the way to its stem, in each model.
 pub fn class_ways()
     ensures one { (m : Model) (c : List Statement) → OneWayLaw m c }
     ensures some { (m : Model) (c : List Statement) → IsWellFormed c → SomeWayLaw m c }
 {}
 
-/// Faults share what lies behind the stem of a fan-out-free region: a signal that one gate alone
-/// reads is detected turned round exactly where the gate passes that on and is detected turned
-/// round itself, and a fault is detected exactly where it alters its first signal and that is
-/// detected turned round.
+/// States that faults share the circuit after the stem of a fanout-free region. If only one gate
+/// reads a signal, the complemented signal is detected exactly if the gate passes the change on and
+/// the complemented gate is detected. A fault is detected exactly if it changes its first signal
+/// and that signal, complemented, is detected.
 pub fn regions()
     ensures pin { (c : List Statement) → IsWellFormed c → PinLaw c }
     ensures one_stem { (c : List Statement) → OneStemLaw c }
@@ -70,9 +70,10 @@ pub fn regions()
     ensures lanes { (c : List Statement) → LanesLaw c }
 {}
 
-/// What is simulated of a circuit whose statements stand in another order is true of the circuit,
-/// with each signal by its other number ([`fault_model::laws::reordering`]): readers, observers and
-/// stems, the gates that a fault makes active, and which tests detect a signal turned round.
+/// States that simulation results of a circuit whose statements stand in another order are true for
+/// the circuit, with each signal by its other number ([`fault_model::laws::reordering`]): readers,
+/// observers and stems, the gates that a fault makes active, and which tests detect a complemented
+/// signal.
 pub fn reordering()
     ensures readers { (c d : List Statement) → IsWellFormed c → IsReordered c d
         → HasSameReaders c d }

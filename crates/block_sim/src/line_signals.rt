@@ -11,8 +11,8 @@ use crate::flat::FlatCircuit;
 use bench_net::Circuit;
 use fault_model::Line;
 
-/// The place of the signal that a line of the circuit carries: that of the stem, or the one that
-/// its branch leads from.
+/// Returns the place of the signal that a line of the circuit carries: the stem's signal, or the
+/// one that its branch leads from.
 pub fn carried(circuit: &FlatCircuit, line: Line) -> u32
     requires circuit { IsCircuit circuit.now.arranged }
     requires named { (n : Name) × (name_on circuit.now.arranged line ≡ Some n) }
@@ -28,7 +28,7 @@ pub fn carried(circuit: &FlatCircuit, line: Line) -> u32
     }
 }
 
-/// The signal of the data pin of a cell.
+/// Returns the signal of the data pin of a cell.
 pub fn data_signal(circuit: &Circuit, cell: u32) -> u32
     requires named { (n : Name) × (name_on circuit.now (Data cell) ≡ Some n) }
     ensures { (n : Name) → name_on circuit.now (Data cell) ≡ Some n
@@ -37,7 +37,7 @@ pub fn data_signal(circuit: &Circuit, cell: u32) -> u32
     circuit.scan_cells()[cell as usize].d
 }
 
-/// The signal of an output.
+/// Returns the signal of an output.
 pub fn output_signal(circuit: &Circuit, output: u32) -> u32
     requires named { (n : Name) × (name_on circuit.now (Out output) ≡ Some n) }
     ensures { (n : Name) → name_on circuit.now (Out output) ≡ Some n
@@ -46,7 +46,7 @@ pub fn output_signal(circuit: &Circuit, output: u32) -> u32
     circuit.outputs()[output as usize]
 }
 
-/// The signal that a pin of a gate reads.
+/// Returns the signal that a pin of a gate reads.
 fn pin_signal(circuit: &FlatCircuit, gate: u32, pin: u32) -> u32
     requires gate { gate < length (names circuit.now.arranged) }
     requires named { (n : Name) × (argument (definition circuit.now.arranged gate) pin ≡ Some n) }

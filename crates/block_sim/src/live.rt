@@ -1,5 +1,5 @@
-//! Live signals: those from which an observer is reached. What a fault does to any other signal no
-//! test can see, so a simulation leaves their gates alone.
+//! Live signals: the signals that reach an observer. No test can see the effect of a fault on any
+//! other signal, so a simulation doesn't evaluate their gates.
 
 ghost use Rattle.std.specs.Prelude.{◌≡◌, ◌↔◌, ◌<◌, ℕ, IfOk, IsTrue, false, length};
 ghost use Rattle.std.specs.Prelude.{slice_index_or};
@@ -11,7 +11,7 @@ ghost use Rattle.block_sim.specs.Flat.{AreLive, IsLiveAt};
 use bench_net::{Circuit, Sink};
 use std::alloc::{AllocError, Global};
 
-/// For each signal whether it is live.
+/// Returns for each signal whether it is live.
 pub fn live_signals(alloc: Global, circuit: &Circuit) -> Result<Vec<bool>, AllocError>
     requires circuit { IsCircuit circuit.now }
     ensures count { IfOk result (λ live. length live.items ≡ length (names circuit.now)) }
@@ -22,8 +22,8 @@ pub fn live_signals(alloc: Global, circuit: &Circuit) -> Result<Vec<bool>, Alloc
     Ok(live)
 }
 
-/// Finds out of each signal whether it is live, from the last in level order on: a gate comes
-/// behind the signals that it reads.
+/// Computes for each signal whether it is live, from the last in level order on: a gate comes after
+/// the signals that it reads.
 fn find_live(circuit: &Circuit, live: &mut [bool])
     requires circuit { IsCircuit circuit.now }
     requires room { length live.old ≡ length (names circuit.now) }
@@ -38,7 +38,7 @@ fn find_live(circuit: &Circuit, live: &mut [bool])
     }
 }
 
-/// Whether a signal is live, where it is known which of the gates that read it are.
+/// Returns whether a signal is live, if this is known for the gates that read it.
 fn leads_on(circuit: &Circuit, signal: u32, live: &[bool]) -> bool
     requires circuit { IsCircuit circuit.now }
     requires room { length live.now ≡ length (names circuit.now) }

@@ -1,7 +1,7 @@
-//! What a fault wants of the test before the one that detects it: nothing of a stuck-at fault, and
-//! of a transition fault that it gives the line the bit that the line is slow to leave (transition
-//! faults by pairs of patterns: Waicukauski, Lindbloom, Rosen and Iyengar, Transition Fault
-//! Simulation). In a list of pairs it has to be the first of the pair, too.
+//! The condition of a fault on the test before the one that detects it. A stuck-at fault has none.
+//! For a transition fault that test must give the line the bit that the line is slow to leave
+//! (transition faults by pairs of patterns: Waicukauski, Lindbloom, Rosen and Iyengar, Transition
+//! Fault Simulation). In a list of pairs it must be the launch test of the pair, too.
 
 ghost use Rattle.std.specs.Prelude.{◌≡◌, ◌↔◌, ◌+◌, ◌*◌, ◌<◌, All, Bool, Contains, List, ℕ, suc, Some};
 ghost use Rattle.std.specs.Prelude.{[], length, slice_get, slice_index_or, map};
@@ -24,9 +24,9 @@ use crate::origin::origin_of;
 use crate::view::GroupWords;
 use crate::words::Stuck;
 
-/// The lanes of a group whose test before lets the fault be detected: for a stuck-at fault all
-/// lanes, for a transition fault those in which that test gives its line the bit that the line is
-/// slow to leave, and in a list of pairs of these the second tests of the pairs.
+/// Returns the lanes of a group whose test before lets the fault be detected: all lanes for a
+/// stuck-at fault. For a transition fault, those in which that test gives its line the bit that the
+/// line is slow to leave, and in a list of pairs only the capture tests of these.
 pub fn lanes_that_fit(job: &Job, group: u32, stuck: Stuck) -> u128
     requires group { group < groups (length job.now.tests.tests) }
     requires stuck { (f : Fault) × IsStuckOf job.now.circuit f stuck }
@@ -44,8 +44,8 @@ pub fn lanes_that_fit(job: &Job, group: u32, stuck: Stuck) -> u128
     }
 }
 
-/// The lanes of the second tests of pairs. A group has an even number of lanes, so each pair lies
-/// in one group, and its second test has an odd lane.
+/// Returns the lanes of capture tests. A group has an even number of lanes, so each pair lies in
+/// one group, and its capture test has an odd lane.
 #[inline(always)]
 fn second_lanes() -> u128
     ensures { (group k : ℕ) → k < 128
@@ -54,8 +54,8 @@ fn second_lanes() -> u128
     0xAAAA_AAAA_AAAA_AAAA_AAAA_AAAA_AAAA_AAAA
 }
 
-/// The lanes of a group whose test before gives the line of a fault the fault's bit. The first test
-/// of all has none before it.
+/// Returns the lanes of a group whose test before gives the line of a fault the fault's bit. No
+/// test comes before the first one.
 fn initialized_lanes(job: &Job, group: u32, stuck: Stuck) -> u128
     requires group { group < groups (length job.now.tests.tests) }
     requires stuck { (f : Fault) × IsStuckOf job.now.circuit f stuck }
@@ -72,8 +72,8 @@ fn initialized_lanes(job: &Job, group: u32, stuck: Stuck) -> u128
     fits & earlier
 }
 
-/// The word of the signal at this place without a fault, one test earlier: lane `k` has its bit
-/// under test `128 * group + k - 1`, where there is one.
+/// Returns the fault-free word of the signal at this place, one test earlier: lane `k` has its bit
+/// under test `128 * group + k - 1`, if there is one.
 fn word_before(words: GroupWords<'_>, group: u32, place: u32) -> u128
     requires group { group < length words.rows.now }
     requires signal { All (λ row. place < length row) (map (λ row. row.items) words.rows.now) }
@@ -92,7 +92,7 @@ fn word_before(words: GroupWords<'_>, group: u32, place: u32) -> u128
     one_lane_up(words.of(group)[place as usize], last)
 }
 
-/// The lanes of a word one up, and in lane 0 the last lane of the word before it.
+/// Returns the lanes of a word one up, and in lane 0 the last lane of the word before it.
 fn one_lane_up(word: u128, last: u128) -> u128
     ensures first { lane result 0 ≡ lane last 127 }
     ensures later { (k : ℕ) → k < 127 → lane result (k + 1) ≡ lane word k }

@@ -1,8 +1,8 @@
-//! The order in which the signals of a circuit stand in the lists of a simulation.
+//! The order of the signals of a circuit in the lists of a simulation.
 //!
-//! A simulation goes from a gate to the gates that read it. So what lies near in the circuit shall
-//! lie near in memory: in the order of levels the gates around one stand a whole level away. On
-//! 100,000 random gates a run took 0.72 of the time that it took in the order of levels.
+//! A simulation goes from a gate to the gates that read it. So signals that are near in the circuit
+//! should be near in memory: in level order the gates around one are a whole level away. On 100,000
+//! random gates a run took 0.72 of its time in level order.
 
 ghost use Rattle.std.specs.Prelude.{◌≡◌, ◌<◌, ◌≤◌, ◌^◌, ℕ, All, Contains, IfOk, length};
 ghost use Rattle.std.specs.Prelude.{slice_index_or};
@@ -22,10 +22,10 @@ struct Keyed {
     signal: u32,
 }
 
-/// The signals of a circuit in a topological order: sources by number, and each gate behind the
-/// signals that it reads. Which of these orders it is no result depends on. This one goes by a walk
-/// against the flow: each gate stands where the walk leaves it, and behind the last of the signals
-/// that it reads in any case.
+/// Returns the signals of a circuit in a topological order: sources by number, and each gate after
+/// the signals that it reads. No result depends on which of these orders it is. This one comes from
+/// a walk against the flow: each gate is where the walk leaves it, and in any case after the last
+/// of the signals that it reads.
 pub fn flow_order(alloc: Global, circuit: &Circuit) -> Result<Vec<u32>, AllocError>
     requires { IsCircuit circuit.now }
     ensures { IfOk result (λ order. IsFlowOrder circuit.now order.items) }
@@ -38,8 +38,8 @@ pub fn flow_order(alloc: Global, circuit: &Circuit) -> Result<Vec<u32>, AllocErr
     Ok(keyed.iter().map(|at| at.signal).collect(alloc)?)
 }
 
-/// Gives each signal its key: a source 0, and a gate one that is greater than those of the signals
-/// that it reads. In level order these come before it.
+/// Gives each signal its key: 0 for a source, and for a gate a key that is greater than the keys of
+/// the signals that it reads. In level order these come before it.
 fn raise_keys(circuit: &Circuit, ranks: &[u32], keys: &mut [u64])
     requires circuit { IsCircuit circuit.now }
     requires ranks { length ranks.now ≡ length (names circuit.now) }
@@ -56,7 +56,7 @@ fn raise_keys(circuit: &Circuit, ranks: &[u32], keys: &mut [u64])
     }
 }
 
-/// The key of a signal, where those of the signals that its gate reads are known.
+/// Returns the key of a signal, from the keys of the signals that its gate reads.
 fn key_of(circuit: &Circuit, ranks: &[u32], keys: &[u64], signal: u32) -> u64
     requires circuit { IsCircuit circuit.now }
     requires ranks { length ranks.now ≡ length (names circuit.now) }
@@ -76,7 +76,8 @@ fn key_of(circuit: &Circuit, ranks: &[u32], keys: &[u64], signal: u32) -> u64
     }
 }
 
-/// A key that is no less than a rank, and greater than those of the signals that some pins read.
+/// Returns a key that is at least a rank, and greater than the keys of the signals that some pins
+/// read.
 fn key_above(pins: &[u32], keys: &[u64], rank: u64) -> u64
     requires pins { All (λ pin. pin < length keys.now) pins.now }
     requires low { All (λ key. key < 2 ^ 63) keys.now }
@@ -91,7 +92,7 @@ fn key_above(pins: &[u32], keys: &[u64], rank: u64) -> u64
     key
 }
 
-/// All signals by number, with their keys.
+/// Returns all signals by number, with their keys.
 fn keyed_signals(alloc: Global, keys: &[u64]) -> Result<Vec<Keyed>, AllocError>
     requires { length keys.now < 2 ^ 32 }
     ensures { IfOk result (λ keyed. AreKeysOf keys.now keyed.items) }

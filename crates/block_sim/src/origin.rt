@@ -1,6 +1,6 @@
-//! What the simulation of a class starts from. The representatives are kept in a job, class by
-//! class, so that the lists that they come from are read in their order: on 100,000 gates a run in
-//! the order of its regions took three times as long for it.
+//! The start of the simulation of a class. A job keeps the representatives, class by class, so the
+//! lists that they come from are read in their order: on 100,000 gates a run in the order of its
+//! regions took three times as long for it.
 
 ghost use Rattle.std.specs.Prelude.{◌≡◌, ◌<◌, ℕ, IfOk, length};
 ghost use Rattle.fault_model.specs.Collapse.{AreClassesOf};
@@ -16,18 +16,18 @@ use bench_net::Circuit;
 use fault_model::{Classes, Faults};
 use std::alloc::{AllocError, Global};
 
-/// What the simulation of a fault starts from: the fault as the lists of the circuit have it, and
-/// the place of the signal that the fault's line carries.
+/// The start of the simulation of a fault: the fault in the numbers of the lists of the circuit,
+/// and the place of the signal that the fault's line carries.
 #[derive(Clone, Copy)]
 pub struct Origin {
     pub fault: Stuck,
     pub carried: u32,
 }
 
-/// A class of a list: its number, from 0, and the number of the signal that is the stem of its
-/// fan-out-free region, from 0, with its representative. [`crate::Job::listed`] makes it. A run
-/// over a list of classes keeps it for each of them in the order of the list, and reads nothing
-/// else of a class.
+/// A class of a list: its number, from 0, and the number, from 0, of the signal that is the stem of
+/// its fanout-free region, with its representative. [`crate::Job::listed`] makes it. A run over a
+/// list of classes keeps an entry for each of them, in the order of the list, and reads no other
+/// data of a class.
 #[derive(Clone, Copy)]
 pub struct Listed {
     pub class: u32,
@@ -35,7 +35,7 @@ pub struct Listed {
     pub representative: Stuck,
 }
 
-/// What the simulation of a fault starts from.
+/// Returns the start of the simulation of a fault.
 pub fn origin_of(circuit: &FlatCircuit, stuck: Stuck) -> Origin
     requires { (f : Fault) × IsStuckOf circuit.now.statements f stuck }
     ensures { (f : Fault) → IsStuckOf circuit.now.statements f stuck
@@ -49,7 +49,7 @@ pub fn origin_of(circuit: &FlatCircuit, stuck: Stuck) -> Origin
     }
 }
 
-/// The representative of each class, by the class's number.
+/// Returns the representative of each class, by the class's number.
 pub fn representatives_of(
     alloc: Global,
     circuit: &Circuit,
@@ -70,7 +70,7 @@ pub fn representatives_of(
     Ok(stucks)
 }
 
-/// The representative of a class.
+/// Returns the representative of a class.
 fn representative(circuit: &Circuit, list: &Faults, classes: &Classes, class: u32) -> Stuck
     requires list { list.now ≡ fault_list list.now.model circuit.now }
     requires classes { AreClassesOf list.now.model circuit.now classes.now }

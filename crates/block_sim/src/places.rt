@@ -9,7 +9,7 @@ ghost use Rattle.block_sim.specs.Arranged.{ArePlaces, IsFlowOrder};
 use bench_net::Circuit;
 use std::alloc::{AllocError, Global};
 
-/// The place of each signal in a topological order, at the signal's number.
+/// Returns the place of each signal in a topological order, at the signal's number.
 pub fn places_of(alloc: Global, circuit: &Circuit, order: &[u32]) -> Result<Vec<u32>, AllocError>
     requires circuit { IsCircuit circuit.now }
     requires order { IsFlowOrder circuit.now order.now }

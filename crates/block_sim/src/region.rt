@@ -1,5 +1,6 @@
-//! The way of a fault through its fan-out-free region: from gate to gate, each of which alone reads
-//! the signal before it, to the stem; and the stem turned round for all that came to it.
+//! The way of a fault through its fanout-free region: from gate to gate, each of which is the only
+//! reader of the signal before it, to the stem; and the stem complemented for all faults that reach
+//! it.
 
 ghost use Rattle.std.specs.Prelude.{◌≡◌, ◌≢◌, ℕ, ◌+◌, ◌<◌, ◌≤◌, Contains, List, None, true};
 ghost use Rattle.std.specs.Prelude.{Some, length};
@@ -25,15 +26,15 @@ use crate::view::BlockView;
 use crate::words::evaluate_gate;
 use fault_model::Line;
 
-/// A signal to which a fault has come, and the lanes in which it did.
+/// A signal that a fault reaches, and the lanes in which it does.
 #[derive(Clone, Copy)]
 pub struct Arrival {
     pub signal: u32,
     pub lanes: u128,
 }
 
-/// The lanes in which a fault comes over the gate that alone reads a signal, of those in which it
-/// has come to the signal. There is one at least.
+/// Returns the lanes in which a fault passes the only gate that reads a signal, among the lanes in
+/// which it has reached the signal. There is at least one of these.
 #[inline(always)]
 pub fn cross(view: BlockView<'_>, at: Arrival, gate: u32, changes: &mut Changes) -> u128
     requires view { HasWords view.circuit.now.arranged view.good.now }
@@ -69,9 +70,9 @@ pub fn cross(view: BlockView<'_>, at: Arrival, gate: u32, changes: &mut Changes)
     }
 }
 
-/// Follows a fault from a signal to which it has come to the stem of that, over gates that alone
-/// read what is before them. It stops early where the fault comes on in no lane, as it does from
-/// a signal that isn't live.
+/// Follows a fault from a signal that it has reached to the stem of that signal, over gates that
+/// are the only readers of the signals before them. It stops early if the fault passes in no lane,
+/// as from a signal that isn't live.
 pub fn arrive(view: BlockView<'_>, from: Arrival, changes: &mut Changes) -> Arrival
     requires view { HasWords view.circuit.now.arranged view.good.now }
     requires room { HasRoomFor view.circuit.now.arranged changes.old }
@@ -117,7 +118,7 @@ pub fn arrive(view: BlockView<'_>, from: Arrival, changes: &mut Changes) -> Arri
     at
 }
 
-/// How far a fault is followed on a group before it shares its way with others.
+/// The point up to which a fault is followed on a group before it shares its way with others.
 #[derive(Clone, Copy)]
 pub enum Reach {
     /// To an observer, or nowhere: the lanes in which it is detected.
@@ -126,9 +127,9 @@ pub enum Reach {
     Stem(Arrival),
 }
 
-/// Follows a fault from its line to the first signal that it can turn: a fault on a signal to that,
-/// one on a gate's pin to the gate's signal. One on an observer's line is detected where it turns
-/// that.
+/// Follows a fault from its line to the first signal that it can complement: a fault on a signal to
+/// that signal, a fault on a gate's pin to the gate's signal. A fault on an observer's line is
+/// detected if it complements that line.
 #[inline(always)]
 pub fn set_out(view: BlockView<'_>, origin: Origin, changes: &mut Changes) -> Reach
     requires view { HasWords view.circuit.now.arranged view.good.now }
@@ -180,8 +181,9 @@ pub fn set_out(view: BlockView<'_>, origin: Origin, changes: &mut Changes) -> Re
     }
 }
 
-/// Follows a fault from its line to the stem of its region: a fault on a signal from that, one on a
-/// gate's pin from the gate's signal. One on an observer's line is detected where it turns that.
+/// Follows a fault from its line to the stem of its region: a fault on a signal from that signal, a
+/// fault on a gate's pin from the gate's signal. A fault on an observer's line is detected if it
+/// complements that line.
 pub fn follow(view: BlockView<'_>, origin: Origin, changes: &mut Changes) -> Reach
     requires view { HasWords view.circuit.now.arranged view.good.now }
     requires words { (tests : List Test) × (group : ℕ)
@@ -211,7 +213,7 @@ pub fn follow(view: BlockView<'_>, origin: Origin, changes: &mut Changes) -> Rea
     }
 }
 
-/// The lanes in which some of the classes that are followed came to a signal.
+/// Returns the lanes in which some of the followed classes reached a signal.
 fn all_lanes(followed: &[Followed]) -> u128
     ensures all { (one : Followed) (k : ℕ) → Contains followed.now one → lane one.lanes k ≡ true
         → lane result k ≡ true }
@@ -225,8 +227,8 @@ fn all_lanes(followed: &[Followed]) -> u128
     lanes
 }
 
-/// Turns a signal round in the lanes in which some of the classes that are followed came to it, and
-/// tells lanes in which an observer shows that: of each class up to the least.
+/// Complements a signal in the lanes in which some of the followed classes reached it, and returns
+/// lanes in which an observer shows that: for each class up to the least.
 pub fn flip(view: BlockView<'_>, followed: &[Followed], signal: u32, changes: &mut Changes) -> u128
     requires view { HasWords view.circuit.now.arranged view.good.now }
     requires words { (tests : List Test) × (group : ℕ)

@@ -1,4 +1,4 @@
-//! The fan-out-free region of each class: its stem, and the other classes of it.
+//! The fanout-free region of each class: its stem, and its other classes.
 
 ghost use Rattle.std.specs.Prelude.{◌≡◌, ◌<◌, ◌^◌, ℕ, All, IfOk, IfSome, Some, length};
 ghost use Rattle.bench_net.specs.Statement.{Name};
@@ -15,7 +15,7 @@ use bench_net::Circuit;
 use fault_model::{Classes, Faults, Line};
 use std::alloc::{AllocError, Global};
 
-/// The stem of each class: that of the region in which its representative's line lies.
+/// Returns the stem of each class: the stem of the region of its representative's line.
 pub fn class_stems(
     alloc: Global,
     circuit: &Circuit,
@@ -40,8 +40,8 @@ pub fn class_stems(
     Ok(class_stems)
 }
 
-/// For each class the next one with its stem, and for the last the first, where there are this
-/// many signals.
+/// Returns for each class the next one with its stem, and for the last the first, for this number
+/// of signals.
 pub fn next_with_stem(alloc: Global, stems: &[u32], signals: u32) -> Result<Vec<u32>, AllocError>
     requires stems { All (λ stem. stem < signals) stems.now }
     requires few { length stems.now < 2 ^ 32 }
@@ -58,7 +58,7 @@ pub fn next_with_stem(alloc: Global, stems: &[u32], signals: u32) -> Result<Vec<
     Ok(next)
 }
 
-/// Puts each class behind the last one that has its stem, in the circle of that.
+/// Puts each class after the last one that has its stem, in the circle of that stem.
 fn join_circles(stems: &[u32], last: &mut [Option<u32>], next: &mut [u32])
     requires few { length stems.now < 2 ^ 32 }
     requires stems { All (λ stem. stem < length last.old) stems.now }
@@ -80,8 +80,8 @@ fn join_circles(stems: &[u32], last: &mut [Option<u32>], next: &mut [u32])
     }
 }
 
-/// The signal at which a line's way to its stem begins: the gate's for a pin, and for any other
-/// line the one that it carries.
+/// Returns the signal at which a line's way to its stem begins: the gate's signal for a pin, and
+/// for any other line the signal that it carries.
 fn way_from(circuit: &Circuit, line: Line) -> u32
     requires circuit { IsCircuit circuit.now }
     requires named { (n : Name) × (name_on circuit.now line ≡ Some n) }
@@ -95,7 +95,7 @@ fn way_from(circuit: &Circuit, line: Line) -> u32
     }
 }
 
-/// For each signal the stem of its region.
+/// Returns for each signal the stem of its region.
 fn stems_of(alloc: Global, circuit: &Circuit) -> Result<Vec<u32>, AllocError>
     requires circuit { IsCircuit circuit.now }
     ensures count { IfOk result (λ stems. length stems.items ≡ length (names circuit.now)) }
@@ -108,7 +108,7 @@ fn stems_of(alloc: Global, circuit: &Circuit) -> Result<Vec<u32>, AllocError>
     Ok(stems)
 }
 
-/// Finds the stem of each signal, from the last in level order on: a gate comes behind the signals
+/// Finds the stem of each signal, from the last in level order on: a gate comes after the signals
 /// that it reads.
 fn find_stems(circuit: &Circuit, stems: &mut [u32])
     requires circuit { IsCircuit circuit.now }
@@ -124,8 +124,8 @@ fn find_stems(circuit: &Circuit, stems: &mut [u32])
     }
 }
 
-/// The stem of a signal, where that of the gate that alone reads it is known: the signal itself,
-/// or the stem of that gate.
+/// Returns the stem of a signal, from the stem of the only gate that reads it: the stem of that
+/// gate, or the signal itself if there is no such gate.
 fn next_stem(circuit: &Circuit, stems: &[u32], signal: u32) -> u32
     requires circuit { IsCircuit circuit.now }
     requires room { length stems.now ≡ length (names circuit.now) }

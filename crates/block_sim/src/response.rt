@@ -1,4 +1,4 @@
-//! What a circuit without a fault answers to tests.
+//! The fault-free responses of a circuit to tests.
 
 ghost use Rattle.std.specs.Prelude.{◌≡◌, ◌+◌, ◌<◌, ◌≤◌, ◌^◌, ◌++◌, [], All, IfOk, OnOk, length};
 ghost use Rattle.std.specs.Prelude.{map};
@@ -15,11 +15,11 @@ use bench_net::Circuit;
 use patterns::{PushFault, Tests};
 use std::alloc::{AllocError, Global};
 
-/// The responses of a circuit without a fault: for each test one row of bits, those of the OUTPUT
-/// lines in order, and then what each flip-flop captures at its data pin, in the order of the DFF
-/// lines. The rows come as a list of tests; with the same inputs before them, the captured bits are
-/// the second vectors of launch on capture (Bushnell and Agrawal, Essentials of Electronic Testing,
-/// chapter 12, on delay test).
+/// Returns the fault-free responses of a circuit: for each test one row of bits, first the bits of
+/// the OUTPUT lines, in order, and then the bit that each flip-flop captures at its data pin, in
+/// the order of the DFF lines. The rows are a list of tests. With the same inputs before them, the
+/// captured bits are the capture tests of launch-on-capture pairs (Bushnell and Agrawal, Essentials
+/// of Electronic Testing, chapter 12, on delay test).
 ///
 /// Each gate is evaluated once for 128 tests. It takes a bit for each observer and test, and some
 /// memory for each signal and pin.
@@ -32,7 +32,7 @@ pub fn responses(alloc: Global, circuit: Circuit, tests: &Tests) -> Result<Tests
     response_rows(alloc, &flat, tests)
 }
 
-/// The responses of a circuit in flat rows.
+/// Returns the responses of a circuit in flat rows.
 fn response_rows(alloc: Global, circuit: &FlatCircuit, tests: &Tests) -> Result<Tests, AllocError>
     requires { tests.now.width ≡ length (sources circuit.now.statements) }
     ensures responses { IfOk result (λ rows. AreResponses circuit.now.statements tests.now.tests
@@ -53,7 +53,7 @@ fn response_rows(alloc: Global, circuit: &FlatCircuit, tests: &Tests) -> Result<
     Ok(rows)
 }
 
-/// The signals of the observers, in order.
+/// Returns the signals of the observers, in order.
 fn observed_signals(alloc: Global, circuit: &Circuit) -> Result<Vec<u32>, AllocError>
     ensures signals { IfOk result (λ observed. observed.items
         ≡ map (λ o. signal circuit.now o.1) (observers circuit.now)) }
@@ -70,7 +70,7 @@ fn observed_signals(alloc: Global, circuit: &Circuit) -> Result<Vec<u32>, AllocE
     Ok(observed)
 }
 
-/// Adds the responses to the tests of all groups to rows that were empty.
+/// Adds the responses to the tests of all groups to empty rows.
 fn add_groups(
     alloc: Global,
     circuit: &FlatCircuit,
@@ -141,7 +141,7 @@ fn read_lane(observed: &[u32], words: &[u128], lane: u32, row: &mut [bool])
     }
 }
 
-/// Adds a row of the right width where there is room for one.
+/// Adds a row of the right width to rows with room for one.
 fn add_row(alloc: Global, row: &[bool], rows: &mut Tests) -> Result<(), AllocError>
     requires room { length rows.old.tests < max_tests }
     requires width { length row.now ≡ rows.old.width }

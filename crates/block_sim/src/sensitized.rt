@@ -1,4 +1,4 @@
-//! The lanes in which signals of a fan-out-free region, turned round, turn its stem round: one pass
+//! The lanes in which complemented signals of a fanout-free region complement its stem: one pass
 //! against the flow for all classes of the region.
 
 ghost use Rattle.std.specs.Prelude.{◌≡◌, ◌≢◌, ℕ, ◌+◌, ◌<◌, ◌≤◌, Contains, IfOk, List, None, Some};
@@ -24,9 +24,9 @@ use crate::region::{Arrival, Reach, cross, set_out};
 use crate::view::BlockView;
 use std::alloc::{AllocError, Global};
 
-/// For signals of a region, and some tests of a group, the lanes in which the signal turned round
-/// turns the stem round. They are found for a signal where a fault comes to it, and kept for all
-/// that come after it.
+/// For signals of a region, and some tests of a group, the lanes in which the complemented signal
+/// complements the stem. They are computed when a fault first reaches the signal, and kept for the
+/// following faults.
 #[derive(Drop)]
 pub struct Sensitized {
     pub stem: u32,
@@ -36,7 +36,7 @@ pub struct Sensitized {
 }
 
 impl Sensitized {
-    /// Room for a circuit of this many signals.
+    /// Makes room for a circuit of this many signals.
     pub fn new(alloc: Global, signals: u32) -> Result<Sensitized, AllocError>
         ensures { IfOk result (HasRoomForRegions signals) }
     {
@@ -74,8 +74,8 @@ impl Sensitized {
         self.known.keep(stem, word);
     }
 
-    /// The lanes of a signal of the region. It evaluates the gates on its way to the stem, but for
-    /// those behind the first signal whose lanes are known.
+    /// Returns the lanes of a signal of the region. It evaluates the gates on its way to the stem,
+    /// up to the first signal whose lanes are known.
     #[inline(always)]
     fn lanes_of(&mut self, view: BlockView<'_>, signal: u32, changes: &mut Changes) -> u128
         requires view { HasWords view.circuit.now.arranged view.good.now }
@@ -109,8 +109,8 @@ impl Sensitized {
     }
 }
 
-/// Goes from a signal to the first on its way to the stem whose lanes are known, and puts those
-/// before it on the path.
+/// Goes from a signal to the first one on its way to the stem whose lanes are known, and puts the
+/// signals before that on the path.
 fn climb(circuit: &FlatCircuit, signal: u32, known: &KnownWords, path: &mut Vec<u32>) -> Arrival
     requires within { signal < length (names circuit.now.arranged) }
     requires room { length (names circuit.now.arranged) ≤ length known.now }
@@ -143,7 +143,7 @@ fn climb(circuit: &FlatCircuit, signal: u32, known: &KnownWords, path: &mut Vec<
 }
 
 /// Goes back along the path from a signal whose lanes are known, and keeps the lanes of each signal
-/// on it. Gives those of the last.
+/// on it. Returns the lanes of the last.
 fn descend(
     view: BlockView<'_>,
     from: Arrival,
@@ -183,7 +183,7 @@ fn descend(
     at.lanes
 }
 
-/// The lanes of a signal, from those of the gate that alone reads it.
+/// Returns the lanes of a signal, from the lanes of the only gate that reads it.
 #[inline(always)]
 fn lanes_before(view: BlockView<'_>, gate: Arrival, signal: u32, changes: &mut Changes) -> u128
     requires view { HasWords view.circuit.now.arranged view.good.now }
@@ -214,8 +214,9 @@ fn lanes_before(view: BlockView<'_>, gate: Arrival, signal: u32, changes: &mut C
     cross(own, at, gate.signal, changes)
 }
 
-/// Follows a fault as [`crate::region::follow`] does, to the stem of the region that was begun
-/// with: in the lanes, of those in which it comes to its first signal, in which that turns the stem.
+/// Follows a fault as [`crate::region::follow`] does, to the stem of the current region. Among the
+/// lanes in which it reaches its first signal, it takes those in which that signal complements the
+/// stem.
 pub fn follow_within(
     view: BlockView<'_>,
     origin: Origin,

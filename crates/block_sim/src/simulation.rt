@@ -1,4 +1,4 @@
-//! The outcomes of a job's pieces, found out together for the classes of a fan-out-free region.
+//! The outcomes of a job's pieces, computed together for the classes of a fanout-free region.
 
 ghost use Rattle.std.specs.Prelude.{◌≡◌, ◌+◌, ◌<◌, ◌≤◌, ℕ, Contains, IfOk, IfSome, IsTrue, List};
 ghost use Rattle.std.specs.Prelude.{None, true, false, length, slice_index_or};
@@ -29,12 +29,12 @@ use patterns::Outcome;
 use std::alloc::{AllocError, Global};
 use std::marker::Model;
 
-/// What is known of a class: its outcome on the blocks on which it was found out last.
+/// The memo of a class: its outcome on the blocks of its last simulation.
 #[derive(Clone, Copy)]
 pub enum Memo {
-    /// It was found out on no block.
+    /// It has no outcome on any block.
     Nothing,
-    /// It is followed on these blocks, and gets its outcome when its region is found out. No class
+    /// It is followed on these blocks, and gets its outcome when its region is simulated. No class
     /// waits from one call to the next.
     Pending { span: Span },
     /// No test of these blocks detects it.
@@ -44,8 +44,8 @@ pub enum Memo {
 }
 
 impl Memo {
-    /// What a word tells whose least lane that is 1 has the first test of some blocks that detects
-    /// a class.
+    /// Makes the memo of a word. The least lane that is 1 is the first test of some blocks that
+    /// detects a class.
     fn of(span: Span, word: u128) -> Memo
         requires told { (job : Parts) × (class : ℕ) × IsSpan (length job.tests.tests) span
             × TellsFirstIn job span class word }
@@ -64,7 +64,7 @@ impl Memo {
         }
     }
 
-    /// The outcome on a block, where that is known.
+    /// Returns the outcome on a block, if it is known.
     #[inline(always)]
     fn on(self, block: u32) -> Option<Outcome>
         ensures truth { IfSome result (λ outcome. (job : Parts) (class : ℕ)
@@ -91,19 +91,19 @@ impl Memo {
     }
 }
 
-/// How far a class is followed on some blocks by itself.
+/// The result of following a class by itself on some blocks.
 #[derive(Clone, Copy)]
 pub enum Approach {
-    /// It is known which test detects it first: that of the least lane that is 1.
+    /// The first test that detects it is known: the least lane that is 1.
     Known(u128),
-    /// It came to the stem of its region, in some lanes.
+    /// It reached the stem of its region, in some lanes.
     Stem(Arrival),
 }
 
-/// What simulates the pieces of a job. Faults of one fan-out-free region all leave it through
-/// its stem, so one simulation of the stem serves all classes of the region that are likely to be
-/// asked for on a block (Lee and Ha, HOPE: An Efficient Parallel Fault Simulator). It keeps for
-/// each class the outcome that it found out last.
+/// The simulation of the pieces of a job. Faults of one fanout-free region all leave it through its
+/// stem, so one simulation of the stem serves all classes of the region that a block will likely
+/// need (Lee and Ha, HOPE: An Efficient Parallel Fault Simulator). It keeps for each class its last
+/// outcome.
 #[derive(Drop)]
 pub struct Simulation {
     changes: Changes,
@@ -129,8 +129,8 @@ impl Model for Simulation {
 }
 
 impl Simulation {
-    /// Room for the simulation of a job. It takes a word and a few numbers for each signal, and a
-    /// few numbers for each class.
+    /// Makes room for the simulation of a job. It takes a word and a few numbers for each signal,
+    /// and a few numbers for each class.
     pub fn new(alloc: Global, job: &Job) -> Result<Simulation, AllocError>
         ensures serves { IfOk result (λ simulation. Serves simulation job.now) }
         ensures fresh { IfOk result (λ simulation. simulation.evaluations ≡ 0) }
@@ -146,23 +146,23 @@ impl Simulation {
         })
     }
 
-    /// How often a gate was evaluated on a word since the simulation was made. It stays at the
-    /// greatest u64.
+    /// Returns how often a gate was evaluated on a word since the simulation was made. It stays at
+    /// the greatest u64.
     pub fn gate_evaluations(&self) -> u64
         ensures { result ≡ self.now.evaluations }
     {
         self.changes.evaluations
     }
 
-    /// The outcome of a class on a block of the job, as [`crate::simulate`] gives it. It takes no
-    /// memory.
+    /// Returns the outcome of a class on a block of the job, as [`crate::simulate`] does. It takes
+    /// no memory.
     ///
-    /// It follows classes of the region, this one among them, that are known on the block from then
-    /// on and were not before. From the third block on it finds them out on two blocks at once. At
-    /// most it evaluates the gates on their ways to the stem, and once each those that the stem
-    /// makes active where it is turned round: gates with a pin that sees another bit then, under
-    /// some test of the block, or from the third block on of what is behind it in its group of two.
-    /// Where the class is known on the block it evaluates none.
+    /// It follows classes of the region, including this one, that have no memo on the block before
+    /// the call and have one after it. From the third block on it simulates two blocks at once. At
+    /// most it evaluates the gates on the ways of these classes to the stem, and once each the
+    /// gates that the complemented stem makes active: gates with a pin that then sees another bit,
+    /// under some test of the block, or from the third block on of the block after it in its group
+    /// of two. If the class has a memo on the block, it evaluates none.
     pub fn outcome(&mut self, job: &Job, class: u32, block: u32) -> Outcome
         requires serves { Serves self.old job.now }
         requires class { class < length job.now.classes.representative }
@@ -206,7 +206,7 @@ impl Simulation {
     }
 }
 
-/// The outcome on a block on which a class is known.
+/// Returns the outcome on a block on which a class has a memo.
 fn first_outcome(memo: Memo, block: u32) -> Outcome
     requires truth { (job : Parts) × (class : ℕ) × IsTrueMemo job class memo }
     requires known { is_on block memo ≡ true }
@@ -219,8 +219,8 @@ fn first_outcome(memo: Memo, block: u32) -> Outcome
     }
 }
 
-/// Finds out a class that came to the stem of its region, together with the others that are likely
-/// to be asked for on the block. Tells lanes in which the stem turned round is detected.
+/// Simulates a class that reached the stem of its region, together with the others that the block
+/// will likely need. Returns lanes in which the complemented stem is detected.
 fn find_out_region(
     job: &Job,
     span: Span,
@@ -323,9 +323,9 @@ pub fn follow_from(job: &Job, stuck: Stuck, span: Span, changes: &mut Changes) -
     }
 }
 
-/// Whether a class is likely to be asked for on a block: it was clear on the block before, or it
-/// is the first block and nothing is known of it. Any answer is right; it decides what is worth
-/// finding out beside the class that is asked for. A class that is known on the block isn't likely.
+/// Returns whether a block will likely need a class: it was clear on the block before, or it is the
+/// first block and the class has no memo. Any result is right; it only decides which classes are
+/// simulated beside the requested one. A class with a memo on the block isn't likely.
 fn is_likely(memo: Memo, block: u32) -> bool
     ensures idle { IsTrue result → is_on block memo ≡ false }
 {
@@ -336,8 +336,8 @@ fn is_likely(memo: Memo, block: u32) -> bool
     }
 }
 
-/// Goes round the region of a class, and follows with it the others that are likely to be asked for
-/// on the block. What is known of others at once is kept.
+/// Goes round the region of a class, and follows with it the others that the block will likely
+/// need. It keeps the outcomes that are known at once.
 fn gather(
     job: &Job,
     span: Span,
@@ -378,7 +378,7 @@ fn gather(
     }
 }
 
-/// Follows one more class of the region, and keeps its outcome where that is known at once.
+/// Follows one more class of the region, and keeps its outcome if it is known at once.
 fn follow_too(
     job: &Job,
     span: Span,
@@ -422,7 +422,7 @@ fn follow_too(
     }
 }
 
-/// Turns the stem round for all classes that are followed.
+/// Complements the stem for all followed classes.
 pub fn flip_stem(
     job: &Job,
     span: Span,
@@ -455,7 +455,7 @@ pub fn flip_stem(
     flip(view, followed, circuit.place_of(stem), changes)
 }
 
-/// Keeps the outcomes of all classes that were followed.
+/// Keeps the outcomes of all followed classes.
 fn conclude(job: &Job, span: Span, stem: u32, seen: u128, followed: &[Followed], memos: &mut [Memo])
     requires span { IsSpan (length job.now.tests.tests) span }
     requires memos { AreTrueBut job.now followed.now memos.old }

@@ -17,8 +17,8 @@ pub struct Span {
 }
 
 impl Span {
-    /// A block with the other one of its group, where that comes behind it. Most classes are
-    /// detected in the first group, so its blocks are taken one by one.
+    /// Returns a block with the other one of its group, if that comes after it. Most classes are
+    /// detected in the first group, so its blocks are simulated one by one.
     pub fn from(tests: &Tests, block: u32) -> Span
         requires { block < blocks (length tests.now.tests) }
         ensures span { IsSpan (length tests.now.tests) result }
@@ -39,7 +39,7 @@ impl Span {
         }
     }
 
-    /// The lanes of its tests.
+    /// Returns the lanes of its tests.
     pub fn test_lanes(self, tests: &Tests) -> u128
         requires { IsSpan (length tests.now.tests) self }
         ensures { (k : ℕ) → k < 128 → Decides (lane result k)

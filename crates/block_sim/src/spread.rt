@@ -2,7 +2,7 @@
 //! places.
 //!
 //! The fault-free words stay as they are. An overlay has for each signal the lanes in which it
-//! differs, and a gate is evaluated only where a signal that it reads differs (event-driven
+//! differs, and a gate is evaluated only if a signal that it reads differs (event-driven
 //! simulation: Bushnell and Agrawal, Essentials of Electronic Testing).
 
 ghost use Rattle.std.specs.Prelude.{◌≡◌, ◌≢◌, ◌⊎◌, ◌↔◌, ℕ, ◌+◌, ◌<◌, ◌≤◌, ◌==◌, Contains, List};
@@ -29,8 +29,8 @@ use crate::view::BlockView;
 use crate::words::evaluate_gate;
 use event_queue::Places;
 
-/// A class that is followed, the place where what is found out of it is kept, and the lanes in
-/// which its fault came as far as the simulation starts.
+/// A followed class, the place where its result is kept, and the lanes in which its fault reached
+/// the start of the simulation.
 #[derive(Clone, Copy)]
 pub struct Followed {
     pub class: u32,
@@ -38,18 +38,18 @@ pub struct Followed {
     pub lanes: u128,
 }
 
-/// How far the lanes of a group are followed.
+/// The extent to which the lanes of a group are followed.
 #[derive(Clone, Copy)]
 pub enum Extent<'a> {
     /// Each lane to the end.
     WholeBlock,
-    /// Each lane that is below the least of its own in which a difference was observed, for some of
-    /// those that are followed.
+    /// Each lane below the least of its own lanes in which a difference was observed, for some of
+    /// the followed classes.
     FirstHits(&'a [Followed]),
 }
 
 impl Extent<'_> {
-    /// The lanes that are still followed, of some that are, where these lanes were seen.
+    /// Returns the lanes that are still followed, among these, after these lanes were seen.
     #[inline(always)]
     fn followed(self, lanes: u128, seen: u128) -> u128
         ensures within { (k : ℕ) → k < 128 → lane result k ≡ true → lane lanes k ≡ true }
@@ -64,7 +64,8 @@ impl Extent<'_> {
     }
 }
 
-/// The lanes of some that are followed, each below the least of its own that was seen.
+/// Returns the lanes of some of the followed classes, each below the least of its own that was
+/// seen.
 fn below_hits(followed: &[Followed], seen: u128) -> u128
     ensures below { (k : ℕ) → k < 128 → lane result k ≡ true → (one : Followed)
         × Contains followed.now one × (lane one.lanes k ≡ true)
@@ -80,8 +81,9 @@ fn below_hits(followed: &[Followed], seen: u128) -> u128
     below
 }
 
-/// Lets the gates that read a signal wait, and tells whether an observer reads it. A plain read of the reader's row ahead of its turn gained nothing (0.92 to 1.20 of the time
-/// on eight cases), and Rattle has no prefetch.
+/// Lets the gates that read a signal wait, and returns whether an observer reads it. A plain read
+/// of the reader's row ahead of its turn gained nothing (0.92 to 1.20 of the time on eight cases),
+/// and Rattle has no prefetch.
 #[inline(always)]
 fn schedule_fanout(circuit: &FlatCircuit, signal: u32, waiting: &mut Places) -> bool
     requires circuit { IsCircuit circuit.now.arranged }
@@ -97,7 +99,7 @@ fn schedule_fanout(circuit: &FlatCircuit, signal: u32, waiting: &mut Places) -> 
     circuit.is_observed(signal)
 }
 
-/// Lets a signal differ in some lanes, so that its readers wait, and tells in which of them an
+/// Lets a signal differ in some lanes, so that its readers wait, and returns the lanes in which an
 /// observer sees it.
 #[inline(always)]
 fn change(circuit: &FlatCircuit, signal: u32, diff: u128, changes: &mut Changes) -> u128
@@ -123,8 +125,8 @@ fn change(circuit: &FlatCircuit, signal: u32, diff: u128, changes: &mut Changes)
     }
 }
 
-/// Evaluates a gate that waited, and lets its signal differ where its word does in some of the
-/// lanes that are followed. Tells in which of them an observer sees that.
+/// Evaluates a gate that waited, and lets its signal differ if its word does in some of the
+/// followed lanes. Returns the lanes in which an observer sees that.
 #[inline(always)]
 fn evaluate_waiting(view: BlockView<'_>, kept: u128, gate: u32, changes: &mut Changes) -> u128
     requires view { HasWords view.circuit.now.arranged view.good.now }
@@ -152,15 +154,15 @@ fn evaluate_waiting(view: BlockView<'_>, kept: u128, gate: u32, changes: &mut Ch
     }
 }
 
-/// The lanes in which an observer saw a difference so far, and those that are still followed.
+/// The lanes in which an observer has seen a difference, and the lanes that are still followed.
 #[derive(Clone, Copy)]
 struct Found {
     detected: u128,
     followed: u128,
 }
 
-/// Evaluates a gate that was taken, which was the least of those that wait, and tells what is found
-/// then.
+/// Evaluates the gate that was taken, the least of the waiting ones, and returns the lanes found so
+/// far.
 #[inline(always)]
 fn follow_gate(
     view: BlockView<'_>,
@@ -190,8 +192,8 @@ fn follow_gate(
     }
 }
 
-/// Takes the least gate that waits, from a place on before which none does; `None` where none waits,
-/// or where no lane is followed any more, since then nothing can change what is told.
+/// Takes the least gate that waits, from a place before which none does. `None` if none waits, or
+/// if no lane is followed any more, because then nothing can change the result.
 #[inline(always)]
 fn next_gate(followed: u128, from: u32, waiting: &mut Places) -> Option<u32>
     requires within { from < length waiting.old }
@@ -209,9 +211,9 @@ fn next_gate(followed: u128, from: u32, waiting: &mut Places) -> Option<u32>
     waiting.take(from)
 }
 
-/// Spreads the first change of a fault, which is that of one signal in some of the lanes that are
-/// asked for; each lane may have a fault of its own. Tells lanes in which an observer shows another
-/// bit: all such lanes, or where first hits are asked for some with the least of each.
+/// Spreads the first change of a fault: of one signal in some of the requested lanes; each lane may
+/// have a fault of its own. Returns lanes in which an observer shows another bit: all such lanes,
+/// or if first hits are requested some of them with the least of each.
 pub fn spread(
     view: BlockView<'_>,
     extent: Extent<'_>,

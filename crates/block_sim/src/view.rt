@@ -4,7 +4,7 @@ ghost use Rattle.std.specs.Prelude.{◌≡◌, ◌<◌, Some, length, map, slice
 
 use crate::flat::FlatCircuit;
 
-/// The circuit, the word that each signal has without a fault, and the lanes that are asked for.
+/// The circuit, the fault-free word of each signal, and the requested lanes.
 #[derive(Clone, Copy)]
 pub struct BlockView<'a> {
     pub circuit: &'a FlatCircuit,
@@ -12,8 +12,8 @@ pub struct BlockView<'a> {
     pub lanes: u128,
 }
 
-/// The circuit, and for each group of two blocks the word that each signal has without a fault, at
-/// the signal's place.
+/// The circuit, and for each group of two blocks the fault-free word of each signal, at the
+/// signal's place.
 #[derive(Clone, Copy)]
 pub struct GroupWords<'a> {
     pub circuit: &'a FlatCircuit,
@@ -21,7 +21,7 @@ pub struct GroupWords<'a> {
 }
 
 impl<'a> GroupWords<'a> {
-    /// The words of a group.
+    /// Returns the words of a group.
     #[inline(always)]
     pub fn of(self, group: u32) -> &'a [u128]
         requires { group < length self.rows.now }

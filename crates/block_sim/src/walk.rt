@@ -1,10 +1,10 @@
 //! A walk through a circuit against the flow, depth first.
 //!
-//! From a gate it goes to the signal of its first pin and all that lies behind that, then to that
-//! of its second pin, and so on, and leaves the gate when it has left all of these. So the signals
-//! that lead to a gate are left shortly before it. It starts from the observed signals, the lowest
-//! level first, and at last from those that nothing else has led to. So first comes all that leads
-//! to the lowest observer, then what the next one has beyond that, and so on.
+//! From a gate it goes to the signal of its first pin and everything before it, then to the signal
+//! of its second pin, and so on, and leaves the gate after all of these. So the signals that lead
+//! to a gate are left shortly before it. It starts from the observed signals, the lowest level
+//! first, and at last from the signals that it hasn't met. So everything that leads to the lowest
+//! observer comes first, then what the next observer needs beyond that, and so on.
 
 ghost use Rattle.std.specs.Prelude.{◌≡◌, ◌<◌, IfOk, IfSome, OnOk, length};
 ghost use Rattle.bench_net.specs.Circuit.{IsCircuit};
@@ -14,34 +14,35 @@ ghost use Rattle.block_sim.specs.Order.{IsWalk};
 use bench_net::{Circuit, Sink};
 use std::alloc::{AllocError, Global};
 
-/// A signal that the walk has entered, and how many pins of its gate it has gone on from.
+/// A signal that the walk has entered, and the number of pins of its gate that it has gone on from.
 #[derive(Clone, Copy)]
 struct Entered {
     signal: u32,
     pins: usize,
 }
 
-/// How far the walk is.
+/// The state of the walk.
 #[derive(Drop)]
 struct Walk {
     /// For each signal whether the walk has entered it.
     entered: Vec<bool>,
     /// The signals that it has entered and not left, the last one on top.
     path: Vec<Entered>,
-    /// How often it has started.
+    /// The number of its starts.
     starts: usize,
-    /// For each signal that it has left how many it left before.
+    /// For each signal that it has left, the number of signals that it left before.
     ranks: Vec<u32>,
     left: u32,
 }
 
-/// For each signal how many the walk leaves before it.
+/// Returns for each signal how many signals the walk leaves before it.
 ///
 /// ```text
 /// m = NOT(b)    z = AND(a, m)    y = OR(b, c)        a 0    b 1    m 2    z 3    c 4    y 5
 /// ```
 ///
-/// Nothing is promised of these numbers: they decide how fast a simulation is, and no result.
+/// No clause promises anything of these numbers: they affect the speed of a simulation, and no
+/// result.
 pub fn walk_ranks(alloc: Global, circuit: &Circuit) -> Result<Vec<u32>, AllocError>
     requires { IsCircuit circuit.now }
     ensures { IfOk result (λ ranks. length ranks.items ≡ length (names circuit.now)) }
@@ -60,8 +61,8 @@ pub fn walk_ranks(alloc: Global, circuit: &Circuit) -> Result<Vec<u32>, AllocErr
     Ok(walk.ranks)
 }
 
-/// The steps of the walk: one for each pin, and for each signal two to start from it and one to
-/// leave it.
+/// Returns the number of steps of the walk: one for each pin, and for each signal two to start from
+/// it and one to leave it.
 fn steps_of(circuit: &Circuit) -> usize
     requires { IsCircuit circuit.now }
 {
@@ -112,7 +113,7 @@ fn start(circuit: &Circuit, walk: &mut Walk) -> Result<(), AllocError>
     }
 }
 
-/// Whether an observer observes a signal.
+/// Returns whether an observer observes a signal.
 fn is_observed(circuit: &Circuit, signal: u32) -> bool
     requires { signal < length (names circuit.now) }
 {
@@ -125,7 +126,7 @@ fn is_observed(circuit: &Circuit, signal: u32) -> bool
     false
 }
 
-/// Goes on from a signal to the next pin of its gate, or leaves it where there is none.
+/// Goes on from a signal to the next pin of its gate, or leaves it if there is none.
 fn go_on(circuit: &Circuit, at: Entered, walk: &mut Walk) -> Result<(), AllocError>
     requires circuit { IsCircuit circuit.now }
     requires signal { at.signal < length (names circuit.now) }
@@ -148,7 +149,7 @@ fn go_on(circuit: &Circuit, at: Entered, walk: &mut Walk) -> Result<(), AllocErr
     }
 }
 
-/// The signal that the next pin of a signal's gate reads.
+/// Returns the signal that the next pin of a signal's gate reads.
 fn next_pin(circuit: &Circuit, at: Entered) -> Option<u32>
     requires circuit { IsCircuit circuit.now }
     requires signal { at.signal < length (names circuit.now) }
@@ -163,7 +164,7 @@ fn next_pin(circuit: &Circuit, at: Entered) -> Option<u32>
     }
 }
 
-/// Enters a signal, where the walk has not done so.
+/// Enters a signal, if the walk has not done so.
 fn enter(circuit: &Circuit, signal: u32, walk: &mut Walk) -> Result<(), AllocError>
     requires signal { signal < length (names circuit.now) }
     requires walk { IsWalk circuit.now walk.old }

@@ -27,9 +27,8 @@ use crate::flat::{FlatCircuit, Gate};
 use fault_model::Line;
 use patterns::Tests;
 
-/// The stuck-at fault that is propagated for a fault of any model: its line is held at 0 or at
-/// 1 for all that read it. A transition fault is detected where this one is and the test before
-/// fits.
+/// The stuck-at fault that is propagated for a fault of any model: its line is held at 0 or at 1
+/// for all its readers. A transition fault is detected if this one is and the test before fits.
 #[derive(Clone, Copy)]
 pub struct Stuck {
     pub model: fault_model::Model,
@@ -38,7 +37,7 @@ pub struct Stuck {
 }
 
 impl Stuck {
-    /// The stuck bit in every lane.
+    /// Returns the stuck bit in every lane.
     #[inline(always)]
     pub fn word(self) -> u128
         ensures { (k : ℕ) → k < 128 → lane result k ≡ self.at_one }
@@ -46,7 +45,7 @@ impl Stuck {
         in_each_lane(self.at_one)
     }
 
-    /// The fault as the lists of the circuit have it.
+    /// Returns the fault in the numbers of the lists of the circuit.
     pub fn moved(self, circuit: &FlatCircuit) -> Stuck
         requires { (n : Name) × (name_on circuit.now.statements self.line ≡ Some n) }
         ensures { stuck_fault result
@@ -60,8 +59,8 @@ impl Stuck {
     }
 }
 
-/// The word that the readers of a line get: the stuck bit in every lane where the fault is on this
-/// very line, else the word that drives it.
+/// Returns the word that the readers of a line get: the stuck bit in every lane if the fault is on
+/// this very line, else the word that drives it.
 #[inline(always)]
 fn seen(fault: Option<Stuck>, own: Line, word: u128) -> u128
     ensures { (k : ℕ) → k < 128 → lane result k ≡ under (fault_of fault) own (lane word k) }
@@ -72,8 +71,8 @@ fn seen(fault: Option<Stuck>, own: Line, word: u128) -> u128
     }
 }
 
-/// The word that a pin of a gate reads: that of its signal, inverted in the lanes in which that
-/// differs, or the stuck bit where the fault is on the pin.
+/// Returns the word that a pin of a gate reads: the word of its signal, inverted in the lanes in
+/// which that differs, or the stuck bit if the fault is on the pin.
 #[inline(always)]
 fn pin_word(
     gate: Gate<'_>,
@@ -100,16 +99,17 @@ fn pin_word(
     seen(fault, own, words[at] ^ delta[at])
 }
 
-/// What the words of a gate's pins come to: their AND, of each inverted where the form asks for
-/// that, and their XOR.
+/// The folded words of a gate's pins: their AND, each inverted if the form inverts inputs, and
+/// their XOR.
 #[derive(Clone, Copy)]
 struct Folds {
     all: u128,
     odd: u128,
 }
 
-/// What the words of a gate's pins come to. The first and the last are read apart, so that a gate
-/// of one pin or two, as most are, takes no turn of the loop: which of the two it is isn't asked.
+/// Returns the folded words of a gate's pins. The first and the last are read apart, so that a gate
+/// of one pin or two, as most are, takes no turn of the loop: no branch decides which of the two it
+/// is.
 #[inline(always)]
 fn folds_of(
     gate: Gate<'_>,
@@ -179,7 +179,7 @@ pub fn evaluate_gate(
     word ^ in_each_lane(gate.form.inverts_output)
 }
 
-/// The word of a block at a source, and 0 past the last block.
+/// Returns the word of a block at a source, and 0 past the last block.
 fn word_at(tests: &Tests, count: u32, block: u32, source: u32) -> u64
     requires count { count ≡ blocks (length tests.now.tests) }
     requires source { source < tests.now.width }
@@ -192,7 +192,7 @@ fn word_at(tests: &Tests, count: u32, block: u32, source: u32) -> u64
     }
 }
 
-/// The word that a group's tests give a source.
+/// Returns the word that a group's tests give a source.
 fn source_word(circuit: &FlatCircuit, tests: &Tests, group: u32, signal: u32) -> u128
     requires circuit { IsCircuit circuit.now.arranged }
     requires signal { signal < length (names circuit.now.arranged) }
@@ -214,8 +214,8 @@ fn source_word(circuit: &FlatCircuit, tests: &Tests, group: u32, signal: u32) ->
     }
 }
 
-/// The fault-free word of one signal, from the tests or from the words of the signals that its
-/// gate reads. No word differs from itself: `same` is all 0.
+/// Returns the fault-free word of one signal, from the tests or from the words of the signals that
+/// its gate reads. No word differs from itself: `same` is all 0.
 fn signal_word(
     circuit: &FlatCircuit,
     tests: &Tests,

@@ -23,8 +23,8 @@ use patterns::Outcome;
 use std::alloc::{AllocError, Global};
 use std::marker::Model;
 
-/// Room for what a fault changes on a block: words that differ, and gates that wait. It is used
-/// again and again, and for any job with at most as many signals.
+/// Room for the changes of a fault on a block: words that differ, and gates that wait. It is used
+/// again and again, for any job with at most as many signals.
 #[derive(Drop)]
 pub struct Workspace {
     changes: Changes,
@@ -46,7 +46,7 @@ impl Model for Workspace {
 }
 
 impl Workspace {
-    /// A workspace that fits the job. It takes a word and a few numbers for each signal.
+    /// Makes a workspace that fits the job. It takes a word and a few numbers for each signal.
     pub fn new(alloc: Global, job: &Job) -> Result<Workspace, AllocError>
         ensures fits { IfOk result (λ workspace. HasRoom workspace job.now) }
         ensures fresh { IfOk result (λ workspace. workspace.evaluations ≡ 0) }
@@ -55,15 +55,15 @@ impl Workspace {
         Ok(Workspace { changes })
     }
 
-    /// Whether the workspace is large enough for a job.
+    /// Returns whether the workspace is large enough for a job.
     pub fn fits(&self, job: &Job) -> bool
         ensures { IsTrue result ↔ HasRoom self.now job.now }
     {
         job.circuit().signals() as usize <= self.changes.overlay.words().len()
     }
 
-    /// How often a gate was evaluated on a word since the workspace was made. It stays at the
-    /// greatest u64.
+    /// Returns how often a gate was evaluated on a word since the workspace was made. It stays at
+    /// the greatest u64.
     pub fn gate_evaluations(&self) -> u64
         ensures { result ≡ self.now.evaluations }
     {
@@ -71,20 +71,20 @@ impl Workspace {
     }
 }
 
-/// The outcome of a class on a block: `Hit(k)` with the least `k` below the block's size for which
-/// test `64 * block + k` detects the representative of the class, else `Clear`. It takes no
-/// memory.
+/// Returns the outcome of a class on a block: `Hit(k)` with the least `k` below the block's size
+/// for which test `64 * block + k` detects the representative of the class, else `Clear`. It takes
+/// no memory.
 ///
 /// All tests of the block are simulated at once, from the fault's line on and only where words
 /// change (parallel-pattern single-fault propagation: Waicukauski, Eichelberger, Forlenza,
-/// Lindbloom and McCarthy, Fault Simulation for Structured VLSI). At most those gates are
-/// evaluated, each once, that the fault makes active: gates with a pin that sees under some test of
-/// the block another bit with the fault than without it. Where the fault is excited under no test
-/// of the block, none is. A transition fault makes active what its line stuck at the fault's bit
-/// does.
+/// Lindbloom and McCarthy, Fault Simulation for Structured VLSI). At most it evaluates, once each,
+/// the gates that the fault makes active: gates with a pin that sees, under some test of the block,
+/// another bit with the fault than without it. If the fault is excited under no test of the block,
+/// it evaluates none. A transition fault makes the same gates active as its line stuck at the
+/// fault's bit.
 ///
-/// Each test is followed to the end; [`first_hit`] has the same outcome and is faster where there
-/// are hits.
+/// Each test is followed to the end; [`first_hit`] has the same outcome and is faster if there are
+/// hits.
 pub fn simulate(job: &Job, workspace: &mut Workspace, class: u32, block: u32) -> Outcome
     requires class { class < length job.now.classes.representative }
     requires block { block < blocks (length job.now.tests.tests) }
@@ -102,10 +102,10 @@ pub fn simulate(job: &Job, workspace: &mut Workspace, class: u32, block: u32) ->
     least_lane(block_word(lanes, block))
 }
 
-/// The outcome of a class on a block, as [`simulate`] gives it and within the same bound. Only the
-/// tests below the least that is known to detect the fault are followed on, so that it ends early.
-/// It is the call for lists of tests; [`simulate`] is the one whose counts do not depend on what
-/// is detected when.
+/// Returns the outcome of a class on a block, as [`simulate`] does and within the same bound. It
+/// only follows the tests below the least that is known to detect the fault, so it ends early. It
+/// is the call for lists of tests; the counts of [`simulate`] don't depend on which test detects
+/// what.
 pub fn first_hit(job: &Job, workspace: &mut Workspace, class: u32, block: u32) -> Outcome
     requires class { class < length job.now.classes.representative }
     requires block { block < blocks (length job.now.tests.tests) }
@@ -128,13 +128,13 @@ pub fn first_hit(job: &Job, workspace: &mut Workspace, class: u32, block: u32) -
     least_lane(block_word(lanes, block))
 }
 
-/// The tests of a block that detect a class: bit k, from the least, is 1 exactly where test
+/// Returns the tests of a block that detect a class: bit k, from the least, is 1 exactly if test
 /// `64 * block + k` detects the representative of the class, and 0 past the last test. It takes no
 /// memory.
 ///
 /// Each test is followed to the end, within the same bound as [`simulate`]. A transition fault is
-/// detected with the test before, so that a bit tells of a pair of tests: that of lane 0 of the
-/// last test of the block before, and the first test of all detects none.
+/// detected with the test before, so a bit stands for a pair of tests: for lane 0 with the last
+/// test of the block before. The first test of all detects none.
 pub fn detecting(job: &Job, workspace: &mut Workspace, class: u32, block: u32) -> u64
     requires class { class < length job.now.classes.representative }
     requires block { block < blocks (length job.now.tests.tests) }
@@ -152,8 +152,8 @@ pub fn detecting(job: &Job, workspace: &mut Workspace, class: u32, block: u32) -
     block_word(word, block)
 }
 
-/// The lanes, in the word of its group, of a block whose tests detect a class, as far as they are
-/// followed.
+/// Returns the lanes, in the word of its group, of a block whose tests detect a class, as far as
+/// they are followed.
 fn told(job: &Job, workspace: &mut Workspace, class: u32, block: u32, extent: Extent<'_>) -> u128
     requires class { class < length job.now.classes.representative }
     requires block { block < blocks (length job.now.tests.tests) }
