@@ -1,4 +1,4 @@
-//! The first tests of the classes of a list, found out region by region.
+//! The first tests of the classes of a list, computed region by region.
 
 ghost use Rattle.std.specs.Prelude.{◌≡◌, ◌⊎◌, ◌+◌, ◌^◌, ◌<◌, ◌≤◌, ℕ, All, Contains, IfOk, List};
 ghost use Rattle.std.specs.Prelude.{[], None, Some, length, slice_get, slice_set, vec_capacity};
@@ -30,12 +30,12 @@ use crate::view::BlockView;
 use std::alloc::{AllocError, Global};
 use std::marker::Model;
 
-/// What simulates whole fan-out-free regions, for one who goes over a list of classes on which the
-/// classes of a region stand one behind another. All of them that are open are found out at once
-/// on a block: each is followed to the stem of the region, and the stem is turned round once (Lee
-/// and Ha, HOPE: An Efficient Parallel Fault Simulator).
+/// The simulation of whole fanout-free regions, for a list of classes on which the classes of a
+/// region are adjacent. All open classes of a region are simulated together on a block: each is
+/// followed to the stem of the region, and the stem is complemented once (Lee and Ha, HOPE: An
+/// Efficient Parallel Fault Simulator).
 ///
-/// It keeps the test that it found out last of the class at each place of the list.
+/// It keeps the last test that it found for the class at each place of the list.
 #[derive(Drop)]
 pub struct RegionSimulation {
     changes: Changes,
@@ -62,8 +62,8 @@ impl Model for RegionSimulation {
 }
 
 impl RegionSimulation {
-    /// Room for the simulation of lists of classes of a job. It takes a word and a few numbers for
-    /// each signal, and a few numbers for each class.
+    /// Makes room for the simulation of lists of classes of a job. It takes a word and a few
+    /// numbers for each signal, and a few numbers for each class.
     pub fn new(alloc: Global, job: &Job) -> Result<RegionSimulation, AllocError>
         ensures serves { IfOk result (λ simulation. ServesRegions simulation job.now) }
         ensures fresh { IfOk result (λ simulation. simulation.evaluations ≡ 0) }
@@ -83,15 +83,15 @@ impl RegionSimulation {
         })
     }
 
-    /// How often a gate was evaluated on a word since the simulation was made. It stays at the
-    /// greatest u64.
+    /// Returns how often a gate was evaluated on a word since the simulation was made. It stays at
+    /// the greatest u64.
     pub fn gate_evaluations(&self) -> u64
         ensures { result ≡ self.now.evaluations }
     {
         self.changes.evaluations
     }
 
-    /// The test, counted from 0, that was found out last of the class at a place of the list.
+    /// Returns the last test, counted from 0, that it found for the class at a place of the list.
     pub fn hit_at(&self, place: usize) -> Option<u32>
         requires { place < length self.now.hits }
         ensures { slice_get self.now.hits place ≡ Some result }
@@ -99,14 +99,14 @@ impl RegionSimulation {
         self.hits[place]
     }
 
-    /// Finds out the region whose classes stand in a list from a place on: the first test that
-    /// detects each of its classes that is open, on a block and what is simulated at once with it
-    /// ([`Job::last_together`]). A class is open where no first test of it is known yet. Gives the
-    /// place behind the last class of the region. It takes no memory.
+    /// Simulates the region whose classes are in a list from a place on: finds the first test that
+    /// detects each of its open classes, on a block and the blocks that are simulated with it
+    /// ([`Job::last_together`]). A class is open if no first test of it is known yet. Returns the
+    /// place after the last class of the region. It takes no memory.
     ///
     /// At most it evaluates the gates on the ways of the open classes to the stem, and once each
-    /// those that the stem makes active where it is turned round: gates with a pin that sees
-    /// another bit then, under some test of these blocks.
+    /// the gates that the complemented stem makes active: gates with a pin that then sees another
+    /// bit, under some test of these blocks.
     pub fn find_out(
         &mut self,
         job: &Job,
@@ -157,7 +157,7 @@ impl RegionSimulation {
     }
 }
 
-/// The class at a place of a list.
+/// Returns the class at a place of a list.
 fn row_at(rows: &[Listed], place: usize) -> Listed
     requires { place < length rows.now }
     ensures { slice_get rows.now place ≡ Some result }
@@ -165,7 +165,7 @@ fn row_at(rows: &[Listed], place: usize) -> Listed
     rows[place]
 }
 
-/// The place behind the last class of a region, of which the first stands at this place.
+/// Returns the place after the last class of a region, the first of which is at this place.
 fn end_of_region(rows: &[Listed], from: usize) -> usize
     requires { from < length rows.now }
     ensures { IsEndOfRegion rows.now from result }
@@ -180,8 +180,8 @@ fn end_of_region(rows: &[Listed], from: usize) -> usize
     rows.len()
 }
 
-/// The circuit as the job's simulation reads it, with the words of a span's group and the lanes of
-/// its tests.
+/// Returns the circuit as the job's simulation reads it, with the words of a span's group and the
+/// lanes of its tests.
 fn view_of(job: &Job, span: Span) -> BlockView<'_>
     requires { IsSpan (length job.now.tests.tests) span }
     ensures { IsViewOf job.now span result }
@@ -194,7 +194,7 @@ fn view_of(job: &Job, span: Span) -> BlockView<'_>
     }
 }
 
-/// Follows the classes of a region that are open, which stand from one place up to another.
+/// Follows the open classes of a region, from one place up to another.
 fn follow_region(
     job: &Job,
     view: BlockView<'_>,
@@ -254,7 +254,7 @@ fn follow_region(
     }
 }
 
-/// The first test that is known of the class at a place.
+/// Returns the first test that is known for the class at a place.
 fn first_at(firsts: &[Option<u32>], place: usize) -> Option<u32>
     requires { place < length firsts.now }
     ensures { slice_get firsts.now place ≡ Some result }
@@ -262,7 +262,7 @@ fn first_at(firsts: &[Option<u32>], place: usize) -> Option<u32>
     firsts[place]
 }
 
-/// Follows one class of a region, and keeps its first test where that is known at once.
+/// Follows one class of a region, and keeps its first test if it is known at once.
 fn follow_row(
     job: &Job,
     view: BlockView<'_>,
@@ -305,7 +305,7 @@ fn follow_row(
     }
 }
 
-/// Follows a class to the stem of its region, with which was begun.
+/// Follows a class to the stem of the current region.
 fn follow_listed(
     job: &Job,
     view: BlockView<'_>,
@@ -352,7 +352,7 @@ fn follow_listed(
     }
 }
 
-/// Keeps the first tests of all classes that were followed.
+/// Keeps the first tests of all followed classes.
 fn conclude(span: Span, seen: u128, followed: &[Followed], hits: &mut [Option<u32>])
     requires span { span.first < 2 ^ 20 }
     requires places { (one : Followed) → Contains followed.now one → one.place < length hits.old }
@@ -366,7 +366,7 @@ fn conclude(span: Span, seen: u128, followed: &[Followed], hits: &mut [Option<u3
     }
 }
 
-/// Keeps what was found out of the class at a place.
+/// Keeps the result of the class at a place.
 fn keep(hits: &mut [Option<u32>], place: usize, hit: Option<u32>)
     requires { place < length hits.old }
     ensures { hits.new ≡ slice_set hits.old place hit }
@@ -374,7 +374,7 @@ fn keep(hits: &mut [Option<u32>], place: usize, hit: Option<u32>)
     hits[place] = hit;
 }
 
-/// The test of the least lane of a word that is 1.
+/// Returns the test of the least lane of a word that is 1.
 fn test_of(span: Span, word: u128) -> Option<u32>
     requires { span.first < 2 ^ 20 }
     ensures { IsTestOf span word result }
