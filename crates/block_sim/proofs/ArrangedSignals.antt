@@ -1,5 +1,5 @@
--- A circuit and the same with its statements in the order of their places: each signal has its place
--- there as its number.
+-- A circuit and the same with its statements in the order of their places: each signal has its
+-- place there as its number.
 use Rattle.std.proofs.Common.{◌≡◌, ◌<◌, ◌≤◌, ℕ, refl, sym, ◌∙◌, ap, subst, List, [], ◌∷◌}
 use Rattle.std.proofs.Common.{arith, inl, inr, length, ◌⊎◌}
 use Rattle.std.proofs.lemmas.Bool.{cases_order}
@@ -81,7 +81,8 @@ module _ (c d : List Statement) (well : IsWellFormed c) (arranged : IsArranged c
       → place c d (slice_index_or arranged.0 i 0) ≡ i
   at_order i lt =
       ap (λ x. place c x (slice_index_or arranged.0 i 0)) arranged.2
-      ∙ (in_signal_order c arranged.0 arranged.1.signals well).places i (slice_index_or arranged.0 i 0)
+      ∙ (in_signal_order c arranged.0 arranged.1.signals well).places i
+      (slice_index_or arranged.0 i 0)
       (slice_get-get_or arranged.0 i 0 lt)
 
   -- what stands before another there stands before it in the order
@@ -118,7 +119,8 @@ module _ (c d : List Statement) (well : IsWellFormed c) (arranged : IsArranged c
           (among r.args r.read r.reads)
 
       within : s < length (names d)
-      within = let lt = place_within (names d) (signal d r.read) r.read (name_of-signal d r.read at) in
+      within = let lt = place_within (names d) (signal d r.read) r.read
+          (name_of-signal d r.read at) in
           let of = r.of in omega (arith, lt, of)
 
       go : (s ≡ g) ⊎ ((s < g) ⊎ (g < s)) → s < g
@@ -152,7 +154,8 @@ module _ (c d : List Statement) (well : IsWellFormed c) (arranged : IsArranged c
           × ((slice_index_or (below (length (names d))) i k ≡ i)
           × (slice_index_or (below (length (names d))) j k ≡ j))
       numbers i j k less long =
-          let high : j < length (names d) = omega (arith, long, length-below (length (names d))) in (
+          let high : j < length (names d) =
+          omega (arith, long, length-below (length (names d))) in (
             high,
             (
               get_or-below (length (names d)) i k (omega (arith, less, high)),

@@ -1,5 +1,6 @@
 -- From one moment of a simulation by events to a later one.
-use Rattle.std.proofs.Common.{◌≡◌, ◌≢◌, ◌<◌, ◌≤◌, ◌⊎◌, ℕ, ◌+◌, refl, sym, ◌∙◌, ap, subst, true, List}
+use Rattle.std.proofs.Common.{◌≡◌, ◌≢◌, ◌<◌, ◌≤◌, ◌⊎◌, ℕ, ◌+◌, refl, sym, ◌∙◌, ap, subst, true}
+use Rattle.std.proofs.Common.{List}
 use Rattle.std.proofs.Common.{length, map, arith, set, inl, inr}
 use Rattle.std.specs.Prelude.{Some, None, slice_index_or, slice_set, bit_or, bit_xor, count_by}
 use Rattle.std.specs.Prelude.{◌==◌}
@@ -191,14 +192,16 @@ module _ (c : List Statement) (good : List ℕ) (lanes : ℕ) where
                 evaluated_changed c case.tests case.group case.fault good lanes
                 (λ s. s) case.start kept well
                 case.rising case.elsewhere
-                delta taken_at gate gate h taken refl in_taken in_delta kind pins is word valued diff
+                delta taken_at gate gate h taken refl in_taken in_delta kind pins is word valued
+                diff
                 new
                 differs a_lane in_kept changed scheduled_now;
             counted = λ case gates h all.
                 let less = ahead_changed c case.tests case.group case.fault good lanes
                 (λ s. s) case.start kept well
                 case.rising case.elsewhere
-                delta taken_at gate gate h taken refl in_taken in_delta kind pins is word valued diff
+                delta taken_at gate gate h taken refl in_taken in_delta kind pins is word valued
+                diff
                 new
                 differs a_lane in_kept changed scheduled_now gates all in
                 omega (arith, less, one);

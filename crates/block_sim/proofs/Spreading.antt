@@ -279,19 +279,20 @@ pub spreading_cleared : (c : List Statement) (tests : List Test) (group : ℕ) (
     → (mask ≡ 0) ⊎ ((g : ℕ) → slice_index_or at g 0 ≡ 0)
     → IsSpreading c tests group f good lanes lv start mask delta at level
     → IsSpreading c tests group f good lanes lv start mask delta idle level
-spreading_cleared c tests group f good lanes lv start mask delta at idle level clear stop h = record {
-  balanced = λ s k is_counted rest lt e. balanced s k is_counted lt e stop;
-  narrow = h.narrow;
-  not_below = λ t ne. absurd (ne (clear t));
-  live = λ t ne. absurd (ne (clear t));
-  touched = λ t ne. absurd (ne (clear t));
-  waits_clear = λ t ne. absurd (ne (clear t));
-  above_clear = h.above_clear;
-  after_start = h.after_start;
-  inside = h.inside;
-  some = h.some;
-  right = h.right;
-}
+spreading_cleared c tests group f good lanes lv start mask delta at idle level clear stop h =
+    record {
+      balanced = λ s k is_counted rest lt e. balanced s k is_counted lt e stop;
+      narrow = h.narrow;
+      not_below = λ t ne. absurd (ne (clear t));
+      live = λ t ne. absurd (ne (clear t));
+      touched = λ t ne. absurd (ne (clear t));
+      waits_clear = λ t ne. absurd (ne (clear t));
+      above_clear = h.above_clear;
+      after_start = h.after_start;
+      inside = h.inside;
+      some = h.some;
+      right = h.right;
+    }
   where
     balanced : (s k : ℕ) → Counts c lv start s → k < 128 → lane mask k ≡ true
         → (mask ≡ 0) ⊎ ((g : ℕ) → slice_index_or at g 0 ≡ 0)

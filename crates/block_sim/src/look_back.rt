@@ -3,7 +3,8 @@
 //! (transition faults by pairs of patterns: Waicukauski, Lindbloom, Rosen and Iyengar, Transition
 //! Fault Simulation). In a list of pairs it must be the launch test of the pair, too.
 
-ghost use Rattle.std.specs.Prelude.{◌≡◌, ◌↔◌, ◌+◌, ◌*◌, ◌<◌, All, Bool, Contains, List, ℕ, suc, Some};
+ghost use Rattle.std.specs.Prelude.{◌≡◌, ◌↔◌, ◌+◌, ◌*◌, ◌<◌, All, Bool, Contains, List, ℕ, suc};
+ghost use Rattle.std.specs.Prelude.{Some};
 ghost use Rattle.std.specs.Prelude.{[], length, slice_get, slice_index_or, map};
 ghost use Rattle.std.specs.Bool.{Decides};
 ghost use Rattle.bench_net.specs.Statement.{Name, Statement};

@@ -1,4 +1,5 @@
-//! Runs on the arguments of a process: files that can't be had, and an output that refuses its flush.
+//! Runs on the arguments of a process: files that can't be had, and an output that refuses its
+//! flush.
 
 use crate::checks::check;
 use crate::screen::Screen;

@@ -27,7 +27,8 @@ pub record AreCountsOf (m : Model) (c : List Statement) (counts : Counts) : Type
   pub classes : (classes : Collapsed) × AreClassesOf m c classes
       × (counts.classes ≡ length classes.representative)
 
--- tests and blocks are those of the tests, and each of so many classes makes a piece with each block
+-- tests and blocks are those of the tests, and each of so many classes makes a piece with each
+-- block
 pub record AreTestCountsOf (classes : ℕ) (list : TestList) (taken : TestCounts) : Type 0 where
   pub tests : taken.tests ≡ length list.tests
   pub blocks : taken.blocks ≡ blocks (length list.tests)

@@ -33,7 +33,8 @@ flag_is words p = go (split p (64 * length words))
   where
     go : (p < 64 * length words) ⊎ (64 * length words ≤ p)
         → slice_index_or (flags words) p 0 ≡ flag words p
-    go (inl lt) = get_or-map-range_with_len (flag words) 0 (64 * length words) p p 0 lt (omega arith)
+    go (inl lt) = get_or-map-range_with_len (flag words) 0 (64 * length words) p p 0 lt
+        (omega arith)
     go (inr le) =
         get_or_past (flags words) p 0 (let n = flags_count words in omega (arith, n, le))
         ∙ sym (flag_past words p (omega (arith, le)))

@@ -45,7 +45,8 @@ module _ (words summary : List ℕ) (all : ArePlaces words summary) where
         fits : (w : ℕ) → (w ≡ place / 64) ⊎ (w ≢ place / 64) → slice_index_or new_words w 0 < 2 ^ 64
         fits w (inl same) =
             let here = ap (λ x. slice_index_or new_words x 0) same
-            ∙ get_or-set_same words (place / 64) (with_bit words place bits in_words is) 0 in_words in
+            ∙ get_or-set_same words (place / 64) (with_bit words place bits in_words is) 0
+            in_words in
             let low = all.fits (place / 64) in
             let lt = or_lt 64 bits (1 * 2 ^ (place % 64) % 2 ^ 64) (omega (arith, low, is))
             (omega arith) in
@@ -85,7 +86,8 @@ module _ (words summary : List ℕ) (all : ArePlaces words summary) where
         let fits = all.fits w in omega (arith, here, fits)
 
     -- and some still
-    pub places_less : slice_index_or words at 0 ≢ 0 → left ≢ 0 → ArePlaces (set words at left) summary
+    pub places_less : slice_index_or words at 0 ≢ 0 → left ≢ 0
+        → ArePlaces (set words at left) summary
     places_less was some = record {
       room = let a = length-set words at left in omega (arith, a, all.room);
       few = let a = length-set words at left in omega (arith, a, all.few);
@@ -199,7 +201,8 @@ module _ (words summary : List ℕ) (all : ArePlaces words summary) (at bits : �
   rest_fits = let le = and_le_l bits (bit_not w64 (1 * 2 ^ bit % 2 ^ 64)) in omega (arith, le, fits)
 
   pub without_place : at < length words → flags (set words at rest) ≡ set (flags words) place 0
-  without_place lt = subst (λ b. flags (set words at (bit_and bits (bit_not w64 (1 * 2 ^ b % 2 ^ 64))))
+  without_place lt =
+      subst (λ b. flags (set words at (bit_and bits (bit_not w64 (1 * 2 ^ b % 2 ^ 64))))
       ≡ set (flags words) place 0) place_bit
       (subst (λ i. flags (set words i (bit_and bits (bit_not w64 (1 * 2 ^ (place % 64) % 2 ^ 64))))
       ≡ set (flags words) place 0) place_word

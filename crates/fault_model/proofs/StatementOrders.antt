@@ -352,7 +352,8 @@ source_level c s k source h =
     let same : h.1 ≡ source.0 = ap (λ o. unwrap_or o source.0) (sym h.3 ∙ source.1) in
     sym h.4 ∙ (ap h.0 same ∙ h.2.source source.0 source.2)
 
-by_number : (c : List Statement) (s t : ℕ) → GoesBefore c s t → IsSourceAt c s → IsSourceAt c t → s < t
+by_number : (c : List Statement) (s t : ℕ) → GoesBefore c s t → IsSourceAt c s → IsSourceAt c t
+    → s < t
 by_number c s t before one two = go before.4
   where
     go : (before.0 < before.1) ⊎ ((before.0 ≡ before.1) × (s < t)) → s < t

@@ -1,7 +1,8 @@
 -- A circuit whose statements stand in another order: the same signals by other numbers, and so the
 -- same faults on other lines.
 use Rattle.std.specs.Prelude.{◌≡◌, ◌↔◌, ◌<◌, ℕ, Bool, not, List, ◌++◌, map, filter, length}
-use Rattle.std.specs.Prelude.{AllPairs, Contains, IsPermutation, Option, Some, option_map, slice_get}
+use Rattle.std.specs.Prelude.{AllPairs, Contains, IsPermutation, Option, Some, option_map}
+use Rattle.std.specs.Prelude.{slice_get}
 use Rattle.std.specs.List.{filter_map}
 use Rattle.std.specs.Option.{option_map_or}
 use Rattle.bench_net.specs.declared.Kind.{Kind}

@@ -10,8 +10,8 @@ use crate::session::Session;
 use crate::status::{DONE, NO_JOB, RANGE};
 use std::alloc::Global;
 
-/// Tells how many tests detect each class of a list. No more than `most` are counted of a class. The
-/// lengths are equal.
+/// Tells how many tests detect each class of a list. No more than `most` are counted of a class.
+/// The lengths are equal.
 #[unsafe(no_mangle)]
 pub extern "C" fn fs_detections(
     alloc: Global,

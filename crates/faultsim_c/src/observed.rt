@@ -12,9 +12,9 @@ use bench_net::{Circuit, ScanCell};
 use block_sim::Job;
 use std::alloc::Global;
 
-/// Tells the signal of each observer, and in `wanted` how many observers there are: the OUTPUT lines
-/// in order, and then the data pins of the flip-flops, in the order of the DFF lines. If the array has
-/// less room than that, the status is 4, and `wanted` tells how much it takes.
+/// Tells the signal of each observer, and in `wanted` how many observers there are: the OUTPUT
+/// lines in order, and then the data pins of the flip-flops, in the order of the DFF lines. If the
+/// array has less room than that, the status is 4, and `wanted` tells how much it takes.
 #[unsafe(no_mangle)]
 pub extern "C" fn fs_observers_of(
     alloc: Global,

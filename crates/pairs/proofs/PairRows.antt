@@ -1,6 +1,8 @@
 -- The rows of the pairs of launch on capture.
-use Rattle.std.proofs.Common.{◌≡◌, ◌<◌, ◌≤◌, ◌+◌, ◌-◌, ◌*◌, ◌∙◌, ◌⊎◌, ℕ, zero, suc, Bool, List, [], ◌∷◌, ◌++◌}
-use Rattle.std.proofs.Common.{ap, arith, drop, get_or, length-drop, inl, inr, length, map, refl, sym, take}
+use Rattle.std.proofs.Common.{◌≡◌, ◌<◌, ◌≤◌, ◌+◌, ◌-◌, ◌*◌, ◌∙◌, ◌⊎◌, ℕ, zero, suc, Bool, List, []}
+use Rattle.std.proofs.Common.{◌∷◌, ◌++◌}
+use Rattle.std.proofs.Common.{ap, arith, drop, get_or, length-drop, inl, inr, length, map, refl}
+use Rattle.std.proofs.Common.{sym, take}
 use Rattle.std.specs.Prelude.{None, Some, slice_get, slice_index_or}
 use Rattle.std.specs.List.{enumerate_from}
 use Rattle.std.proofs.lemmas.Bool.{cases_lt}
@@ -174,6 +176,7 @@ are_launch_pairs c tests pairs shown held from held_is from_is answers rows = re
       (index_is tests t test [] at)
       ∙ (ap (λ x. take held test ++ drop from x) row
       ∙ (ap (λ k. take k test ++ drop from (map (shows None v) (observers c))) held_is
-      ∙ (ap (λ k. take (length (inputs c)) test ++ drop k (map (shows None v) (observers c))) from_is
+      ∙ (ap (λ k. take (length (inputs c)) test ++ drop k (map (shows None v) (observers c)))
+      from_is
       ∙ ap (λ x. take (length (inputs c)) test ++ x) (shown_behind c v)))));
 }

@@ -40,8 +40,8 @@ const RULE: &str = "region";
 ///
 /// It is refused as [`crate::simulate_text_in`] is, in the same order, but for the number of
 /// pieces: that of the whole has no limit, and the run is refused with
-/// [`workers::RunFault::TooManyPieces`] where the part has too many. The number of workers is looked
-/// at before the pieces.
+/// [`workers::RunFault::TooManyPieces`] where the part has too many. The number of workers is
+/// looked at before the pieces.
 pub fn part_text_in<R: Threads + Wait, W: Out>(
     rt: &R,
     alloc: Global,

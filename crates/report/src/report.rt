@@ -102,8 +102,8 @@ fn put_words<'a, W: Out>(
     put_pieces(&[kind, name, gap, place, defect], out)
 }
 
-/// Writes a fault of a list: its line, and what is wrong with it. Pins and OUTPUT lines count from 1
-/// in the text.
+/// Writes a fault of a list: its line, and what is wrong with it. Pins and OUTPUT lines count from
+/// 1 in the text.
 fn put_fault<W: Out>(
     circuit: &Circuit,
     list: &Faults,

@@ -35,7 +35,8 @@ pub fn simulate_text<R: Threads + Wait, W: Out>(
     list: bool,
     out: &mut W,
 ) -> Result<(), SimFault>
-    ensures written { WritesOneOf (IsReportOf model.StuckAt bench.now tests.now (contents_of list)) result
+    ensures written { WritesOneOf (IsReportOf model.StuckAt bench.now tests.now (contents_of list))
+        result
         (W.seen out.old) (W.seen out.new) }
     ensures refused { IfErr result (IsReportFault model.StuckAt bench.now tests.now workers) }
     ensures workers { OnOk result ((0 < workers) × (workers ≤ 64)) }
@@ -98,9 +99,9 @@ pub fn simulate_text_with<R: Threads + Wait, W: Out>(
 /// the same bytes. The classes of the faults are run in so many parts, each by one worker alone
 /// ([`workers::run_in_parts`]).
 ///
-/// It is refused as [`simulate_text_with`] is, but for the number of pieces: that of the whole has no
-/// limit, and the run is refused with [`RunFault::TooManyPieces`] where one part has too many. Here
-/// the number of workers is looked at before the pieces.
+/// It is refused as [`simulate_text_with`] is, but for the number of pieces: that of the whole has
+/// no limit, and the run is refused with [`RunFault::TooManyPieces`] where one part has too many.
+/// Here the number of workers is looked at before the pieces.
 pub fn simulate_text_in_parts<R: Threads + Wait, W: Out>(
     rt: &R,
     alloc: Global,
@@ -137,7 +138,8 @@ pub fn schedule_text<W: Out>(
     list: bool,
     out: &mut W,
 ) -> Result<(), SimFault>
-    ensures written { WritesOneOf (IsReportOf model.StuckAt bench.now tests.now (contents_of list)) result
+    ensures written { WritesOneOf (IsReportOf model.StuckAt bench.now tests.now (contents_of list))
+        result
         (W.seen out.old) (W.seen out.new) }
     ensures refused { IfErr result
         (IsScheduleTextFault model.StuckAt bench.now tests.now order.now workers) }

@@ -31,7 +31,8 @@ pub(crate) fn json_rows(
     requires list { list.now.list ≡ faults list.now.model circuit.now }
     requires count { length (column_in column.now).values ≡ length list.now.list }
     ensures { IfOk result (λ rows. rows.items
-        ≡ rows_text (json_object (column_in column.now).name) circuit.now (column_in column.now).lines
+        ≡ rows_text (json_object (column_in column.now).name) circuit.now
+        (column_in column.now).lines
         (zip list.now.list (column_in column.now).values)) }
 {
     let mut rows = Vec::new(alloc);

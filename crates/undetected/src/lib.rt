@@ -1,9 +1,9 @@
 //! Why no test of a list detects a fault.
 //!
-//! To detect a fault a test has to activate it, that is to give its line the complement of the stuck
-//! bit, and to carry the difference along some path to an observer, where it is observed (Bushnell
-//! and Agrawal, Essentials of Electronic Testing, the chapter on combinational test generation).
-//! [`reasons`] says for each fault that no test detects which of these is missing.
+//! To detect a fault a test has to activate it, that is to give its line the complement of the
+//! stuck bit, and to carry the difference along some path to an observer, where it is observed
+//! (Bushnell and Agrawal, Essentials of Electronic Testing, the chapter on combinational test
+//! generation). [`reasons`] says for each fault that no test detects which of these is missing.
 #![tactic(auto)]
 
 mod finding;

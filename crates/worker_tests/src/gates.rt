@@ -214,8 +214,8 @@ impl Gate for ShutForWorker {
     }
 }
 
-/// A gate that holds the worker that comes first until the other one has asked so often. It gives up
-/// as a meeting does.
+/// A gate that holds the worker that comes first until the other one has asked so often. It gives
+/// up as a meeting does.
 #[derive(Drop)]
 pub(crate) struct Holding<'a, C> {
     clock: &'a C,

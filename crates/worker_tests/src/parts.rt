@@ -132,8 +132,8 @@ fn are_by_stem(job: &Job) -> bool {
 }
 
 /// The gate that is shut for one piece, which is the last of its part for each number of parts, so
-/// that all others are settled. The class is that of G23 sa1, the last of the region that is visited
-/// last: G22 and what it reads go before G23.
+/// that all others are settled. The class is that of G23 sa1, the last of the region that is
+/// visited last: G22 and what it reads go before G23.
 static LAST: ShutFor = ShutFor {
     class: 21,
     block: 0,

@@ -57,7 +57,8 @@ fn is_run_by_holding<R: Threads + Wait + Clock + Sync>(
 }
 
 /// A run of two workers, of which worker 0 is stopped at once. It keeps its part, if it claims one
-/// before worker 1 has claimed all; then that part's lowest class is named, which waits for block 0.
+/// before worker 1 has claimed all; then that part's lowest class is named, which waits for block
+/// 0.
 fn leaves_the_seat<R: Threads + Wait>(rt: &R, alloc: Global, job: &Job) -> Result<bool, RunFault> {
     match run_in_parts(rt, alloc, job, PARTS, 2, &ShutForWorker { worker: 0 }) {
         Ok(verdicts) => Ok(has_firsts(&verdicts, &C17_FIRSTS)),

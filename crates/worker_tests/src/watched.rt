@@ -97,8 +97,9 @@ fn told_of<R: Threads + Wait>(rt: &R, alloc: Global, job: &Job, workers: u32) ->
     record.told()
 }
 
-/// Whether the gate of a run is told once that it begins, with 22 classes on 2 blocks, and once that
-/// it ends, when workers have passed; and that of a run that is refused is told that it begins alone.
+/// Whether the gate of a run is told once that it begins, with 22 classes on 2 blocks, and once
+/// that it ends, when workers have passed; and that of a run that is refused is told that it begins
+/// alone.
 fn is_told_of_c17<R: Threads + Wait>(rt: &R, alloc: Global) -> Result<bool, SimFault> {
     let job = job_of(alloc, &TWO_BLOCKS)?;
     let done = Told {

@@ -453,7 +453,8 @@ verdict_there job classes firsts found table b all by is i class first at v =
         let same : x.1 ≡ first = ap first_in (sym own) ∙ e in
         (x.0, x.3, x.4 ∙ ap Some same)
     go e (inr x) =
-        let lt : class < length job.classes.representative = class_in job (shape_for job 1) i class b
+        let lt : class < length job.classes.representative = class_in job (shape_for job 1) i class
+        b
         (record { classes = refl; tests = refl }) at in
         let y = all.all class lt tt in
         absurd (x.0 y.0 (slice_get_within classes y.0 class y.1) y.1)

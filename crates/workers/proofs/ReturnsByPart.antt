@@ -46,7 +46,8 @@ set_place (z ∷ xs) (suc i) (suc k) x y e = go (set_place xs i k x y e)
     go (inr h) = inr h
 
 -- a place that is set is not empty
-set_full : (xs : List (Option Done)) (i : ℕ) (d : Done) → slice_get (set xs i (Some d)) i ≢ Some None
+set_full : (xs : List (Option Done)) (i : ℕ) (d : Done) → slice_get (set xs i (Some d)) i
+    ≢ Some None
 set_full [] i d e = let bad : None ≡ Some None = e in absurd (cc)
 set_full (z ∷ xs) zero d e = let bad : Some (Some d) ≡ Some None = e in absurd (cc)
 set_full (z ∷ xs) (suc i) d e = set_full xs i d e
@@ -175,7 +176,8 @@ given_more {Z} parts back given was table before put =
     all thread own k done (inl x) there e =
         before.all thread own k done x there (put.stays done.part e)
     all thread own k done (inr x) there e =
-        put.all k done (subst (λ (v : Vec Done Z). slice_get v.items k ≡ Some done) (sym x.1) there) e
+        put.all k done (subst (λ (v : Vec Done Z). slice_get v.items k ≡ Some done) (sym x.1) there)
+        e
 
 -- ---- seats, and what their workers found
 

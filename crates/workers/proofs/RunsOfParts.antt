@@ -14,7 +14,8 @@ use Rattle.workers.specs.declared.alone.Waiting.{Waiting}
 use Rattle.workers.specs.declared.taken.Done.{Done}
 use Rattle.workers.specs.Alone.{AreAllFound, AreAllLowest, AreAllStopped, AreFoundByPart}
 use Rattle.workers.specs.Alone.{AreFoundUpTo, AreRunsOf, AreWhole, HasEnded, HasPassed, HasRunSo}
-use Rattle.workers.specs.Alone.{IsDone, IsFoundAt, IsLowerOf, IsLowest, IsLowestAt, IsLowestIn, IsOpenIn}
+use Rattle.workers.specs.Alone.{IsDone, IsFoundAt, IsLowerOf, IsLowest, IsLowestAt, IsLowestIn}
+use Rattle.workers.specs.Alone.{IsOpenIn}
 use Rattle.workers.specs.Alone.{IsStopAt, IsWholeAt, PartRun, StretchesWaitFor, WaitsIn, at_first}
 use Rattle.workers.specs.Alone.{run_at, runs_from, unbegun_run}
 use Rattle.workers.specs.Part.{stretch}
@@ -34,7 +35,8 @@ firsts_found job classes firsts b found = record {
   count = found.count;
   first = λ k class f first ec of ef.
       let table = true_table job.list.model job.circuit job.tests.tests b.circuit.well_formed in
-      let least_is = found.each table.0 table.1 k class (blocks (length job.tests.tests)) first ec ef
+      let least_is = found.each table.0 table.1 k class (blocks (length job.tests.tests)) first ec
+      ef
       (done_high 0 (blocks (length job.tests.tests)) k (omega arith)) in
       subst (IsFirst job.circuit job.tests.tests f) (sym least_is)
       (least_is_first job.list.model job.circuit job.tests.tests table.0 b.circuit.well_formed
@@ -164,7 +166,8 @@ passed_there job classes worker S None firsts e = e.1
 passed_there job classes worker S (Some stop) firsts e = e.2
 
 -- one that was not has found the first tests
-pub not_stopped_found : (job : Parts) (classes : List ℕ) (worker : ℕ) (S : Stops) (stop : Option Stop)
+pub not_stopped_found : (job : Parts) (classes : List ℕ) (worker : ℕ) (S : Stops)
+    (stop : Option Stop)
     (firsts : List (Option ℕ)) → BelongTogether job → HasEnded job classes worker S stop firsts
     → stop ≡ None → AreClassFirsts job.list.model job.circuit job.tests.tests classes firsts
 not_stopped_found job classes worker S None firsts b e is = firsts_found job classes firsts b e.0
@@ -337,9 +340,11 @@ module _ (job : Parts) (size : ℕ) (classes : List ℕ) (workers : ℕ) (P : Ty
           (run_at (stretch size classes part) place).stop class block → ⊥
       go part (Some done) at still_open =
           let f = found.each part done at in
-          subst (λ s. IsOpenIn job (stretch size classes part) s class block) (f.2.passed p) still_open
+          subst (λ s. IsOpenIn job (stretch size classes part) s class block) (f.2.passed p)
+          still_open
       go part None at still_open =
-          (found.none part at (unbegun_open job (stretch size classes part) class block still_open)).0 p
+          (found.none part at (unbegun_open job (stretch size classes part) class block
+          still_open)).0 p
 
   -- the lowest class that waits
   pub stretches_wait : (parts class block : ℕ) → IsCutOf job parts size classes

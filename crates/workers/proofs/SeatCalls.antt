@@ -371,9 +371,11 @@ stopped_holding stops a b class block m s =
     subst (λ (x : Sitter). IsStopped x.place.shape stops x.worker b.seen) (sym m.seat) (
       piece_at a.place.shape class block,
       ap (λ (x : Sitter). held_by x.worker b.seen) (sym m.seat) ∙ g.0,
-      subst (λ k. stops.may a.worker k (block_of a.place.shape (piece_at a.place.shape class block)))
+      subst (λ k. stops.may a.worker k (block_of a.place.shape
+          (piece_at a.place.shape class block)))
           (sym (class_of-at a.place.shape class block g.1))
-          (subst (λ k. stops.may a.worker class k) (sym (block_of-at a.place.shape class block g.1)) s),
+          (subst (λ k. stops.may a.worker class k) (sym (block_of-at a.place.shape class block g.1))
+          s),
     )
 
 -- what stays settled

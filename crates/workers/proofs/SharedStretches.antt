@@ -213,8 +213,10 @@ pub filled_max : (job : Parts) (parts size : ℕ) (classes : List ℕ) → Belon
 filled_max job parts size classes b cut =
     let few = ceil_le (length classes) (max size 1) in
     let reps = class_count job b in
-    let own = count_by-le-length (λ f. is_none (next job.circuit f)) (faults job.list.model job.circuit) in
-    let kept = length-filter (λ f. is_none (next job.circuit f)) (faults job.list.model job.circuit) in
+    let own = count_by-le-length (λ f. is_none (next job.circuit f))
+    (faults job.list.model job.circuit) in
+    let kept = length-filter (λ f. is_none (next job.circuit f))
+    (faults job.list.model job.circuit) in
     let all = faults_within job.list.model job.circuit b.circuit in
     let low : 2 * (max_signals + max_sinks) ≤ max_pieces = omega arith in
     omega (arith, few, cut.few, reps, own, kept, all, low)
@@ -604,6 +606,7 @@ pub stretches_under : (job : Parts) (count parts size : ℕ) (cut classes : List
     → cut ≡ classes → AreOfStretches job size cut workers firsts closed
     → AreOfStretches job (stretch_size (length classes) parts) classes workers firsts closed
 stretches_under job count parts size cut classes workers firsts closed is e f of =
-    subst (λ n. AreOfStretches job (stretch_size (length classes) n) classes workers firsts closed) e
+    subst (λ n. AreOfStretches job (stretch_size (length classes) n) classes workers firsts closed)
+    e
     (subst (λ l. AreOfStretches job (stretch_size (length l) count) l workers firsts closed) f
     (subst (λ n. AreOfStretches job n cut workers firsts closed) is.size_is of))

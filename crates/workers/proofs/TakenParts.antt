@@ -77,7 +77,8 @@ served_along {E} r r' j j' u u' p p' w w' P P' S S' er ej eu ep ew q t v is =
         ej
         (subst (λ (x : Cut). HasServed j x.size x.classes.items p' w' P' S' served.seat
         served.dones.items) eu
-        (subst (λ x. HasServed j u.size u.classes.items x w' P' S' served.seat served.dones.items) ep
+        (subst (λ x. HasServed j u.size u.classes.items x w' P' S' served.seat served.dones.items)
+        ep
         (subst (λ x. HasServed j u.size u.classes.items p x P' S' served.seat served.dones.items) ew
         (record {
           place_is = h.place_is;

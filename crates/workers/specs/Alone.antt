@@ -185,8 +185,8 @@ AreAllStopped job size classes workers stops runs = (w : ℕ) → w < workers
     → 0 < length (stretch size classes w) → IsStoppedAmong job stops runs w
 
 -- How a run of a stretch ended: one of the workers ran it, it was stopped only where the gate may
--- stop the worker, and it passed no piece where the gate surely does. Or no worker began it: then it
--- has no class, or the gate stopped each worker in one of the runs.
+-- stop the worker, and it passed no piece where the gate surely does. Or no worker began it: then
+-- it has no class, or the gate stopped each worker in one of the runs.
 abbrev pub HasRunSo : Parts → ℕ → List ℕ → ℕ → Stops → List PartRun → PartRun → Option ℕ → Type 0
 HasRunSo job size classes workers stops runs run (Some w) = (w < workers)
     × ((stop : Stop) → run.stop ≡ Some stop → IsStopAt job run.classes w stops stop)

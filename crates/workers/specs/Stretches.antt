@@ -9,7 +9,8 @@ use Rattle.fault_ledger.specs.declared.Shape.{Shape}
 use Rattle.fault_ledger.specs.declared.PieceState.TheVariants.{Clear}
 use Rattle.fault_ledger.specs.declared.Finish.TheVariants.{Finished}
 use Rattle.fault_ledger.specs.declared.Reply.TheVariants as reply
-use Rattle.fault_ledger.specs.History.{History, ContinuesWithout, claims, entry, held_by, piece_count}
+use Rattle.fault_ledger.specs.History.{History, ContinuesWithout, claims, entry, held_by}
+use Rattle.fault_ledger.specs.History.{piece_count}
 use Rattle.fault_ledger.specs.Answer.{IsLegal}
 use Rattle.fault_ledger.specs.Settled.{finish}
 use Rattle.fault_ledger.specs.Seats.{ClosedFace, Makes, Place, Sitter, closed_face}
@@ -121,8 +122,8 @@ pub record AreApart {E Z : Type 0} (back : List (Result Served E)) (seats : List
       → (served : Served) × (slice_get back k ≡ Some (Ok served)) × (seat ≡ served.seat)
       × (own.items ≡ served.dones.items)
 
--- What workers found at a ledger of stretches that is closed: a legal history that it shows accounts
--- for all of it.
+-- What workers found at a ledger of stretches that is closed: a legal history that it shows
+-- accounts for all of it.
 pub record AreShared {Z : Type 0} (job : Parts) (size : ℕ) (classes : List ℕ) (shape : Shape)
     (passing : Type 0) (stops : Stops) (dones : List (Vec Done Z))
     (closed : ClosedFace) : Type 0 where
@@ -166,8 +167,8 @@ pub record IsOfStretches (job : Parts) (parts workers : ℕ) (v : VerdictList)
       → slice_get v.firsts i ≡ Some first
       → (k : ℕ) × (slice_get classes k ≡ Some class) × (slice_get firsts k ≡ Some first)
 
--- The verdicts of a part were found stretch by stretch of its classes, which are cut into as many as
--- serve the workers: that on a fault of one of these is one that was found of its class.
+-- The verdicts of a part were found stretch by stretch of its classes, which are cut into as many
+-- as serve the workers: that on a fault of one of these is one that was found of its class.
 pub record IsPartOfStretches (job : Parts) (parts part workers : ℕ)
     (verdicts : List PartVerdict) (closed : ClosedFace) : Type 0 where
   pub classes : List ℕ

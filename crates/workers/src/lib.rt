@@ -9,9 +9,9 @@
 //! [`run_schedule`] is a run of one thread, which makes the moves of all workers in an order that
 //! its caller gives. [`run`] lets each worker work in a thread of its own, and [`work`] is the
 //! work of one.
-//! [`run_in_parts`] cuts the classes into parts, each of which one worker runs alone. A ledger hands
-//! out the parts. [`run_open`] does so with as many parts as serve the workers, and [`run_part`] with
-//! the classes of one part of a run that several machines share.
+//! [`run_in_parts`] cuts the classes into parts, each of which one worker runs alone. A ledger
+//! hands out the parts. [`run_open`] does so with as many parts as serve the workers, and
+//! [`run_part`] with the classes of one part of a run that several machines share.
 #![tactic(auto)]
 
 mod alone;

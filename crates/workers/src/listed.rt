@@ -21,8 +21,8 @@ use std::marker::Model;
 /// shares nothing: several threads have one each.
 ///
 /// It keeps room for the simulation of regions, and an order of all classes in which those of one
-/// region stand next to each other. Both depend on the circuit and the classes of the job, and not on
-/// its tests.
+/// region stand next to each other. Both depend on the circuit and the classes of the job, and not
+/// on its tests.
 #[derive(Drop)]
 pub struct ListRunner {
     simulation: RegionSimulation,

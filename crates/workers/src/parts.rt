@@ -437,8 +437,8 @@ fn close_over(
     }
 }
 
-/// A new shared ledger of so many stretches, and the seats of its workers. A job has no more classes
-/// than a ledger takes pieces, so it is refused for want of memory alone.
+/// A new shared ledger of so many stretches, and the seats of its workers. A job has no more
+/// classes than a ledger takes pieces, so it is refused for want of memory alone.
 fn ledger_of(
     alloc: Global,
     stretches: u32,

@@ -30,9 +30,9 @@ pub(crate) fn stretches_for(classes: u32, workers: u32) -> u32
     }
 }
 
-/// The number of parts in which so many workers run a job if the caller names none: one part for one
-/// worker, and else some times more parts than workers. So each worker gets a thread of its own, if
-/// there are as many classes.
+/// The number of parts in which so many workers run a job if the caller names none: one part for
+/// one worker, and else some times more parts than workers. So each worker gets a thread of its
+/// own, if there are as many classes.
 pub fn parts_for(job: &Job, workers: u32) -> u32
     ensures count { result ≡ parts_for job.now workers }
     ensures some { 0 < result }

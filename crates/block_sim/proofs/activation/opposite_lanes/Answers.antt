@@ -1,4 +1,5 @@
-use Rattle.std.proofs.Common.{◌≡◌, ◌<◌, ◌^◌, ◌∙◌, ℕ, Bool, ap, arith, inl, inr, not, subst, sym, refl, true, false}
+use Rattle.std.proofs.Common.{◌≡◌, ◌<◌, ◌^◌, ◌∙◌, ℕ, Bool, ap, arith, inl, inr, not, subst, sym}
+use Rattle.std.proofs.Common.{refl, true, false}
 use Rattle.std.specs.Prelude.{◌↔◌, slice_index_or}
 use Rattle.std.specs.Bool.{Decides}
 use Rattle.std.specs.Int.{bit_not, w128}

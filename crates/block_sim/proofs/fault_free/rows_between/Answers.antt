@@ -43,7 +43,8 @@ loop-group-preserved c =
       rows = subst (AreRowsFrom c.args.circuit.now.arranged c.args.tests.now.tests c.args.first)
           (sym pushed)
           (rows_more c.args.circuit.now.arranged c.args.tests.now.tests c.args.first before words
-          c.loop-group.group c.loop-group.invariant.count (omega (arith, c.loop-group-test.true, c.requires.end))
+          c.loop-group.group c.loop-group.invariant.count
+          (omega (arith, c.loop-group-test.true, c.requires.end))
           c.loop-group.invariant.rows room
           c.evaluate.ensures.words);
     }

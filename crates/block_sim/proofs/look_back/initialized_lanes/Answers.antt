@@ -84,4 +84,5 @@ returns c = λ f k starts lt listed.
           inr (omega (arith, some), w.earlier-is)
     ]) in
     subst (λ b. Decides (lane (bit_and c.if-stuck.fits c.if-group-eq0.earlier) k)
-    (IsInitialized circuit job.tests.tests f.line b (128 * c.args.group + k))) (ap (λ (x : Fault). x.stuck) starts.is) all
+    (IsInitialized circuit job.tests.tests f.line b (128 * c.args.group + k)))
+    (ap (λ (x : Fault). x.stuck) starts.is) all

@@ -13,14 +13,16 @@ returns-in-StuckAt c = λ f k starts lt listed.
     subst (λ m. Decides (lane 340282366920938463463374607431768211455 k)
     (LooksBack c.args.job.now.circuit c.args.job.now.tests.tests m f.line
     f.stuck (128 * c.args.group + k)))
-    (sym (sym (ap (λ (x : Fault). x.model) starts.is) ∙ c.in-StuckAt.is)) (λ h. tt, λ h. lane_ones 128 k lt)
+    (sym (sym (ap (λ (x : Fault). x.model) starts.is) ∙ c.in-StuckAt.is))
+    (λ h. tt, λ h. lane_ones 128 k lt)
 
 pub returns-in-Transition : goal.returns-in-Transition
 returns-in-Transition c = λ f k starts lt listed.
     subst (λ m. Decides (lane c.initialized_lanes.result k)
     (LooksBack c.args.job.now.circuit c.args.job.now.tests.tests m f.line
     f.stuck (128 * c.args.group + k)))
-    (sym (sym (ap (λ (x : Fault). x.model) starts.is) ∙ c.in-Transition.is)) (c.initialized_lanes.ensures f k starts lt listed)
+    (sym (sym (ap (λ (x : Fault). x.model) starts.is) ∙ c.in-Transition.is))
+    (c.initialized_lanes.ensures f k starts lt listed)
 
 pub returns-in-TransitionPairs : goal.returns-in-TransitionPairs
 returns-in-TransitionPairs c = λ f k starts lt listed.

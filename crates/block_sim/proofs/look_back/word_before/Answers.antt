@@ -30,9 +30,11 @@ returns c = λ circuit tests k t l n bit well free lt e at named is.
 pub bounds-of-place : goal.bounds-of-place
 bounds-of-place c =
     let rows = map (λ row. row.items) c.args.words.rows.now in
-    each_row (λ row. c.args.place < length row) rows (c.args.group - 1) c.of.result.now c.requires.signal c.of.ensures
+    each_row (λ row. c.args.place < length row) rows (c.args.group - 1) c.of.result.now
+    c.requires.signal c.of.ensures
 
 pub bounds-of-place-2 : goal.bounds-of-place-2
 bounds-of-place-2 c =
     let rows = map (λ row. row.items) c.args.words.rows.now in
-    each_row (λ row. c.args.place < length row) rows c.args.group c.of-2.result.now c.requires.signal c.of-2.ensures
+    each_row (λ row. c.args.place < length row) rows c.args.group c.of-2.result.now
+    c.requires.signal c.of-2.ensures

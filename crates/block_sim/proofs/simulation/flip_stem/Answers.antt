@@ -25,7 +25,8 @@ flip-requires-clause-view c =
     let arranged = c.words-words.ensures.arranged in
     record {
       circuit = circuit_there circuit there whole arranged;
-      count = (c.words-words.ensures.fault_free (group_of c.args.span) c.of.result.now c.of.ensures).0;
+      count = (c.words-words.ensures.fault_free (group_of c.args.span) c.of.result.now
+          c.of.ensures).0;
     }
 
 pub flip-requires-clause-room : goal.flip-requires-clause-room
@@ -41,7 +42,8 @@ returns-clause-told c = λ one at.
     let well = c.words-words.ensures.together.circuit.well_formed in
     let tests = c.args.job.now.tests.tests in
     let group = group_of c.args.span in
-    let words = (c.words-words.ensures.fault_free (group_of c.args.span) c.of.result.now c.of.ensures).1 in
+    let words =
+    (c.words-words.ensures.fault_free (group_of c.args.span) c.of.result.now c.of.ensures).1 in
     let stem : c.place_of.result ≡ place circuit there c.args.stem = c.place_of.ensures.place
     ∙ ap (λ x. place x there c.args.stem) c.words-words.ensures.part in
     ((same_flips circuit there well
@@ -58,7 +60,8 @@ returns-clause-counted c = λ gates active.
     let well = c.words-words.ensures.together.circuit.well_formed in
     let tests = job.tests.tests in
     let span = c.args.span in
-    let words = (c.words-words.ensures.fault_free (group_of c.args.span) c.of.result.now c.of.ensures).1 in
+    let words =
+    (c.words-words.ensures.fault_free (group_of c.args.span) c.of.result.now c.of.ensures).1 in
     let stem : c.place_of.result ≡ place circuit there c.args.stem = c.place_of.ensures.place
     ∙ ap (λ x. place x there c.args.stem) c.words-words.ensures.part in
     let moved = (same_active circuit there well

@@ -34,7 +34,8 @@ follow-requires-clause-view c =
     let arranged = c.words-words.ensures.arranged in
     record {
       circuit = circuit_there circuit there whole arranged;
-      count = (c.words-words.ensures.fault_free (group_of c.args.span) c.of.result.now c.of.ensures).0;
+      count = (c.words-words.ensures.fault_free (group_of c.args.span) c.of.result.now
+          c.of.ensures).0;
     }
 
 pub follow-requires-clause-listed : goal.follow-requires-clause-listed

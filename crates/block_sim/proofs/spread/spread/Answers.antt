@@ -10,7 +10,8 @@ use Rattle.block_sim.specs.Spreading.{IsFirstChange, IsSettled}
 use Rattle.block_sim.proofs.EndOfSpread.{shown_unchanged}
 use Rattle.block_sim.proofs.GatesAhead.{count_at_most}
 use Rattle.block_sim.proofs.Moments.{large_none, leads_none, leads_on}
-use Rattle.block_sim.proofs.Moments.{leads_cleared, leads_higher, leads_taken, place_within, taken_behind}
+use Rattle.block_sim.proofs.Moments.{leads_cleared, leads_higher, leads_taken, place_within}
+use Rattle.block_sim.proofs.Moments.{taken_behind}
 use Rattle.block_sim.proofs.Moments.{taken_now}
 use Rattle.block_sim.proofs.WholeSpreads.{HasEnded, begins, has_ended}
 use Rattle.block_sim.proofs.spread.spread.Goals as goal

@@ -9,7 +9,8 @@ use Rattle.compaction.specs.Marks.{AreFinding, AreLast}
 use Rattle.compaction.proofs.KeptTests.{are_last, refused_alike}
 use Rattle.compaction.proofs.passes.last_tests.Goals as goal
 
-pub set_tests_of_any_size_in_threads-requires-clause-width : goal.set_tests_of_any_size_in_threads-requires-clause-width
+pub set_tests_of_any_size_in_threads-requires-clause-width :
+    goal.set_tests_of_any_size_in_threads-requires-clause-width
 set_tests_of_any_size_in_threads-requires-clause-width g c = c.in_ok-turned.ensures.width
     ∙ (c.requires.width ∙ c.requires.job.width)
 

@@ -34,7 +34,8 @@ returns-else-place-outputs-clause-signal c =
 
 pub returns-else-place-outputs-clause-within : goal.returns-else-place-outputs-clause-within
 returns-else-place-outputs-clause-within c =
-    let is = observed_cell c.args.circuit.now c.outputs-outputs.result.now c.scan_cells-cells.result.now
+    let is = observed_cell c.args.circuit.now c.outputs-outputs.result.now
+    c.scan_cells-cells.result.now
     c.outputs-outputs.ensures c.scan_cells-cells.ensures c.args.place c.cell_at.result
     (omega (arith, c.if-place-outputs.false)) c.cell_at.ensures in
     subst (λ s. s < length (names c.args.circuit.now)) (sym is)

@@ -29,5 +29,6 @@ returns-in_err-new_in_threads-clause-refused g c =
     let is = job_is c.args.model c.args.circuit c.in_ok-faults.faults c.in_ok-classes.classes
     c.args.tests
     c.in_ok-faults.ensures c.in_ok-classes.ensures.classes c.requires in
-    rw (p.1, p.2) (elim (job_refused Parts (max_pieces < piece_count job) c.in_err-new_in_threads.field-0.0
+    rw (p.1, p.2) (elim (job_refused Parts (max_pieces < piece_count job)
+    c.in_err-new_in_threads.field-0.0
     c.in_err-new_in_threads.ensures.too_many) [ inl h ↦ inl h | inr h ↦ inr (job, is, h) ])

@@ -10,7 +10,8 @@ returns-clause-job g c =
     IfOk-weaker c.job_for_in_threads.result (IsJobFor c.args.model circuit tests)
     (IsJobOf c.args.model c.args.bench.now c.args.tests.now)
     (λ job is. job_of_texts c.args.model c.args.bench.now c.args.tests.now circuit tests job
-    c.in_ok-circuit.ensures.circuit c.in_ok-circuit.ensures.tests is) c.job_for_in_threads.ensures.job
+    c.in_ok-circuit.ensures.circuit c.in_ok-circuit.ensures.tests is)
+    c.job_for_in_threads.ensures.job
 
 pub returns-clause-refused : goal.returns-clause-refused
 returns-clause-refused g c =
@@ -19,4 +20,5 @@ returns-clause-refused g c =
     IfErr-weaker c.job_for_in_threads.result (IsPiecesFault c.args.model circuit tests)
     (IsJobFault c.args.model c.args.bench.now c.args.tests.now)
     (pieces_fault c.args.model c.args.bench.now c.args.tests.now circuit tests
-    c.in_ok-circuit.ensures.circuit c.in_ok-circuit.ensures.tests) c.job_for_in_threads.ensures.refused
+    c.in_ok-circuit.ensures.circuit c.in_ok-circuit.ensures.tests)
+    c.job_for_in_threads.ensures.refused

@@ -5,7 +5,8 @@ use Rattle.report.proofs.reasoned.write_reasons.Goals as goal
 pub returns-in_err-put_reasons : goal.returns-in_err-put_reasons
 returns-in_err-put_reasons g c =
     let p = err_from_is_err_and c.from_residual.result c.from_residual.ensures.1 in
-    let wrote = rw (c.circuit.ensures.part, c.faults.ensures.part) at c.in_err-put_reasons.ensures in
+    let wrote = rw (c.circuit.ensures.part, c.faults.ensures.part) at
+    c.in_err-put_reasons.ensures in
     rw (p.1) (stopped_before _ _ _ _ wrote)
 
 pub returns-in_err-write_report_with : goal.returns-in_err-write_report_with

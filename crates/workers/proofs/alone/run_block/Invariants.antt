@@ -12,7 +12,8 @@ invariant-loop-place g l = record {
   next : AreNextOpen l.firsts l.next;
   between : AreSettled l.firsts (l.before + 1) l.place;
   known : AreFoundUpTo l.job (classes_of l.rows) l.place l.turn.block l.firsts;
-  passed : ArePassed l.job (classes_of l.rows) l.worker (g.G.Gate.stops l.gate) l.place l.turn.block;
+  passed : ArePassed l.job (classes_of l.rows) l.worker (g.G.Gate.stops l.gate) l.place
+      l.turn.block;
   whole : IsWhole l.job l.rows l.turn l.found;
   ahead : AreAhead l.job l.rows l.firsts l.turn l.place l.found l.simulation.hits;
   behind : AreBehind l.job l.rows l.firsts l.turn l.place l.simulation.hits;

@@ -26,7 +26,8 @@ run_list-stop-requires-clause-none c =
 
 pub run_list-stop-requires-clause-next : goal.run_list-stop-requires-clause-next
 run_list-stop-requires-clause-next c =
-    subst (λ l. AreNextOpen l c.as_mut_slice-next.result.now) (sym c.as_mut_slice-found.ensures.value)
+    subst (λ l. AreNextOpen l c.as_mut_slice-next.result.now)
+    (sym c.as_mut_slice-found.ensures.value)
     (subst (AreNextOpen c.in_ok-firsts.firsts.items) (sym c.as_mut_slice-next.ensures.value)
     (subst (λ l. AreNextOpen l c.in_ok-open.open.items) c.as_slice.ensures.value
     c.in_ok-open.ensures))

@@ -72,7 +72,8 @@ unreachable-requires g c =
     let bad = sym c.in-Waiting.is ∙ end ∙ finished in
     absurd (cc)
 
-pub returns-in_ok-firsts-in-Finished-clause-stretches : goal.returns-in_ok-firsts-in-Finished-clause-stretches
+pub returns-in_ok-firsts-in-Finished-clause-stretches :
+    goal.returns-in_ok-firsts-in-Finished-clause-stretches
 returns-in_ok-firsts-in-Finished-clause-stretches g c =
     let job = c.args.job.now in
     let parts = c.args.cut.now.parts in

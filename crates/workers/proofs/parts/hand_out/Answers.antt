@@ -31,7 +31,8 @@ returns-clause-shared g c =
     ) in
     shared_at c.args.job.now c.args.cut.now.size c.args.cut.now.classes.items
     c.in_ok-ledger.ledger.shape c.filled-stretches.result c.max-crew.result c.args.workers P S
-    c.in_ok-handed.handed.dones.items c.in_ok-handed.handed.ledger c.in_ok-ledger.ensures.ledger c.filled-stretches.ensures.count crew
+    c.in_ok-handed.handed.dones.items c.in_ok-handed.handed.ledger c.in_ok-ledger.ensures.ledger
+    c.filled-stretches.ensures.count crew
     (shared c.args.job.now c.args.cut.now.size c.args.cut.now.classes.items c.in_ok-ledger.ledger P
     S c.in_ok-back.back.items x.0 c.in_ok-handed.handed.dones.items c.in_ok-handed.handed.ledger
     c.in_ok-back.ensures.served x.1 x.2)

@@ -42,7 +42,8 @@ loop-place-preserved-in-Some-place c =
       order = append_assoc yielded (place ∷ []) rest
           ∙ ap (λ l. yielded ++ l) (sym step.0) ∙ was.order;
       left = omega (arith, count, was.left, step.1);
-      found = subst (λ n. FirstsUpTo job classes (n * size) c.extend_from_slice.new.self.items) count
+      found = subst (λ n. FirstsUpTo job classes (n * size) c.extend_from_slice.new.self.items)
+          count
           (subst (FirstsUpTo job classes ((length yielded + 1) * size))
           (sym (c.in_ok-extend_from_slice-in-Some-place.ensures.items
           ∙ ap (λ l. c.loop-place.firsts.items ++ l) c.as_slice.ensures.value))
@@ -71,7 +72,8 @@ loop-place-preserved c =
           ∙ ap (λ l. yielded ++ l) (sym step.0) ∙ was.order;
       left = omega (arith, count, was.left, step.1);
       found = subst (λ n. FirstsUpTo job classes (n * size) c.loop-place.firsts.items) count
-          (firsts_skipped job size classes (length yielded) c.loop-place.firsts.items own was.found);
+          (firsts_skipped job size classes (length yielded) c.loop-place.firsts.items own
+          was.found);
     }
 
 pub returns : goal.returns

@@ -7,7 +7,8 @@ use Rattle.workers.specs.declared.parts.PartVerdict.{PartVerdict}
 use Rattle.workers.specs.declared.parts.PartVerdict.TheVariants.{OtherPart}
 use Rattle.workers.specs.Part.{first_in}
 use Rattle.workers.specs.Verdict.{AreBehindHits, AreClassFirsts, AreFirsts, pieces_behind}
-use Rattle.workers.proofs.PartsOfClasses.{all_firsts, all_hits, all_within, verdict_there, verdicts_under}
+use Rattle.workers.proofs.PartsOfClasses.{all_firsts, all_hits, all_within, verdict_there}
+use Rattle.workers.proofs.PartsOfClasses.{verdicts_under}
 use Rattle.workers.proofs.SharedStretches.{stretches_under}
 use Rattle.workers.proofs.parts.run_over_ledger.Goals as goal
 

@@ -1,4 +1,5 @@
-use Rattle.std.proofs.Common.{◌≡◌, ◌≢◌, ◌<◌, ◌≤◌, ◌/◌, ◌*◌, ◌+◌, ◌∙◌, ℕ, ap, arith, length, sym, subst, refl}
+use Rattle.std.proofs.Common.{◌≡◌, ◌≢◌, ◌<◌, ◌≤◌, ◌/◌, ◌*◌, ◌+◌, ◌∙◌, ℕ, ap, arith, length, sym}
+use Rattle.std.proofs.Common.{subst, refl}
 use Rattle.std.specs.Prelude.{All, slice_index_or, slice_set}
 use Rattle.std.specs.Int.{trailing_zeros, w64}
 use Rattle.std.proofs.lemmas.List.{get_or_read}
@@ -7,7 +8,8 @@ use Rattle.event_queue.proofs.Flags.{flags_count}
 use Rattle.event_queue.proofs.PlacesTaken.{places_none, word_low, place_set, place_least}
 use Rattle.event_queue.proofs.PlacesTaken.{rest_fits, without_place, none_set}
 use Rattle.event_queue.proofs.places.Places.take.Goals as goal
-use Rattle.event_queue.proofs.places.Places.take.Goals.{After-index_mut-in-Some, Then-rest-ne0, In-Some}
+use Rattle.event_queue.proofs.places.Places.take.Goals.{After-index_mut-in-Some, Then-rest-ne0}
+use Rattle.event_queue.proofs.places.Places.take.Goals.{In-Some}
 
 pub least_word-requires-clause-within : goal.least_word-requires-clause-within
 least_word-requires-clause-within c =
