@@ -18,7 +18,7 @@ const MAX_DETECTIONS: u32 = 65_536;
 /// The version that `faultsim --version` and `faultgen --version` print.
 pub const VERSION: &str = "0.3.0";
 
-/// What the program can be asked to do.
+/// A task of the program.
 #[derive(Clone, Copy)]
 pub(crate) enum Task {
     Check,
@@ -31,7 +31,7 @@ pub(crate) enum Task {
     Schedule,
 }
 
-/// All that it can be asked to do, in the order of the help, which is that of use.
+/// All tasks, in the order of the help, which is the order of use.
 static TASKS: [Task; 8] = [
     Task::Check,
     Task::Run,
@@ -43,9 +43,9 @@ static TASKS: [Task; 8] = [
     Task::Schedule,
 ];
 
-// The texts live as long as is asked for, since a command has one lifetime for all its texts.
+// The texts have any lifetime, because a command has one lifetime for all its texts.
 impl Task {
-    /// The name of the subcommand.
+    /// Returns the name of the subcommand.
     fn name<'a>(self) -> &'a str {
         match self {
             Task::Check => "check",
@@ -59,23 +59,24 @@ impl Task {
         }
     }
 
-    /// What the subcommand does.
+    /// Returns the description of the subcommand.
     fn about<'a>(self) -> &'a str {
         match self {
-            Task::Check => "Tells what a circuit and its tests have, or all faults of their texts",
-            Task::Run => "Simulates all faults of a model and tells the fault coverage",
-            Task::Curve => "Tells for each test that finds new faults how many are found up to it",
-            Task::Compact => "Writes fewer of the tests, which detect the same faults",
-            Task::Responses => "Writes what the circuit answers to each test without a fault",
+            Task::Check =>
+                "Checks a circuit and its tests: sizes, limits and warnings, or every error",
+            Task::Run => "Simulates all faults of a model and prints the fault coverage",
+            Task::Curve => "Prints the coverage after each test that detects new faults",
+            Task::Compact => "Writes fewer tests, which detect the same faults",
+            Task::Responses => "Writes the fault-free response to each test",
             Task::Schedule => {
-                "Does what run does by one thread in a given order, for tests of the simulator itself"
+                "Simulates as run does, in a given order of moves, for tests of the simulator itself"
             }
             Task::Faults => "Lists all faults of a model with their classes",
-            Task::Merge => "Tells what a run tells from the texts of all its parts",
+            Task::Merge => "Makes the report of a run from its part files",
         }
     }
 
-    /// What is said after its long help.
+    /// Returns the end of its long help.
     fn example<'a>(self) -> &'a str {
         match self {
             Task::Check => ABOUT_CHECK,
@@ -89,7 +90,7 @@ impl Task {
         }
     }
 
-    /// Its options, in the order of its help.
+    /// Returns its options, in the order of its help.
     fn choices(self) -> &'static [Choice] {
         match self {
             Task::Check => &CHECK_CHOICES,
@@ -103,7 +104,7 @@ impl Task {
         }
     }
 
-    /// The task that a subcommand names.
+    /// Returns the task of a subcommand.
     pub(crate) fn named(name: &str) -> Option<Task> {
         TASKS.iter().copied().find(|task| task.name() == name)
     }
@@ -129,7 +130,7 @@ enum Choice {
     /// The format of a run's list.
     RunFormat,
     Progress,
-    /// The same of a run that may count detections.
+    /// The same for a run that may count detections.
     RunProgress,
     /// The format of the list of faults.
     Format,
@@ -212,7 +213,7 @@ static MERGE_CHOICES: [Choice; 6] = [
 /// The fault models by their names on the command line.
 pub static MODELS: [&str; 3] = ["stuck", "transition", "transition-pairs"];
 
-/// The model of a name among [`MODELS`], and none of any other name.
+/// Returns the model of a name among [`MODELS`], and none for any other name.
 pub fn model_named(name: &str) -> Option<Model>
     ensures named { IfSome result (λ m. name.now ≡ model_name m) }
     ensures each { (m : Model) → name.now ≡ model_name m → result ≡ Some m }
@@ -225,26 +226,26 @@ pub fn model_named(name: &str) -> Option<Model>
     }
 }
 
-/// What is said of the models in the long help.
+/// The description of the models in the long help.
 const ABOUT_MODELS: &str = "\
-Which faults, and which tests look for them:
+Which faults, and which tests detect them:
 stuck             a line is stuck at 0 or at 1; each test
                   detects by itself
 transition        a line is slow to rise or slow to fall; each
-                  test but the first is the second of a pair
-                  with the test before it
-transition-pairs  the same faults under a list of launch and
-                  capture pairs: tests 0 and 1 are a pair,
-                  2 and 3, and so on, and only the second of
-                  a pair detects
-A list of launch and capture pairs wants transition-pairs: with
-transition the coverage comes out too high, since tests 1 and 2
-count as a pair, too.";
+                  test but the first is the capture test of
+                  a pair with the test before it
+transition-pairs  the same faults with a list of launch/capture
+                  pairs: tests 0 and 1 are a pair, 2 and 3,
+                  and so on, and only the capture test of a
+                  pair detects
+For a list of launch/capture pairs use transition-pairs: with
+transition the coverage comes out too high, because tests 1 and
+2 count as a pair, too.";
 
-/// What is said of the files after the options.
+/// The note on files after the options.
 const FILES: &str = "Each FILE is read whole. One FILE can be -, the standard input.";
 
-/// What is said after the long help of the program.
+/// The end of the long help of the program.
 const ABOUT_TEXTS: &str = "\
 Example, a circuit and tests for it, one a line:
 
@@ -256,16 +257,16 @@ Example, a circuit and tests for it, one a line:
 
     faultsim run --bench a.bench --tests a.tests
 
-tells that all faults are found:
+prints that the tests detect all faults:
 
     6 of 6 (100.00%)
 
-The exit status is 0 where all was done, 1 where a text is refused, 2 where the
-command line is, and 3 where a file, the output, memory or a thread is.";
+The exit status is 0 for success, 1 for an error in a file, 2 for an error in the
+command line, and 3 if a file, the output, memory or a thread fails.";
 
-/// What is said after the long help of `check`.
+/// The end of the long help of `check`.
 const ABOUT_CHECK: &str = "\
-Example, a circuit with two faults:
+Example, a circuit with two errors:
 
     INPUT(a)
     OUTPUT(z)
@@ -274,8 +275,8 @@ Example, a circuit with two faults:
 
     faultsim check --bench a.bench
 
-tells on standard error all faults of the text, each with its line, a mark and
-what may be meant, and then the refusal that run tells:
+reports every error of the file on standard error, each with its line, a mark and
+a suggestion, and then the error that run prints:
 
     a.bench:3: syntax
         n1 = INV(a)
@@ -287,12 +288,12 @@ what may be meant, and then the refusal that run tells:
         n2 is not defined; is n1 meant?
     faultsim: bench line 3: syntax
 
-Of texts without a fault it tells how much they have of what, how many tests one
-run takes, and warnings of what is seldom meant.
+If the files have no error, it prints their sizes, the most tests of one run, and
+warnings.
 
 Each FILE is read whole. One FILE can be -, the standard input.";
 
-/// What is said after the long help of `run`.
+/// The end of the long help of `run`.
 const ABOUT_RUN: &str = "\
 Example, a circuit and tests for it, one a line:
 
@@ -304,7 +305,7 @@ Example, a circuit and tests for it, one a line:
 
     faultsim run --bench a.bench --tests a.tests --list
 
-tells for each fault the first test that detects it, counted from 0, and then
+prints for each fault the first test that detects it, counted from 0, and then
 the coverage:
 
     stem a sa0 3
@@ -315,14 +316,14 @@ the coverage:
     stem z sa1 0
     6 of 6 (100.00%)
 
-A fault that no test detects has none in place of a number. The faults are those
-of the uncollapsed list, and the percentage is cut off after two decimals.
---undetected tells the lines of the faults alone that no test detects. --classes
-tells after the coverage how many of the fault classes are detected:
+An undetected fault has none instead of a number. The list is the uncollapsed
+one, and the percentage is cut off after two decimals. --undetected prints only
+the lines of the undetected faults. --classes prints after the coverage how many
+of the fault classes are detected:
 4 of 4 classes (100.00%).
 
---undetected --why tells for each of these faults why no test detects it, and
-last how many there are of each reason. Without test 11 these are:
+--undetected --why prints the reason for each undetected fault, and last the
+number of faults for each reason. Without test 11 these are:
 
     stem a sa0 none not activated
     stem b sa0 none not activated
@@ -331,13 +332,13 @@ last how many there are of each reason. Without test 11 these are:
     0 no path, 3 not activated, 0 not observed
 
 no path        no OUTPUT line and no flip-flop is reached from the line
-not activated  no test gives the line the complement of the stuck bit; of
+not activated  no test gives the line the complement of the stuck bit; for
                transition faults, no pair launches the transition
 not observed   a test activates the fault, and none detects it
 
 Each FILE is read whole. One FILE can be -, the standard input.";
 
-/// What is said after the long help of `curve`.
+/// The end of the long help of `curve`.
 const ABOUT_CURVE: &str = "\
 Example, a circuit and tests for it, one a line:
 
@@ -349,9 +350,9 @@ Example, a circuit and tests for it, one a line:
 
     faultsim curve --bench a.bench --tests a.tests
 
-tells for each test that is the first to detect some fault, counted from 0, how
-many faults are detected up to it and how much of all that is, and then the
-coverage. Test 2 finds nothing new:
+prints for each test that detects new faults, counted from 0, how many faults
+this test and those before it detect, also in percent, and then the coverage.
+Test 2 detects nothing new:
 
     0 1 16.66
     1 2 33.33
@@ -360,7 +361,7 @@ coverage. Test 2 finds nothing new:
 
 Each FILE is read whole. One FILE can be -, the standard input.";
 
-/// What is said after the long help of `compact`.
+/// The end of the long help of `compact`.
 const ABOUT_COMPACT: &str = "\
 Example, a circuit and tests for it, one a line:
 
@@ -372,21 +373,21 @@ Example, a circuit and tests for it, one a line:
 
     faultsim compact --bench a.bench --tests a.tests > b.tests
 
-writes some of the tests, in order, that detect each fault that all detect. Test
-00 detects z stuck at 1, and so do the next two:
+writes some of the tests, in order, which detect the same faults as all. Test 00
+detects only z stuck at 1, which the next two detect, too:
 
     01
     10
     11
 
-Kept are the tests that are the first to detect some fault; then, from the last
-to the first, those of these that detect a fault which no later one detects.
-Under transition faults the first step is the only one, and each test that is
-kept keeps the test before it.
+First it keeps the tests that are the first to detect some fault. Of these, from
+the last to the first, it keeps each one that detects a fault which no later one
+detects. Under transition faults there is only the first step, and each kept test
+keeps the test before it.
 
 Each FILE is read whole. One FILE can be -, the standard input.";
 
-/// What is said after the long help of `responses`.
+/// The end of the long help of `responses`.
 const ABOUT_RESPONSES: &str = "\
 Example, a circuit with a flip-flop and tests for it, a bit for a and one for q:
 
@@ -399,15 +400,15 @@ Example, a circuit with a flip-flop and tests for it, a bit for a and one for q:
 
     faultsim responses --bench a.bench --tests a.tests
 
-writes a row for each test, a bit for each OUTPUT line, and then what each
-flip-flop captures:
+writes a row for each test: a bit for each OUTPUT line, and then the bit that
+each flip-flop captures:
 
     01
     00
 
 With --pairs it writes the launch-on-capture pairs of the tests: each test, and
 then its capture test, in which the primary inputs are held and each flip-flop
-has what it captures.
+has the captured bit.
 
     01
     01
@@ -418,7 +419,7 @@ They are a list of tests for run --model transition-pairs.
 
 Each FILE is read whole. One FILE can be -, the standard input.";
 
-/// What is said after the long help of `schedule`.
+/// The end of the long help of `schedule`.
 const ABOUT_SCHEDULE: &str = "\
 Example, a circuit, tests for it and an order of moves, one a line:
 
@@ -436,7 +437,7 @@ lets worker 1 move, then worker 0, then worker 1, and then all in turn:
 
 Each FILE is read whole. One FILE can be -, the standard input.";
 
-/// What is said after the long help of `faults`.
+/// The end of the long help of `faults`.
 const ABOUT_FAULTS: &str = "\
 Example, a circuit:
 
@@ -446,8 +447,8 @@ Example, a circuit:
 
     faultsim faults --bench a.bench
 
-tells the class of each fault, counted from 0; faults of one class are detected
-by the same tests:
+prints the class of each fault, counted from 0; the same tests detect all faults
+of a class:
 
     stem a sa0 class 1
     stem a sa1 class 0
@@ -457,7 +458,7 @@ by the same tests:
 
 Each FILE is read whole. One FILE can be -, the standard input.";
 
-/// What is said after the long help of `merge`.
+/// The end of the long help of `merge`.
 const ABOUT_MERGE: &str = "\
 Example, a circuit and tests for it, one a line:
 
@@ -471,7 +472,7 @@ Example, a circuit and tests for it, one a line:
     faultsim run --bench a.bench --tests a.tests --part 2/2 > part.2
     faultsim merge part.1 part.2
 
-tells what the run tells that is not cut into parts:
+prints the same report as one run:
 
     6 of 6 (100.00%)
 
@@ -490,7 +491,7 @@ fn file_option<'a>(alloc: Global, name: &'a str, letter: char, help: &'a str) ->
         .help(help)
 }
 
-/// What is said of the option `--tests`.
+/// The help of the option `--tests`.
 const TESTS_HELP: &str = "The tests, one a line: a bit for each input, then for each flip-flop";
 
 /// The option `--model MODEL`.
@@ -538,7 +539,7 @@ fn part_option<'a>(alloc: Global) -> Arg<'a> {
     Arg::new(alloc, "part")
         .long("part")
         .value_name("I/N")
-        .help("Run part I of N alone, from 1, and write its part text")
+        .help("Run only part I of N, from 1, and write its part file")
 }
 
 /// The option `--detections N`.
@@ -553,9 +554,9 @@ fn detections_option<'a>(alloc: Global) -> Result<Arg<'a>, AllocError> {
         .conflicts_with("classes")
 }
 
-/// What is said of the option `--workers N`.
+/// Returns the help of the option `--workers N`.
 pub(crate) fn workers_help(alloc: Global) -> Result<String, AllocError> {
-    format!(in alloc; "How many workers share the run, 1 to {MAX_WORKERS}")
+    format!(in alloc; "The number of workers that share the run, 1 to {MAX_WORKERS}")
 }
 
 /// The flag `--list`.
@@ -564,7 +565,7 @@ fn list_flag<'a>(alloc: Global) -> Arg<'a> {
         .long("list")
         .short('l')
         .action(ArgAction::SetTrue)
-        .help("Tell the first test of each fault, too, none where no test detects it")
+        .help("Print the first test of each fault, too, or none if no test detects it")
 }
 
 /// The flag `--undetected`.
@@ -572,7 +573,7 @@ fn undetected_flag<'a>(alloc: Global) -> Result<Arg<'a>, AllocError> {
     Arg::new(alloc, "undetected")
         .long("undetected")
         .action(ArgAction::SetTrue)
-        .help("Tell the faults that no test detects, too")
+        .help("Print the undetected faults, too")
         .conflicts_with("list")
 }
 
@@ -581,7 +582,7 @@ fn why_flag<'a>(alloc: Global) -> Result<Arg<'a>, AllocError> {
     Arg::new(alloc, "why")
         .long("why")
         .action(ArgAction::SetTrue)
-        .help("Tell with --undetected why no test detects each fault")
+        .help("With --undetected, print the reason for each fault")
         .conflicts_with("list")?
         .conflicts_with("part")?
         .conflicts_with("detections")?
@@ -593,7 +594,7 @@ fn classes_flag<'a>(alloc: Global) -> Arg<'a> {
     Arg::new(alloc, "classes")
         .long("classes")
         .action(ArgAction::SetTrue)
-        .help("Tell the coverage of the fault classes, too")
+        .help("Print the coverage of the fault classes, too")
 }
 
 /// The flag `--pairs` of `responses`.
@@ -611,7 +612,7 @@ fn merge_bench_option<'a>(alloc: Global) -> Result<Arg<'a>, AllocError> {
         .requires_arg("classes")
 }
 
-/// How a list is written.
+/// The formats of a list.
 static FORMATS: [&str; 3] = ["text", "csv", "json"];
 
 /// The option `--format FORMAT`.
@@ -621,7 +622,7 @@ fn format_option<'a>(alloc: Global) -> Arg<'a> {
         .value_name("FORMAT")
         .value_parser(FORMATS.as_slice())
         .default_value("text")
-        .help("How the list of faults is written")
+        .help("The format of the list of faults")
 }
 
 /// What is said of the option `--format FORMAT` of `run`.
@@ -657,7 +658,7 @@ fn progress_flag<'a>(alloc: Global) -> Arg<'a> {
     Arg::new(alloc, "progress")
         .long("progress")
         .action(ArgAction::SetTrue)
-        .help("Tell on standard error how far the run is")
+        .help("Draw the progress of the run on standard error")
 }
 
 /// The flag `--progress` of `run`.
@@ -672,7 +673,7 @@ fn part_texts<'a>(alloc: Global) -> Arg<'a> {
         .action(ArgAction::Append)
         .num_args(1..)
         .required(true)
-        .help("The part texts of one run, in any order")
+        .help("The part files of one run, in any order")
 }
 
 /// What some options depend on.
@@ -687,14 +688,14 @@ pub(crate) struct Setting<'a> {
 /// An option.
 fn option<'a>(alloc: Global, choice: Choice, setting: Setting<'a>) -> Result<Arg<'a>, AllocError> {
     let option = match choice {
-        Choice::Bench => file_option(alloc, "bench", 'b', "The circuit, a bench text"),
+        Choice::Bench => file_option(alloc, "bench", 'b', "The circuit, a bench file"),
         Choice::Tests => file_option(alloc, "tests", 't', TESTS_HELP),
         Choice::TestsIfAny => file_option(alloc, "tests", 't', TESTS_HELP).required(false),
         Choice::Order => file_option(
             alloc,
             "order",
             'o',
-            "The moves, the number of a worker, from 0, a line",
+            "The moves: on each line the number of a worker, from 0",
         ),
         Choice::Model => model_option(alloc),
         Choice::Workers => workers_option(alloc, setting.workers),

@@ -6,7 +6,7 @@ use patterns::MAX_TESTS;
 use report::MAX_WORKERS;
 use std::alloc::{AllocError, Global};
 
-/// What is said after the long help.
+/// The end of the long help.
 const ABOUT: &str = "\
 Example, a circuit:
 
@@ -18,16 +18,16 @@ Example, a circuit:
 
     faultgen --bench a.bench > a.tests
 
-writes tests to a.tests, one a line, and tells on the standard error what they detect:
+writes tests to a.tests, one a line, and prints their coverage on standard error:
 
     6 of 6 (100.00%)
 
-It tries random tests, a block of 64 after another, keeps those that detect something new, and ends
-where nothing is left, where 20 blocks in turn detect nothing new, or at the greatest number of
-tests. Of the best of these it writes those that are needed to detect what all detect.
+It tries random tests, block by block of 64, and keeps the tests that detect new faults. It ends if
+no fault is left, if 20 blocks in a row detect nothing new, or at the greatest number of tests. Of
+the best tests it writes those that are needed to detect the same faults.
 
-The exit status is 0 where all was done, 1 where the circuit is refused, 2 where the command line
-is, and 3 where a file, the output, memory or a thread is.";
+The exit status is 0 for success, 1 for an error in the circuit, 2 for an error in the command
+line, and 3 if a file, the output, memory or a thread fails.";
 
 /// The option `--bench FILE`.
 fn bench_option<'a>(alloc: Global) -> Arg<'a> {
@@ -36,7 +36,7 @@ fn bench_option<'a>(alloc: Global) -> Arg<'a> {
         .short('b')
         .value_name("FILE")
         .required(true)
-        .help("The circuit, a bench text; - is the standard input")
+        .help("The circuit, a bench file; - is the standard input")
 }
 
 /// The option `--model MODEL`.
@@ -78,14 +78,14 @@ fn workers_option<'a>(alloc: Global) -> Arg<'a> {
         .value_name("N")
         .value_parser(value_parser!(u32).range(1..=i64::from(MAX_WORKERS)))
         .default_value("4")
-        .help("How many workers share the simulation, 1 to 64")
+        .help("The number of workers that share the simulation, 1 to 64")
 }
 
 /// The command line of the program.
 pub(crate) fn command_line<'a>(alloc: Global) -> Result<Command<'a>, AllocError> {
     Command::new(alloc, "faultgen")
         .version(VERSION)
-        .about("Random tests for a bench circuit, of which those are kept that detect more")
+        .about("Makes random tests for a bench circuit, and keeps those that detect more")
         .after_long_help(ABOUT)
         .arg(bench_option(alloc))?
         .arg(model_option(alloc))?
