@@ -2,9 +2,11 @@ mod Lanes
 mod NumbersBelow
 mod TestWords
 mod AddedTest
+mod JoinedTests
 mod LeastTest
 mod RowFaults
 mod OneAnswer
+mod CutTests
 mod MadeTests
 mod WrittenTests
 pub mod Public

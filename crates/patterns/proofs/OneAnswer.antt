@@ -19,7 +19,7 @@ test_faults-refusal text width (fault.BadByte line) is = is
 test_faults-refusal text width (fault.BadWidth line) is = is
 test_faults-refusal text width fault.TooMany is = is
 
-refusal-test_faults : (text : List ℕ) (width : ℕ) (f : TestFault) (more : List TestFault)
+pub refusal-test_faults : (text : List ℕ) (width : ℕ) (f : TestFault) (more : List TestFault)
     → test_faults text width ≡ f ∷ more → IsTestRefusal text width f
 refusal-test_faults text width fault.Memory more is = test_faults-not_memory text width more is
 refusal-test_faults text width (fault.BadByte line) more is = (more, is)

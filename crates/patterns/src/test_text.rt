@@ -1,12 +1,14 @@
 //! Tests, laid out in words of 64, and their reader.
-ghost use Rattle.std.specs.Prelude.{◌≡◌, ◌≢◌, ℕ, ◌+◌, ◌<◌, ◌≤◌, ◌==◌, ◌⊎◌, [], ◌++◌, false, map};
+ghost use Rattle.std.specs.Prelude.{◌≡◌, ◌≢◌, ℕ, ◌+◌, ◌%◌, ◌<◌, ◌≤◌, ◌==◌, ◌⊎◌, [], ◌++◌};
+ghost use Rattle.std.specs.Prelude.{◌↔◌, IsTrue, false, map};
 ghost use Rattle.std.specs.Prelude.{length, slice_index, slice_index_or, IfOk, IfErr, OnOk, OnErr};
 ghost use Rattle.std.specs.Int.{bit_at};
 ghost use Rattle.patterns.specs.Making.{IsMadeOf, IsPushRefusal, IsWordsRefusal, digit, row_text};
 ghost use Rattle.patterns.specs.Making.{test_text, with_test};
+ghost use Rattle.patterns.specs.Behind.{HasTestsBehind, IsRefusalBehind, with_tests};
 ghost use Rattle.patterns.specs.Tests.{HasTests, IsTestList, IsTestRefusal, IsWord, as_number, bit};
 ghost use Rattle.patterns.specs.Tests.{blocks, max_tests, size_of, test_fault};
-ghost use Rattle.text_lines.specs.Reading.{row_of};
+ghost use Rattle.text_lines.specs.Reading.{row_of, rows_left};
 
 use crate::word_rows::{check_idle_bits, make_room, rows_of};
 use crate::{BLOCK_SIZE, MAX_TESTS, PushFault, TestFault, WordsFault};
@@ -56,9 +58,22 @@ pub fn read_tests(alloc: Global, text: &[u8], width: u32) -> Result<Tests, TestF
     ensures refused { IfErr result (λ fault.
         (fault ≡ TestFault.Memory) ⊎ IsTestRefusal text.now width fault) }
 {
-    let mut tests = Tests::new(alloc, width);
+    let none = Tests::new(alloc, width);
+    let rows = Rows::new(text, width as usize);
+    read_rows(alloc, none, rows)
+}
+
+/// Reads rows as tests behind others. If the rows before them in a text have those tests, the result
+/// is the tests of the text.
+pub(crate) fn read_rows(alloc: Global, before: Tests, rows: Rows<'_>) -> Result<Tests, TestFault>
+    ensures tests { IfOk result (λ t. HasTestsBehind before (rows_left rows.entry) t) }
+    ensures refused { IfErr result (λ fault. (fault ≡ TestFault.Memory)
+        ⊎ IsRefusalBehind before (rows_left rows.entry) fault) }
+{
+    let width = before.width();
+    let mut tests = before;
     let mut bits = vec![in alloc; false; width as usize]?;
-    for row in Rows::new(text, width as usize) {
+    for row in rows {
         check_row(tests.count(), row, width)?;
         read_bits(&mut bits, row.bytes);
         tests.add(alloc, &bits)?;
@@ -196,6 +211,32 @@ impl Tests {
         let block = (self.count / BLOCK_SIZE) as usize;
         set_lane(&mut self.words[block], row, self.count % BLOCK_SIZE);
         self.count += 1;
+        Ok(())
+    }
+
+    /// Whether all blocks are full, and the tests are within the limit with other ones behind them.
+    pub(crate) fn takes(&self, more: &Tests) -> bool
+        ensures { IsTrue result ↔ ((length self.now.tests % 64 ≡ 0)
+            × (length self.now.tests + length more.now.tests ≤ max_tests)) }
+    {
+        let count = self.count + more.count;
+        count <= MAX_TESTS && self.count % BLOCK_SIZE == 0
+    }
+
+    /// Adds other tests behind those of blocks that are all full.
+    pub(crate) fn append(&mut self, more: Tests) -> Result<(), AllocError>
+        requires full { length self.old.tests % 64 ≡ 0 }
+        requires width { more.width ≡ self.old.width }
+        requires room { length self.old.tests + length more.tests ≤ max_tests }
+        ensures appended { OnOk result (self.new ≡ with_tests self.old more.tests) }
+    {
+        let Tests {
+            width: _,
+            count,
+            mut words,
+        } = more;
+        self.words.append(&mut words)?;
+        self.count += count;
         Ok(())
     }
 

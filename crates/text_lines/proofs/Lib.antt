@@ -1,4 +1,5 @@
 mod FirstRow
 mod BitRow
+mod CutRows
 mod RowFaults
 pub mod Public

@@ -1,10 +1,12 @@
 //! The rows of a file, one after another from its top.
 
-ghost use Rattle.std.specs.Prelude.{◌≡◌, ◌+◌, ◌^◌, ◌<◌, true, length, take, slice_index};
+ghost use Rattle.std.specs.Prelude.{◌≡◌, ◌+◌, ◌^◌, ◌<◌, ◌≤◌, true, length, take, slice_index};
+ghost use Rattle.std.specs.Prelude.{count_by};
 ghost use Rattle.std.specs.List.{list_all, before_first, after_first};
 ghost use Rattle.std.specs.Str.Lines.{strip_carriage_return};
 ghost use Rattle.text_lines.specs.Lines.{ends_line};
 ghost use Rattle.text_lines.specs.Rows.{content, is_bit};
+ghost use Rattle.text_lines.specs.Starts.{IsLineStart, IsLineStartFrom};
 
 use crate::lines::{content, split_once};
 
@@ -31,6 +33,7 @@ pub struct Rows<'a> {
 }
 
 impl<'a> Rows<'a> {
+    ghost use Rattle.std.specs.Prelude.{◌++◌};
     ghost use Rattle.text_lines.specs.Rows.{rows};
     ghost use Rattle.text_lines.specs.Reading.{rows_left};
 
@@ -41,6 +44,21 @@ impl<'a> Rows<'a> {
         Rows {
             text,
             line: 1,
+            likely,
+        }
+    }
+
+    /// The rows of a text from a place on, at which a line begins, counted from 0 in bytes. They
+    /// have the numbers of their lines in the whole text, of which those before the place are
+    /// counted.
+    pub fn from_place(text: &'a [u8], place: usize, likely: usize) -> Self
+        requires { IsLineStart text.now place }
+        ensures { rows text.now ≡ rows (take place text.now) ++ rows_left result }
+    {
+        let before = &text[..place];
+        Rows {
+            text: &text[place..],
+            line: 1 + count_line_feeds(before),
             likely,
         }
     }
@@ -92,6 +110,35 @@ fn begins_with_bits(text: &[u8], count: usize) -> bool
     match text.get(count) {
         Some(b'\n') => are_bits(&text[..count]),
         _ => false,
+    }
+}
+
+/// Returns the number of bytes that are line feeds.
+fn count_line_feeds(bytes: &[u8]) -> u64
+    ensures count { result ≡ count_by ends_line bytes.now }
+    ensures few { result ≤ length bytes.now }
+{
+    let mut count = 0;
+    for byte in bytes {
+        if *byte == b'\n' {
+            count += 1;
+        }
+    }
+    count
+}
+
+/// Returns the first place of a text, from `place` on, at which a line begins, and the end of the
+/// text if there is none. Places are counted from 0 in bytes.
+pub fn line_start_from(text: &[u8], place: usize) -> usize
+    requires { place ≤ length text.now }
+    ensures { IsLineStartFrom text.now place result }
+{
+    if place == 0 {
+        return 0;
+    }
+    match text[place - 1..].iter().position(|byte| *byte == b'\n') {
+        Some(at) => place + at,
+        None => text.len(),
     }
 }
 
