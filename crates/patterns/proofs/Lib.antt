@@ -3,6 +3,7 @@ mod NumbersBelow
 mod TestWords
 mod AddedTest
 mod JoinedTests
+mod Octets
 mod LeastTest
 mod RowFaults
 mod OneAnswer

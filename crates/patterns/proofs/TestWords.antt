@@ -56,7 +56,7 @@ pub as_number_one : (b : Bool) → (as_number b == 1) ≡ b
 as_number_one true = refl
 as_number_one false = refl
 
-one_as_number : (n : ℕ) → n < 2 → as_number (n == 1) ≡ n
+pub one_as_number : (n : ℕ) → n < 2 → as_number (n == 1) ≡ n
 one_as_number n small =
     ⊎_elim
     (λ (one : n ≡ 1). ap as_number (eq-eqb n 1 one) ∙ sym one)

@@ -10,6 +10,7 @@ ghost use Rattle.patterns.specs.Tests.{HasTests, IsTestList, IsTestRefusal, IsWo
 ghost use Rattle.patterns.specs.Tests.{blocks, max_tests, size_of, test_fault};
 ghost use Rattle.text_lines.specs.Reading.{row_of, rows_left};
 
+use crate::octet::{Octet, merge_bytes};
 use crate::word_rows::{check_idle_bits, make_room, rows_of};
 use crate::{BLOCK_SIZE, MAX_TESTS, PushFault, TestFault, WordsFault};
 use std::alloc::{AllocError, Global};
@@ -63,8 +64,8 @@ pub fn read_tests(alloc: Global, text: &[u8], width: u32) -> Result<Tests, TestF
     read_rows(alloc, none, rows)
 }
 
-/// Reads rows as tests behind others. If the rows before them in a text have those tests, the result
-/// is the tests of the text.
+/// Reads rows as tests behind others. If the rows before them in a text have those tests, the
+/// result is the tests of the text.
 pub(crate) fn read_rows(alloc: Global, before: Tests, rows: Rows<'_>) -> Result<Tests, TestFault>
     ensures tests { IfOk result (λ t. HasTestsBehind before (rows_left rows.entry) t) }
     ensures refused { IfErr result (λ fault. (fault ≡ TestFault.Memory)
@@ -72,12 +73,15 @@ pub(crate) fn read_rows(alloc: Global, before: Tests, rows: Rows<'_>) -> Result<
 {
     let width = before.width();
     let mut tests = before;
-    let mut bits = vec![in alloc; false; width as usize]?;
+    let mut octet = Octet::new(alloc, width)?;
     for row in rows {
-        check_row(tests.count(), row, width)?;
-        read_bits(&mut bits, row.bytes);
-        tests.add(alloc, &bits)?;
+        check_row(tests.count() + octet.count(), row, width)?;
+        octet.push(row.bytes);
+        if (tests.count() + octet.count()) % 8 == 0 {
+            tests.take(alloc, &mut octet)?;
+        }
     }
+    tests.take(alloc, &mut octet)?;
     Ok(tests)
 }
 
@@ -99,16 +103,6 @@ fn check_row(place: u32, row: Row<'_>, width: u32) -> Result<(), TestFault>
         return Err(TestFault::BadWidth(row.line));
     }
     Ok(())
-}
-
-/// Whether each byte is `1`, one after another.
-fn read_bits(bits: &mut [bool], bytes: &[u8])
-    requires { length bits.old ≡ length bytes.now }
-    ensures { bits.new ≡ map (λ b. b == 49) bytes.now }
-{
-    for (source, byte) in bytes.iter().enumerate() {
-        bits[source] = *byte == b'1';
-    }
 }
 
 /// The text of tests, which [`read_tests`] reads as the same tests: for each a row of a `0` or a
@@ -237,6 +231,29 @@ impl Tests {
         } = more;
         self.words.append(&mut words)?;
         self.count += count;
+        Ok(())
+    }
+
+    /// Moves the tests of an octet behind the others, for which there is room in the last block or,
+    /// if that is full, in the next one.
+    fn take(&mut self, alloc: Global, octet: &mut Octet) -> Result<(), AllocError>
+        requires width { octet.old.width ≡ self.old.width }
+        requires fits { length self.old.tests % 64 + length octet.old.tests ≤ 64 }
+        requires room { length self.old.tests + length octet.old.tests ≤ max_tests }
+        ensures taken { OnOk result (self.new ≡ with_tests self.old octet.old.tests) }
+        ensures emptied { OnOk result
+            (octet.new ≡ record { width = octet.old.width; tests = [] }) }
+    {
+        let moved = octet.count();
+        if moved == 0 {
+            return Ok(());
+        }
+        make_room(alloc, &mut self.words, self.width, self.count)?;
+        let block = (self.count / BLOCK_SIZE) as usize;
+        let lane = self.count % BLOCK_SIZE;
+        merge_bytes(&mut self.words[block], octet.bytes(), lane);
+        self.count += moved;
+        octet.clear();
         Ok(())
     }
 
