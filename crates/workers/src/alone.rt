@@ -1,7 +1,7 @@
 //! The run of one worker alone over a list of classes, without a ledger.
 
 ghost use Rattle.std.specs.Prelude.{◌≡◌, ◌<◌, ◌≤◌, ◌+◌, ℕ, All, IfNone, IfOk, IfSome, None, Some};
-ghost use Rattle.std.specs.Prelude.{length, slice_get};
+ghost use Rattle.std.specs.Prelude.{false, length, slice_get, true};
 ghost use Rattle.patterns.specs.Tests.{blocks};
 ghost use Rattle.block_sim.specs.First.{IsTrueOutcome};
 ghost use Rattle.block_sim.specs.Origins.{IsListed};
@@ -110,6 +110,15 @@ pub(crate) fn run_list<G: Gate>(
     None
 }
 
+/// Whether the gate lets a worker go on with the class of a row on the block of a turn.
+fn passes<G: Gate>(gate: &G, worker: u32, row: Listed, turn: Turn) -> bool
+    ensures passing { G.passing gate.now → result ≡ true }
+    ensures stopped { result ≡ false → (G.stops gate.now).may worker row.class turn.block }
+    ensures shut { (G.stops gate.now).must worker row.class turn.block → result ≡ false }
+{
+    gate.pass(worker, row.class, turn.block)
+}
+
 /// Simulates on a block the classes of a list that no earlier block detects, and leaves out those
 /// whose first test is known, so that it comes to none of them again. The gate is asked for each
 /// class; what is found out with the first open class of a region is kept for the others, and
@@ -162,8 +171,8 @@ fn run_block<G: Gate>(
             }
             None => {}
         }
-        let class = row_at(rows, place).class;
-        if !gate.pass(worker, class, turn.block) {
+        let row = row_at(rows, place);
+        if !passes(gate, worker, row, turn) {
             let block = turn.block;
             return Some(Stop { place, block });
         }

@@ -84,17 +84,17 @@ loop-place-preserved-in-Some g c =
       serves = last.serves;
     }
 
-pub returns-then-not-pass-clause-stopped : goal.returns-then-not-pass-clause-stopped
-returns-then-not-pass-clause-stopped g c =
+pub returns-then-not-passes-clause-stopped : goal.returns-then-not-passes-clause-stopped
+returns-then-not-passes-clause-stopped g c =
     let class =
-    class_there c.args.rows.now c.loop-place.place c.row_at-class.result c.row_at-class.ensures in (
+    class_there c.args.rows.now c.loop-place.place c.row_at-row.result c.row_at-row.ensures in (
       record {
-        class = c.row_at-class.result.class;
+        class = c.row_at-row.result.class;
         at = class;
         within = c.requires.block;
-        stopped = c.if-not-pass.ensures.stopped refl;
+        stopped = c.if-not-passes.ensures.stopped refl;
         undetected = undetected_here c.args.job.now (classes_of c.args.rows.now) c.loop-place.place
-            c.args.turn.block c.row_at-class.result.class c.loop-place.firsts class
+            c.args.turn.block c.row_at-row.result.class c.loop-place.firsts class
             c.in-None.ensures c.loop-place.invariant.known;
       },
       c.loop-place.invariant.known,
@@ -106,12 +106,12 @@ pub overflow_add-firsts : goal.overflow_add-firsts
 overflow_add-firsts g c =
     let job = c.args.job.now in
     let rows = c.args.rows.now in
-    let row = c.row_at-class.result in
+    let row = c.row_at-row.result in
     let now = c.found_from-found.ensures in
-    let is = row_listed job rows c.loop-place.place row c.requires.rows c.row_at-class.ensures in
+    let is = row_listed job rows c.loop-place.place row c.requires.rows c.row_at-row.ensures in
     let told = told_at job rows c.loop-place.firsts c.args.turn c.loop-place.place
     c.found_from-found.new.simulation.hits row c.hit_at.result c.found_from-found.result now.ahead
-    now.low c.row_at-class.ensures c.in-None.ensures c.hit_at.ensures in
+    now.low c.row_at-row.ensures c.in-None.ensures c.hit_at.ensures in
     let outcome = c.in-Hit.ensures.here job c.args.turn.last row.class
     c.requires.turn.1.ordered told in
     let low = outcome.2.0 in
@@ -147,8 +147,8 @@ loop-place-preserved-in-Clear g c =
     let turn = c.args.turn in
     let place = c.loop-place.place in
     let last = c.loop-place.invariant in
-    let row = c.row_at-class.result in
-    let at = c.row_at-class.ensures in
+    let row = c.row_at-row.result in
+    let at = c.row_at-row.ensures in
     let hits = c.found_from-found.new.simulation.hits in
     let now = c.found_from-found.ensures in
     let found = c.found_from-found.result in
@@ -181,7 +181,7 @@ loop-place-preserved-in-Clear g c =
           (c.in-Clear.ensures.here job turn.last row.class c.requires.turn.1.ordered told)
           last.known)
           (passed_gate job (classes_of rows) c.args.worker (g.G.Gate.stops c.args.gate.now) place
-          turn.block row.class true class c.if-not-pass.ensures.shut refl last.passed);
+          turn.block row.class true class c.if-not-passes.ensures.shut refl last.passed);
       whole = now.whole;
       ahead = ahead_over job rows firsts turn place to found hits (omega (arith, up)) now.ahead;
       behind = behind_over job rows firsts turn (place + 1) to hits settled
@@ -201,8 +201,8 @@ loop-place-preserved g c =
     let turn = c.args.turn in
     let place = c.loop-place.place in
     let last = c.loop-place.invariant in
-    let row = c.row_at-class.result in
-    let at = c.row_at-class.ensures in
+    let row = c.row_at-row.result in
+    let at = c.row_at-row.ensures in
     let hits = c.found_from-found.new.simulation.hits in
     let now = c.found_from-found.ensures in
     let found = c.found_from-found.result in
@@ -239,7 +239,7 @@ loop-place-preserved g c =
           (c.in-Hit.ensures.here job turn.last row.class c.requires.turn.1.ordered told)
           last.known)
           (passed_gate job (classes_of rows) c.args.worker (g.G.Gate.stops c.args.gate.now) place
-          turn.block row.class true class c.if-not-pass.ensures.shut refl last.passed);
+          turn.block row.class true class c.if-not-passes.ensures.shut refl last.passed);
       whole = now.whole;
       ahead = ahead_over job rows first turn (place + 1) to found hits (omega (arith, up))
           (ahead_hit job rows firsts turn place hits test found low now.ahead);
