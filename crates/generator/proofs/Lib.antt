@@ -1,3 +1,3 @@
-mod UndetectedClasses
+mod LeftClasses
 mod Pieces
 mod Texts

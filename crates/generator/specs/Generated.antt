@@ -1,6 +1,6 @@
 -- What a generator gives, and when it is refused.
-use Rattle.std.specs.Prelude.{◌≡◌, ◌⊎◌, ⊤, ℕ, ◌*◌, ◌<◌, ◌≤◌, Bool, List, Option, filter, is_none}
-use Rattle.std.specs.Prelude.{length, map, zip}
+use Rattle.std.specs.Prelude.{◌≡◌, ◌⊎◌, ⊤, ℕ, ◌*◌, ◌<◌, ◌≤◌, Bool, List, Option, None, Some}
+use Rattle.std.specs.Prelude.{length, slice_get}
 use Rattle.bench_net.specs.declared.BenchFault.TheVariants as bench_fault
 use Rattle.bench_net.specs.Refusal.{IsAccepted, IsRefused}
 use Rattle.bench_net.specs.Statement.{Statement}
@@ -36,10 +36,14 @@ HasJob m bench text = (job : Parts) × IsJobWithin m bench text job
 abbrev pub AreFewPieces : ℕ → ℕ → Type 0
 AreFewPieces classes tests = classes * blocks tests ≤ max_pieces
 
--- of classes, given with the first test that detects each, those that no test detects
-abbrev pub classes_left : List ℕ → List (Option ℕ) → List ℕ
-classes_left classes firsts =
-    map (λ at. at.0) (filter (λ at. is_none at.1) (zip classes firsts))
+-- Classes are left of a list, which is given with the first test that detects each: those that no
+-- test detects, and no more than the list has.
+pub record AreLeft (classes : List ℕ) (firsts : List (Option ℕ)) (left : List ℕ) : Type 0 where
+  pub each : (k class : ℕ) → slice_get left k ≡ Some class
+      → (i : ℕ) × (slice_get classes i ≡ Some class) × (slice_get firsts i ≡ Some None)
+  pub all : (i class : ℕ) → slice_get classes i ≡ Some class → slice_get firsts i ≡ Some None
+      → (k : ℕ) × (slice_get left k ≡ Some class)
+  pub few : length left ≤ length classes
 
 -- when a run of the generator is refused: for its number of workers, then for want of memory or of
 -- a thread

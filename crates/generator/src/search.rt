@@ -1,10 +1,11 @@
 //! Rounds of random tests, and the classes that are left.
 
-ghost use Rattle.std.specs.Prelude.{◌≡◌, ◌*◌, ◌<◌, ◌≤◌, All, IfErr, IfOk, OnOk, length};
+ghost use Rattle.std.specs.Prelude.{◌≡◌, ◌*◌, ◌<◌, ◌≤◌, All, IfErr, IfOk, OnOk, filter, is_none};
+ghost use Rattle.std.specs.Prelude.{length, map, zip};
 ghost use Rattle.bench_net.specs.Scan.{sources};
 ghost use Rattle.patterns.specs.Tests.{IsTestList, max_pieces, max_tests};
 ghost use Rattle.block_sim.specs.Parts.{piece_count};
-ghost use Rattle.generator.specs.Generated.{AreFewPieces, IsWorkFault, classes_left};
+ghost use Rattle.generator.specs.Generated.{AreFewPieces, AreLeft, IsWorkFault};
 
 use crate::Settings;
 use crate::keeping::keep_tests;
@@ -137,7 +138,20 @@ fn undetected(
     classes: &[u32],
     firsts: &[Option<u32>],
 ) -> Result<Vec<u32>, AllocError>
-    ensures { IfOk result (λ left. left.items ≡ classes_left classes.now firsts.now) }
+    ensures { IfOk result (λ left. AreLeft classes.now firsts.now left.items) }
+{
+    let left = without_first(alloc, classes, firsts)?;
+    Ok(left)
+}
+
+/// The classes of a list that stand beside no first test.
+fn without_first(
+    alloc: Global,
+    classes: &[u32],
+    firsts: &[Option<u32>],
+) -> Result<Vec<u32>, AllocError>
+    ensures { IfOk result (λ left. left.items ≡ map (λ at. at.0)
+        (filter (λ at. is_none at.1) (zip classes.now firsts.now))) }
 {
     classes
         .iter()
