@@ -7,6 +7,8 @@ mod fixtures;
 #[cfg(test)]
 mod gates;
 #[cfg(test)]
+mod listed;
+#[cfg(test)]
 mod parts;
 #[cfg(test)]
 mod schedules;
