@@ -14,6 +14,6 @@ pub use fault::{ReportFault, SimFault};
 pub use split::{Split, least_parts, split_job_of};
 pub use texts::{
     job_for, job_for_in_threads, job_of, job_of_any_size, job_of_any_size_in_threads,
-    job_of_in_threads, read_inputs,
+    job_of_in_threads, read_inputs, read_inputs_in_threads,
 };
 pub use watch::{Watch, run_watched};

@@ -12,7 +12,7 @@ use crate::fault::SimFault;
 use bench_net::{Circuit, read_bench};
 use block_sim::Job;
 use fault_model::{Model, collapse, list_faults_in};
-use patterns::{Tests, read_tests};
+use patterns::{Tests, read_tests, read_tests_in_threads};
 use std::alloc::{AllocError, Global};
 use std::sync::Wait;
 use std::thread::Threads;
@@ -31,7 +31,7 @@ pub fn job_of(alloc: Global, model: Model, bench: &[u8], tests: &[u8]) -> Result
 }
 
 /// The job that [`job_of`] makes, with the same refusals, by no more threads than there are workers
-/// ([`Job::new_in_threads`]).
+/// ([`read_tests_in_threads`], [`Job::new_in_threads`]).
 pub fn job_of_in_threads<R: Threads + Wait>(
     rt: &R,
     alloc: Global,
@@ -44,7 +44,7 @@ pub fn job_of_in_threads<R: Threads + Wait>(
     ensures few { IfOk result (λ job. piece_count job ≤ max_pieces) }
     ensures refused { IfErr result (IsJobFault model bench.now tests.now) }
 {
-    let (circuit, tests) = read_inputs(alloc, bench, tests)?;
+    let (circuit, tests) = read_inputs_in_threads(rt, alloc, bench, tests, workers)?;
     job_for_in_threads(rt, alloc, model, circuit, tests, workers)
 }
 
@@ -63,7 +63,7 @@ pub fn job_of_any_size(
 }
 
 /// The job that [`job_of_any_size`] makes, with the same refusals, by no more threads than there
-/// are workers ([`Job::new_in_threads`]).
+/// are workers ([`read_tests_in_threads`], [`Job::new_in_threads`]).
 pub fn job_of_any_size_in_threads<R: Threads + Wait>(
     rt: &R,
     alloc: Global,
@@ -75,7 +75,7 @@ pub fn job_of_any_size_in_threads<R: Threads + Wait>(
     ensures job { IfOk result (IsJobOf model bench.now tests.now) }
     ensures refused { IfErr result (IsReadFault bench.now tests.now) }
 {
-    let (circuit, tests) = read_inputs(alloc, bench, tests)?;
+    let (circuit, tests) = read_inputs_in_threads(rt, alloc, bench, tests, workers)?;
     Ok(make_any_job_in_threads(rt, alloc, model, circuit, tests, workers)?)
 }
 
@@ -120,6 +120,25 @@ pub fn read_inputs(alloc: Global, bench: &[u8], tests: &[u8]) -> Result<(Circuit
 {
     let circuit = read_bench(alloc, bench)?;
     let tests = read_tests(alloc, tests, circuit.sources())?;
+    Ok((circuit, tests))
+}
+
+/// The circuit and the tests that [`read_inputs`] reads, with the same refusals: the tests by no
+/// more threads than there are workers ([`read_tests_in_threads`]).
+pub fn read_inputs_in_threads<R: Threads + Wait>(
+    rt: &R,
+    alloc: Global,
+    bench: &[u8],
+    tests: &[u8],
+    workers: u32,
+) -> Result<(Circuit, Tests), SimFault>
+    ensures circuit { IfOk result (λ read. IsAccepted bench.now read.0) }
+    ensures tests { IfOk result (λ read. HasTests tests.now (length (sources read.0)) read.1) }
+    ensures fit { IfOk result (λ read. AreTestsFor read.0 read.1) }
+    ensures refused { IfErr result (IsInputFault bench.now tests.now) }
+{
+    let circuit = read_bench(alloc, bench)?;
+    let tests = read_tests_in_threads(rt, alloc, tests, circuit.sources(), workers)?;
     Ok((circuit, tests))
 }
 
