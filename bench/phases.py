@@ -39,7 +39,7 @@ PARTS = {"picosoc16k": 8, "r100k64k": 32}
 # The functions whose first sample begins a phase. Those of no phase belong to the one before.
 PHASES = {
     "read bench": r"bench_net::",
-    "read tests": r"patterns::test_text|patterns::word_rows::\w*add|patterns::read_tests",
+    "read tests": r"patterns::(test_text|octet|in_threads|read_tests)|patterns::word_rows::\w*add",
     "faults and classes": r"fault_model::(classes|faults)::",
     "rows": r"block_sim::(flat::FlatCircuit::new|flat::lists_of|flat::add_|order|walk|live|places|form)",
     "fault-free words": r"block_sim::(words|job::fault_free_rows|job::rows_)",
