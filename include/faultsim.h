@@ -54,7 +54,7 @@ enum {
     FS_MEMORY,  /* memory ran out */
     FS_REFUSED, /* a text or words are wrong; fs_fault tells why */
     FS_RANGE,   /* a number is out of range, or a length is not what it must be */
-    FS_SHARED   /* another handle shares the job */
+    FS_SHARED   /* another handle shares the job (fs_job_share) */
 };
 
 /* Fault models. */
@@ -107,7 +107,8 @@ uint32_t fs_job_read(uint32_t model, const uint8_t *bench, size_t bench_len, fs_
 void fs_job_free(fs_job *job);
 
 /* Gives `other` the same job, with room of its own to simulate: for another thread. On FS_DONE what
- * `other` had is freed; else it is as it was. */
+ * `other` had is freed; else it is as it was. While several handles share a job, the calls
+ * that take tests return FS_SHARED; the last of them that is left takes tests again. */
 uint32_t fs_job_share(fs_job *job, fs_job *other);
 
 /* Tells how large the job is. */
@@ -120,6 +121,12 @@ uint32_t fs_sizes_of(fs_job *job, fs_sizes *sizes);
 uint32_t fs_set_words(fs_job *job, uint32_t count, const uint64_t *words, size_t words_len,
                       fs_fault *fault);
 uint32_t fs_set_text(fs_job *job, const uint8_t *text, size_t text_len, fs_fault *fault);
+
+/* Takes tests in words as fs_set_words does, but behind the job's last test: that is test 0 of the new
+ * list, and the new ones are tests 1, 2, .. So under FS_TRANSITION the pair of the last test and the
+ * first new one isn't lost. If the job has no tests, all are new. */
+uint32_t fs_next_words(fs_job *job, uint32_t count, const uint64_t *words, size_t words_len,
+                       fs_fault *fault);
 
 /* Tells the class of each fault, in the order in which `faultsim faults` lists them. classes_len is
  * the number of faults. */
@@ -178,8 +185,8 @@ uint32_t fs_report(fs_job *job, uint32_t lines, bool classes, uint8_t *text, siz
 
 /* All in one call, without a handle: tells the first test of a text that detects each fault of a
  * circuit, or FS_NONE, and in `faults` the number of faults. If firsts_len is not that number, the
- * status is FS_RANGE, and `faults` tells the number nevertheless. If the model is out of range,
- * `faults` is as it was. */
+ * status is FS_RANGE, and `faults` tells the number nevertheless. If the model is out of range, and on
+ * FS_MEMORY and FS_REFUSED, `faults` is as it was. */
 uint32_t fs_firsts(uint32_t model, const uint8_t *bench, size_t bench_len, const uint8_t *text,
                    size_t text_len, uint32_t *firsts, size_t firsts_len, uint32_t *faults,
                    fs_fault *fault);

@@ -47,10 +47,53 @@ static uint32_t detected(fs_job *job) {
     return found;
 }
 
-/* Texts and words that are wrong, and a job that two handles share. */
-static void wrong(fs_job *job) {
+/* A job that two handles share takes no tests. The last handle takes them again. */
+static void shared(fs_job *job) {
     fs_fault fault = {0};
     fs_job second = {0};
+    uint64_t right[5] = {1, 1, 1, 1, 1};
+    MUST(fs_job_share(&second, job) == FS_NO_JOB);
+    MUST(fs_job_share(job, &second) == FS_DONE);
+    MUST(fs_set_text(job, bytes("00000\n"), 6, &fault) == FS_SHARED);
+    MUST(fs_set_words(&second, 1, right, 5, &fault) == FS_SHARED);
+    MUST(detected(&second) == 14 && detected(job) == 14);
+    fs_job_free(&second);
+    MUST(fs_set_text(job, bytes("11111\n"), 6, &fault) == FS_DONE && detected(job) == 14);
+    MUST(fs_job_share(job, &second) == FS_DONE);
+    fs_job_free(job);
+    MUST(fs_set_words(&second, 1, right, 5, &fault) == FS_DONE && detected(&second) == 14);
+    MUST(fs_job_share(&second, job) == FS_DONE);
+    fs_job_free(&second);
+}
+
+/* New tests behind the last one: a buffer under 0 and then 1, which detects that a line is slow to
+ * rise. */
+static void next(void) {
+    fs_job job = {0};
+    fs_fault fault = {0};
+    fs_sizes n;
+    const char *buffer = "INPUT(a)\nOUTPUT(z)\nz = BUFF(a)\n";
+    uint64_t one[1] = {1}, idle[1] = {2}, lanes, many[1024] = {0};
+    uint32_t of[4];
+    MUST(fs_next_words(&job, 1, one, 1, &fault) == FS_NO_JOB);
+    MUST(fs_job_read(FS_TRANSITION, bytes(buffer), strlen(buffer), &job, &fault) == FS_DONE);
+    MUST(fs_classes_of(&job, of, 4) == FS_DONE);
+    MUST(fs_next_words(&job, 1, one, 1, &fault) == FS_DONE);
+    MUST(fs_sizes_of(&job, &n) == FS_DONE && n.tests == 1);
+    MUST(fs_set_text(&job, bytes("1\n0\n"), 4, &fault) == FS_DONE);
+    MUST(fs_next_words(&job, 1, one, 1, &fault) == FS_DONE);
+    MUST(fs_sizes_of(&job, &n) == FS_DONE && n.tests == 2);
+    MUST(fs_detecting(&job, of[0], 0, &lanes) == FS_DONE && lanes == 2);
+    MUST(fs_next_words(&job, 1, idle, 1, &fault) == FS_REFUSED && fault.kind == FS_WORDS_IDLE);
+    MUST(fs_next_words(&job, 65536, many, 1024, &fault) == FS_REFUSED);
+    MUST(fault.kind == FS_WORDS_MANY && fs_next_words(&job, 65535, many, 1024, &fault) == FS_DONE);
+    MUST(fs_sizes_of(&job, &n) == FS_DONE && n.tests == 65536 && n.blocks == 1024);
+    fs_job_free(&job);
+}
+
+/* Texts and words that are wrong. */
+static void wrong(fs_job *job) {
+    fs_fault fault = {0};
     uint64_t lanes = 7, word = 7, words[5] = {1, 1, 1, 1, 2};
     /* Under 11111 NAND(1, 3), signal 5, is 0. */
     MUST(fs_word(job, 0, 5, &word) == FS_DONE && (word & 1) == 0);
@@ -102,10 +145,6 @@ static void wrong(fs_job *job) {
     MUST(fs_set_words(job, 1, words, 4, &fault) == FS_REFUSED && fault.kind == FS_WORDS_COUNT);
     MUST(fs_set_text(job, bytes("11111\n111\n"), 10, &fault) == FS_REFUSED);
     MUST(fault.kind == FS_TESTS_WIDTH && fault.place == 2);
-    MUST(fs_job_share(job, &second) == FS_DONE);
-    MUST(fs_set_text(job, bytes("00000\n"), 6, &fault) == FS_SHARED);
-    MUST(detected(&second) == 14);
-    fs_job_free(&second);
     MUST(fs_job_read(FS_STUCK_AT, bytes("INPUT(a)\nz = AND(a, b)\n"), 23, job, &fault)
          == FS_REFUSED);
     MUST(fault.kind == FS_BENCH_UNDEFINED && fault.place == 2);
@@ -123,7 +162,9 @@ int main(void) {
     MUST(fs_set_text(&job, bytes("11111\n"), 6, &fault) == FS_DONE);
     MUST(fs_sizes_of(&job, &n) == FS_DONE);
     printf("%" PRIu32 " of %" PRIu32 "\n", detected(&job), n.faults);
+    shared(&job);
     wrong(&job);
+    next();
     fs_job_free(&job);
     fs_job_free(&job);
     MUST(fs_sizes_of(&job, &n) == FS_NO_JOB);

@@ -1,4 +1,5 @@
-/* A host's own threads: each has a handle that fs_job_share made, and simulates classes of its own.
+/* A host's own threads: each has a handle that fs_job_share made, and takes one share of the
+ * classes after another.
  *
  * usage: threads THREADS [BENCH TESTS]
  *
@@ -13,18 +14,38 @@
 #include <stdlib.h>
 #include <string.h>
 
-struct part {
-    fs_job job;
+/* Shares of the classes: share i ends before the place ends[i]. A thread takes the next one under
+ * the lock. */
+struct shares {
+    pthread_mutex_t lock;
+    size_t next, count;
+    const size_t *ends;
     const uint32_t *classes;
     uint32_t *firsts;
-    size_t count;
+};
+
+struct worker {
+    fs_job job;
+    struct shares *shares;
     uint32_t status;
 };
 
+static size_t next_share(struct shares *shares) {
+    pthread_mutex_lock(&shares->lock);
+    size_t share = shares->next++;
+    pthread_mutex_unlock(&shares->lock);
+    return share;
+}
+
 static void *run(void *it) {
-    struct part *part = it;
-    part->status = fs_simulate(&part->job, part->classes, part->count, part->firsts, part->count);
-    fs_job_free(&part->job);
+    struct worker *worker = it;
+    struct shares *all = worker->shares;
+    for (size_t i = next_share(all); i < all->count && !worker->status; i = next_share(all)) {
+        size_t from = i ? all->ends[i - 1] : 0, count = all->ends[i] - from;
+        worker->status = fs_simulate(&worker->job, all->classes + from, count, all->firsts + from,
+                                     count);
+    }
+    fs_job_free(&worker->job);
     return NULL;
 }
 
@@ -77,7 +98,20 @@ static int by_stem(const void *one, const void *other) {
     return (a > b) - (a < b);
 }
 
-/* Shares out all classes by whole regions, so that no two threads simulate one region. */
+/* Where shares of whole regions end, of so many classes in the order of their stems. */
+static size_t *cut(const uint32_t *classes, const uint32_t *stems, size_t count, size_t shares) {
+    size_t *ends = room(shares, sizeof *ends);
+    for (size_t i = 0, end = 0; i < shares; i++) {
+        end = count * (i + 1) / shares > end ? count * (i + 1) / shares : end;
+        while (end && end < count && stems[classes[end]] == stems[classes[end - 1]])
+            end++;
+        ends[i] = end;
+    }
+    return ends;
+}
+
+/* Shares out all classes by whole regions, so that no two threads simulate one region. There are
+ * several shares for each thread: one whose shares take long takes fewer. */
 static void simulate(fs_job *job, size_t threads, const fs_sizes *n, uint32_t *firsts) {
     uint32_t *classes = room(n->classes, sizeof *classes), *stems = room(n->classes, sizeof *stems);
     uint32_t *found = room(n->classes, sizeof *found);
@@ -87,30 +121,29 @@ static void simulate(fs_job *job, size_t threads, const fs_sizes *n, uint32_t *f
         classes[i] = i;
     stem_at = stems;
     qsort(classes, n->classes, sizeof *classes, by_stem);
-    struct part *parts = room(threads, sizeof *parts);
+    size_t *ends = cut(classes, stems, n->classes, 4 * threads);
+    struct shares shares = {
+        .count = 4 * threads, .ends = ends, .classes = classes, .firsts = found};
+    struct worker *workers = room(threads, sizeof *workers);
     pthread_t *ids = room(threads, sizeof *ids);
-    size_t from = 0;
+    if (pthread_mutex_init(&shares.lock, NULL))
+        end("no lock");
     for (size_t i = 0; i < threads; i++) {
-        size_t to = n->classes * (i + 1) / threads;
-        to = to < from ? from : to;
-        while (to > from && to < n->classes && stems[classes[to]] == stems[classes[to - 1]])
-            to++;
-        parts[i].classes = classes + from;
-        parts[i].firsts = found + from;
-        parts[i].count = to - from;
-        from = to;
-        if (fs_job_share(job, &parts[i].job) || pthread_create(&ids[i], NULL, run, &parts[i]))
+        workers[i].shares = &shares;
+        if (fs_job_share(job, &workers[i].job) || pthread_create(&ids[i], NULL, run, &workers[i]))
             end("no thread");
     }
     for (size_t i = 0; i < threads; i++)
-        if (pthread_join(ids[i], NULL) || parts[i].status)
-            end("a part failed");
+        if (pthread_join(ids[i], NULL) || workers[i].status)
+            end("a share failed");
     for (uint32_t i = 0; i < n->classes; i++)
         firsts[classes[i]] = found[i];
+    pthread_mutex_destroy(&shares.lock);
     free(classes);
     free(stems);
     free(found);
-    free(parts);
+    free(ends);
+    free(workers);
     free(ids);
 }
 

@@ -35,9 +35,14 @@ int main() {
         std::size_t half = whole.size() / 2;
         std::jthread back([&] { second.simulate(whole.subspan(half), found.subspan(half)); });
         job.simulate(whole.first(half), found.first(half));
-        if (!fails_with(FS_SHARED, [&] { job.set_text("00000\n"); }))
+        auto is_shared = [&](faultsim::Job &it) {
+            return fails_with(FS_SHARED, [&] { it.set_text("00000\n"); });
+        };
+        back.join();
+        if (!is_shared(job) || !is_shared(second))
             return 1;
     }
+    job.set_text("11111\n");
     auto of = job.classes_of();
     auto found = std::ranges::count_if(of, [&](auto it) { return firsts[it] != FS_NONE; });
     std::printf("%td of %zu\n", found, of.size());
@@ -51,6 +56,14 @@ int main() {
     if (job.observers().size() != 2 || shown.size() != 2 || !(shown[0] & 1) || (shown[1] & 1))
         return 1;
     if (job.report() != "14 of 34 (41.17%)\n")
+        return 1;
+    if (auto covered = job.coverage(); covered.detected != 14 || covered.faults != 34)
+        return 1;
+    // A buffer: under 0 and then 1 the 1 detects that a line is slow to rise.
+    faultsim::Job buffer("INPUT(a)\nOUTPUT(z)\nz = BUFF(a)\n", faultsim::Model::transition);
+    buffer.set_text("0\n");
+    buffer.next_words(1, std::array<std::uint64_t, 1>{1});
+    if (buffer.sizes().tests != 2 || buffer.detecting(buffer.classes_of()[0], 0) != 2)
         return 1;
     faultsim::Job moved = std::move(job);
     try {

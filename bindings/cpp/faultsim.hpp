@@ -10,6 +10,7 @@
 #include <cstdint>
 #include <iterator>
 #include <new>
+#include <numeric>
 #include <optional>
 #include <span>
 #include <stdexcept>
@@ -79,6 +80,11 @@ private:
     }
 };
 
+// How many faults the tests of a job detect, and how many there are.
+struct Coverage {
+    std::uint32_t detected, faults;
+};
+
 // A circuit, its faults in classes, and tests.
 class Job {
 public:
@@ -127,6 +133,13 @@ public:
     void set_words(std::uint32_t count, std::span<const std::uint64_t> words) {
         fs_fault fault{};
         check(fs_set_words(&handle, count, at(words), words.size(), &fault), fault);
+    }
+
+    // Takes tests in words behind the job's last test, which is test 0 of the new list: so the pair of
+    // it and the first new test isn't lost.
+    void next_words(std::uint32_t count, std::span<const std::uint64_t> words) {
+        fs_fault fault{};
+        check(fs_next_words(&handle, count, at(words), words.size(), &fault), fault);
     }
 
     // Returns the class of each fault.
@@ -202,6 +215,19 @@ public:
     // equal.
     void simulate(std::span<const std::uint32_t> classes, std::span<std::uint32_t> firsts) {
         check(fs_simulate(&handle, at(classes), classes.size(), at(firsts), firsts.size()));
+    }
+
+    // Returns how many faults the tests detect, and how many there are.
+    Coverage coverage() {
+        std::vector<std::uint32_t> classes(sizes().classes), firsts(classes.size());
+        std::iota(classes.begin(), classes.end(), 0u);
+        simulate(classes, firsts);
+        Coverage coverage{0, 0};
+        for (std::uint32_t class_number : classes_of()) {
+            coverage.detected += firsts[class_number] != FS_NONE;
+            coverage.faults++;
+        }
+        return coverage;
     }
 
     // Returns a word: bit k is 1 exactly if test 64 * block + k detects the class.

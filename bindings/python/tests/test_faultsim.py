@@ -100,6 +100,29 @@ class Tests(unittest.TestCase):
                     job.set_tests(tests, count)
                 self.assertEqual((job.tests, job.coverage()), (1, (3, 6)))
 
+    def test_pair_over_the_edge(self):
+        # A buffer: under 0 and then 1 the 1 detects that a line is slow to rise.
+        with faultsim.Job("INPUT(a)\nOUTPUT(z)\nz = BUFF(a)\n", faultsim.Model.TRANSITION) as job:
+            rise = int(job.classes_of()[0])
+            for tests, count in (([[1]], None), ([1], 1)):
+                job.set_tests("0\n")
+                job.set_tests(tests, count)
+                self.assertEqual((job.tests, job.detecting(rise, 0)), (1, 0))
+                job.set_tests("1\n0\n")
+                job.set_tests(tests, count, keep_last=True)
+                self.assertEqual((job.tests, job.detecting(rise, 0)), (2, 0b10))
+            # 64 more stand in two blocks: test 64 is the last of them.
+            job.set_tests([[0]] * 63 + [[1]], keep_last=True)
+            self.assertEqual((job.tests, job.blocks, job.detecting(rise, 1)), (65, 2, 1))
+            with self.assertRaises(TypeError):
+                job.set_tests("1\n", keep_last=True)
+            with self.assertRaises(faultsim.Error) as caught:
+                job.set_tests([0] * 1024, 65536, keep_last=True)
+            self.assertEqual((caught.exception.kind, job.tests), (12, 65))
+        with faultsim.Job(AND) as job:
+            job.set_tests([[1, 1]], keep_last=True)
+            self.assertEqual(job.tests, 1)
+
     def test_rows_past_a_block(self):
         # Test 70 alone is 11, which detects z stuck at 0; no test before it does.
         rows = [[0, 1]] * 70 + [[1, 1]]
@@ -187,10 +210,39 @@ class Threads(unittest.TestCase):
 
     def test_shared_tests_stay(self):
         with faultsim.Job(AND) as job, job.share() as other:
-            with self.assertRaises(RuntimeError):
-                job.set_tests("11\n")
+            for it in (job, other):
+                with self.assertRaises(RuntimeError):
+                    it.set_tests("11\n")
             other.close()
             job.set_tests("11\n")
+
+    def test_new_tests_after_workers(self):
+        with faultsim.Job(AND) as job:
+            for tests, wanted in (("11\n", (3, 6)), ("11\n01\n", (5, 6))):
+                job.set_tests(tests)
+                for _ in range(2):
+                    self.assertEqual(job.coverage(workers=3), wanted)
+
+    def test_workers_on_lists(self):
+        # Two chains: classes of many regions, in any order and more than once.
+        gates = "".join(f"{n}{i} = NAND({n}{i - 1}, a)\n" for i in range(1, 300) for n in "xy")
+        heads = "INPUT(a)\nOUTPUT(x299)\nOUTPUT(y299)\nx0 = NOT(a)\ny0 = BUFF(x7)\n"
+        with faultsim.Job(heads + gates) as job:
+            job.set_tests("0\n1\n")
+            all_firsts = [int(it) for it in job.simulate()]
+            for classes in (
+                range(job.classes),
+                range(job.classes - 1, -1, -1),
+                [5, 3, 5, 0, job.classes - 1] * 40,
+                [2],
+                [],
+            ):
+                found = [int(it) for it in job.simulate(classes, workers=3)]
+                self.assertEqual(found, [all_firsts[it] for it in classes])
+            for wrong in ([0, job.classes], [-1, 0]):
+                with self.assertRaises(IndexError):
+                    job.simulate(wrong, workers=2)
+            self.assertEqual([int(it) for it in job.simulate(workers=2)], all_firsts)
 
     def test_threads_of_one_job(self):
         # A chain long enough for the calls of several threads to meet.

@@ -148,6 +148,17 @@ impl Job {
         told(status, fault)
     }
 
+    /// Takes tests in words as [`Job::set_words`] does, but behind the job's last test, which is test
+    /// 0 of the new list: so the pair of it and the first new test isn't lost.
+    pub fn next_words(&mut self, count: u32, words: &[u64]) -> Result<(), Error> {
+        let mut fault = Fault::default();
+        // SAFETY: as above.
+        let status = unsafe {
+            sys::fs_next_words(&mut self.0, count, words.as_ptr(), words.len(), &mut fault)
+        };
+        told(status, fault)
+    }
+
     /// Takes the tests of a text in place of the job's: a line of 0s and 1s for each.
     pub fn set_text(&mut self, text: &[u8]) -> Result<(), Error> {
         let mut fault = Fault::default();
@@ -304,6 +315,13 @@ impl Job {
         };
         told(status, Fault::default())?;
         Ok(counts)
+    }
+
+    /// Tells how many faults the job's tests detect, and how many there are.
+    pub fn coverage(&mut self) -> Result<(u32, u32), Error> {
+        let firsts: Vec<_> = self.faults()?.map(|it| it.first).collect();
+        let found = firsts.iter().filter(|it| it.is_some()).count();
+        Ok((found as u32, firsts.len() as u32))
     }
 
     /// Iterates over the faults, each with its class and the first test that detects it.

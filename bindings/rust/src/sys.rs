@@ -60,6 +60,13 @@ extern "C" {
         words_len: usize,
         fault: *mut Fault,
     ) -> u32;
+    pub fn fs_next_words(
+        job: *mut Handle,
+        count: u32,
+        words: *const u64,
+        words_len: usize,
+        fault: *mut Fault,
+    ) -> u32;
     pub fn fs_set_text(
         job: *mut Handle,
         text: *const u8,

@@ -12,6 +12,7 @@ fn one_test_detects_14_of_34() -> Result<(), Error> {
     job.set_text(b"11111\n")?;
     assert_eq!(job.faults()?.filter(|it| it.first == Some(0)).count(), 14);
     assert_eq!(job.faults()?.count(), 34);
+    assert_eq!(job.coverage()?, (14, 34));
     // Under 11111 NAND(1, 3), signal 5, is 0.
     assert_eq!((job.word(0, 0)? & 1, job.word(0, 5)? & 1), (1, 0));
     assert_eq!((job.source_of(4), job.source_of(5)), (Some(4), None));
@@ -55,6 +56,19 @@ fn words_are_the_same_tests() -> Result<(), Error> {
 }
 
 #[test]
+fn the_pair_over_the_edge_is_kept() -> Result<(), Error> {
+    // A buffer: under 0 and then 1 the 1 detects that a line is slow to rise.
+    let mut job = Job::read(Model::Transition, b"INPUT(a)\nOUTPUT(z)\nz = BUFF(a)\n")?;
+    let rise = job.classes_of()[0];
+    job.set_text(b"0\n")?;
+    job.next_words(1, &[1])?;
+    assert_eq!((job.sizes().tests, job.detecting(rise, 0)?), (2, 0b10));
+    job.set_words(1, &[1])?;
+    assert_eq!((job.sizes().tests, job.detecting(rise, 0)?), (1, 0));
+    Ok(())
+}
+
+#[test]
 fn two_threads_share_a_job() -> Result<(), Error> {
     let mut job = Job::read(Model::StuckAt, C17)?;
     job.set_text(b"11111\n")?;
@@ -62,6 +76,7 @@ fn two_threads_share_a_job() -> Result<(), Error> {
     let (front, back) = classes.split_at(classes.len() / 2);
     let mut second = job.share()?;
     assert_eq!(job.set_text(b"00000\n"), Err(Error::Shared));
+    assert_eq!(second.set_words(1, &[1; 5]), Err(Error::Shared));
     let parts = std::thread::scope(|scope| {
         let other = scope.spawn(move || second.simulate(back));
         let mut all = job.simulate(front)?;

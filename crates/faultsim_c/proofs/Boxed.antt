@@ -1,4 +1,4 @@
--- A session's box, and the rows of what holds its pointer.
+-- The box of what a handle has, and the rows of what holds its pointer.
 use mathlib.Core.List.{[]}
 use mir.Syntax.{impl, tnil, dnil}
 use denote.Signature.{Slot, plain}
@@ -7,7 +7,7 @@ use Rattle.std.proofs.alloc.Calls.{Al}
 use Rattle.std_heap.specs.contracts.Global as heap
 use Rattle.std_heap.specs.contracts.GlobalAllocator.TheImpl.{ghosts, dict}
 use Rattle.std_heap.proofs.Global.TheLaws as heap_laws
-use Rattle.faultsim_c.specs.contracts.session.Session as session
+use Rattle.faultsim_c.specs.contracts.holding.Holding as holding
 use Rattle.faultsim_c.specs.contracts.taken.Taken as taken
 use Rattle.faultsim_c.specs.contracts.held.Held as held
 
@@ -26,10 +26,10 @@ abbrev pub handle : Slot 0
 handle = plain (λ _. heap.the_row)
 
 abbrev pub taken_type : Owning
-taken_type = taken.the_type session.the_row heap.the_row ghosts
+taken_type = taken.the_type holding.the_row heap.the_row ghosts
 
-abbrev pub taken_session : Slot 0
-taken_session = plain (λ _. row taken_type)
+abbrev pub taken_holding : Slot 0
+taken_holding = plain (λ _. row taken_type)
 
-abbrev pub held_session : Slot 0
-held_session = plain (λ _. held.the_row)
+abbrev pub held_handle : Slot 0
+held_handle = plain (λ _. held.the_row)

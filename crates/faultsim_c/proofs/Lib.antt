@@ -6,3 +6,4 @@ mod Tables
 mod Options
 mod ObservedSignals
 mod ListsOfJobs
+mod LastTests

@@ -1,8 +1,11 @@
 -- What the status says of why tests in words aren't taken.
-use Rattle.std.proofs.Common.{◌≡◌, ◌⊎◌, inl, inr, ℕ, List, subst, arith}
+use Rattle.std.proofs.Common.{◌≡◌, ◌⊎◌, inl, inr, ℕ, Bool, false, List, refl, subst, arith}
 use Rattle.patterns.specs.Making.{IsWordsRefusal}
 use Rattle.patterns.specs.declared.WordsFault.{WordsFault}
 use Rattle.patterns.specs.declared.WordsFault.TheVariants as words
+use Rattle.bench_net.specs.declared.BenchFault.TheVariants as bench
+use Rattle.patterns.specs.declared.TestFault.TheVariants as tests
+use Rattle.faultsim_c.specs.Told.{AreTooMany, IsNextRefusal, IsNextReply, IsTestsReply, IsUntaken}
 use Rattle.faultsim_c.specs.Told.{IsWordsReply, told_fault, told_status}
 use Rattle.faultsim_c.specs.declared.status.FsFault.{FsFault}
 use Rattle.faultsim_c.specs.declared.status.Refusal.{Refusal}
@@ -22,12 +25,121 @@ words_fault width count ws f (inl e) three =
 words_fault width count ws f (inr is) three = is
 
 -- they are refused where the status is 3, and the fault tells why
-pub words_refused : (width count : ℕ) (ws : List ℕ) (r : Refusal) (told : FsFault)
-    → IsWordsReply width count ws r → told_status r ≡ 3 → told ≡ told_fault r
+pub words_refused : (alone : Bool) (width count : ℕ) (ws : List ℕ) (r : Refusal) (told : FsFault)
+    → IsWordsReply alone width count ws r → told_status r ≡ 3 → told ≡ told_fault r
     → (f : WordsFault) × IsWordsRefusal width count ws f × (told ≡ told_fault (refusal.Words f))
-words_refused width count ws (refusal.Words f) told is three tells =
+words_refused alone width count ws (refusal.Words f) told is three tells =
     (f, words_fault width count ws f is three, tells)
-words_refused width count ws refusal.Memory told is three tells = absurd (two_three three)
-words_refused width count ws refusal.Shared told is three tells = absurd (five_three three)
-words_refused width count ws (refusal.Bench f) told is three tells = absurd is
-words_refused width count ws (refusal.Tests f) told is three tells = absurd is
+words_refused alone width count ws refusal.Memory told is three tells = absurd (two_three three)
+words_refused alone width count ws refusal.Shared told is three tells = absurd (five_three three)
+words_refused alone width count ws (refusal.Bench f) told is three tells = absurd is
+words_refused alone width count ws (refusal.Tests f) told is three tells = absurd is
+
+two_five : ◌≡◌ {A = ℕ} 2 5 → ⊥
+two_five e = omega (arith, e)
+
+three_five : ◌≡◌ {A = ℕ} 3 5 → ⊥
+three_five e = omega (arith, e)
+
+-- the status 5 tells of a job that is shared alone
+is_shared : (r : Refusal) → told_status r ≡ 5 → r ≡ refusal.Shared
+is_shared refusal.Shared five = refl
+is_shared refusal.Memory five = absurd (two_five five)
+is_shared (refusal.Bench bench.Memory) five = absurd (two_five five)
+is_shared (refusal.Bench (bench.TooLarge limit)) five = absurd (three_five five)
+is_shared (refusal.Bench (bench.Syntax line)) five = absurd (three_five five)
+is_shared (refusal.Bench (bench.Redefined line)) five = absurd (three_five five)
+is_shared (refusal.Bench (bench.Undefined line)) five = absurd (three_five five)
+is_shared (refusal.Bench (bench.Cycle line)) five = absurd (three_five five)
+is_shared (refusal.Bench bench.Empty) five = absurd (three_five five)
+is_shared (refusal.Tests tests.Memory) five = absurd (two_five five)
+is_shared (refusal.Tests (tests.BadByte line)) five = absurd (three_five five)
+is_shared (refusal.Tests (tests.BadWidth line)) five = absurd (three_five five)
+is_shared (refusal.Tests tests.TooMany) five = absurd (three_five five)
+is_shared (refusal.Words words.Memory) five = absurd (two_five five)
+is_shared (refusal.Words words.TooMany) five = absurd (three_five five)
+is_shared (refusal.Words words.BadCount) five = absurd (three_five five)
+is_shared (refusal.Words (words.IdleBits source)) five = absurd (three_five five)
+
+-- so the handle isn't alone, where words aren't taken
+pub words_shared : (alone : Bool) (width count : ℕ) (ws : List ℕ) (r : Refusal)
+    → IsWordsReply alone width count ws r → told_status r ≡ 5 → alone ≡ false
+words_shared alone width count ws r is five =
+    subst (IsWordsReply alone width count ws) (is_shared r five) is
+
+-- and where a text isn't
+pub tests_shared : (alone : Bool) (width : ℕ) (text : List ℕ) (r : Refusal)
+    → IsTestsReply alone width text r → told_status r ≡ 5 → alone ≡ false
+tests_shared alone width text r is five =
+    subst (IsTestsReply alone width text) (is_shared r five) is
+
+-- tests in words that are right aren't taken
+pub words_untaken : (alone : Bool) (width count : ℕ) (ws : List ℕ) (r : Refusal)
+    → IsUntaken alone r → IsWordsReply alone width count ws r
+words_untaken alone width count ws refusal.Memory is = tt
+words_untaken alone width count ws refusal.Shared is = is
+words_untaken alone width count ws (refusal.Bench f) is = absurd is
+words_untaken alone width count ws (refusal.Tests f) is = absurd is
+words_untaken alone width count ws (refusal.Words f) is = absurd is
+
+-- tests of a text that is right aren't taken
+pub tests_untaken : (alone : Bool) (width : ℕ) (text : List ℕ) (r : Refusal)
+    → IsUntaken alone r → IsTestsReply alone width text r
+tests_untaken alone width text refusal.Memory is = tt
+tests_untaken alone width text refusal.Shared is = is
+tests_untaken alone width text (refusal.Bench f) is = absurd is
+tests_untaken alone width text (refusal.Tests f) is = absurd is
+tests_untaken alone width text (refusal.Words f) is = absurd is
+
+next_fault : (old : List (List Bool)) (width count : ℕ) (ws : List ℕ) (f : WordsFault)
+    → (f ≡ words.Memory) ⊎ (IsWordsRefusal width count ws f ⊎ AreTooMany old count f)
+    → told_status (refusal.Words f) ≡ 3 → IsWordsRefusal width count ws f ⊎ AreTooMany old count f
+next_fault old width count ws f (inl e) three =
+    absurd (two_three (subst (λ (g : WordsFault). told_status (refusal.Words g) ≡ 3) e three))
+next_fault old width count ws f (inr is) three = is
+
+-- words are refused behind the last of other tests where the status is 3
+pub next_refused : (alone : Bool) (old : List (List Bool)) (width count : ℕ) (ws : List ℕ)
+    (r : Refusal) (told : FsFault) → IsNextReply alone old width count ws r → told_status r ≡ 3
+    → told ≡ told_fault r → (f : WordsFault)
+    × (IsWordsRefusal width count ws f ⊎ AreTooMany old count f)
+    × (told ≡ told_fault (refusal.Words f))
+next_refused alone old width count ws (refusal.Words f) told is three tells =
+    (f, next_fault old width count ws f is three, tells)
+next_refused alone old width count ws refusal.Memory told is three tells =
+    absurd (two_three three)
+next_refused alone old width count ws refusal.Shared told is three tells =
+    absurd (five_three three)
+next_refused alone old width count ws (refusal.Bench f) told is three tells = absurd is
+next_refused alone old width count ws (refusal.Tests f) told is three tells = absurd is
+
+-- a handle of which the status is 5 then isn't alone
+pub next_shared : (alone : Bool) (old : List (List Bool)) (width count : ℕ) (ws : List ℕ)
+    (r : Refusal) → IsNextReply alone old width count ws r → told_status r ≡ 5 → alone ≡ false
+next_shared alone old width count ws r is five =
+    subst (IsNextReply alone old width count ws) (is_shared r five) is
+
+-- tests behind the last of others aren't taken
+pub next_untaken : (alone : Bool) (old : List (List Bool)) (width count : ℕ) (ws : List ℕ)
+    (r : Refusal) → IsUntaken alone r → IsNextReply alone old width count ws r
+next_untaken alone old width count ws refusal.Memory is = tt
+next_untaken alone old width count ws refusal.Shared is = is
+next_untaken alone old width count ws (refusal.Bench f) is = absurd is
+next_untaken alone old width count ws (refusal.Tests f) is = absurd is
+next_untaken alone old width count ws (refusal.Words f) is = absurd is
+
+-- they are too many
+pub next_many : (alone : Bool) (old : List (List Bool)) (width count : ℕ) (ws : List ℕ)
+    (r : Refusal) → IsNextRefusal old count r → IsNextReply alone old width count ws r
+next_many alone old width count ws refusal.Memory is = tt
+next_many alone old width count ws (refusal.Words f) is = inr (inr is)
+next_many alone old width count ws refusal.Shared is = absurd is
+next_many alone old width count ws (refusal.Bench f) is = absurd is
+next_many alone old width count ws (refusal.Tests f) is = absurd is
+
+-- words that are refused whatever stands before them
+pub words_or_many : (old : List (List Bool)) (width count : ℕ) (ws : List ℕ) (f : WordsFault)
+    → (f ≡ words.Memory) ⊎ IsWordsRefusal width count ws f
+    → (f ≡ words.Memory) ⊎ (IsWordsRefusal width count ws f ⊎ AreTooMany old count f)
+words_or_many old width count ws f (inl e) = inl e
+words_or_many old width count ws f (inr is) = inr (inl is)

@@ -1,6 +1,6 @@
 -- What calls from C answer.
 use Rattle.std.specs.Prelude.{◌≡◌, ℕ, ◌+◌, ◌*◌, ◌<◌, ◌≤◌, [], ◌++◌, All, Bool, List, length, drop}
-use Rattle.std.specs.Prelude.{map}
+use Rattle.std.specs.Prelude.{map, false, true}
 use Rattle.std.specs.Prelude.{Option, Some, None}
 use Rattle.std.specs.Prelude.{slice_get, slice_index, slice_index_or, nat_eq, if◌then◌else◌}
 use Rattle.bench_net.specs.Refusal.{IsAccepted}
@@ -21,6 +21,20 @@ use Rattle.report.specs.declared.contents.Lines.{Lines}
 use Rattle.report.specs.declared.contents.Lines.TheVariants.{Omitted, Undetected}
 use Rattle.report.specs.declared.contents.Lines.TheVariants as lines
 use Rattle.faultsim_c.specs.declared.FsSizes.{FsSizes}
+use Rattle.faultsim_c.specs.declared.holding.Holding.{Holding}
+
+-- the job of a handle, by what it has
+abbrev pub job_of : Option Holding → Option Parts
+job_of (Some h) = Some h.session
+job_of None = None
+
+-- what a handle has that alone has its job
+abbrev pub alone_with : Parts → Holding
+alone_with parts = record { session = parts; alone = true }
+
+-- what a handle has that was given its job by another one, or gave it to one
+abbrev pub shared_with : Parts → Holding
+shared_with parts = record { session = parts; alone = false }
 
 -- the numbers of the models
 abbrev pub IsModelNumber : ℕ → Model → Type 0

@@ -1,5 +1,5 @@
 -- What C is told of a call that isn't done.
-use Rattle.std.specs.Prelude.{◌≡◌, ◌⊎◌, ⊤, ℕ, List, length}
+use Rattle.std.specs.Prelude.{◌≡◌, ◌⊎◌, ◌+◌, ◌<◌, ⊤, ℕ, Bool, false, List, length}
 use Rattle.bench_net.specs.Refusal.{IsAccepted, IsRefused}
 use Rattle.bench_net.specs.Scan.{sources}
 use Rattle.bench_net.specs.Statement.{Statement}
@@ -7,10 +7,12 @@ use Rattle.bench_net.specs.declared.BenchFault.{BenchFault}
 use Rattle.bench_net.specs.declared.BenchFault.TheVariants as bench
 use Rattle.bench_net.specs.declared.Limit.TheVariants as limit
 use Rattle.patterns.specs.Making.{IsWordsRefusal}
-use Rattle.patterns.specs.Tests.{IsTestRefusal}
+use Rattle.patterns.specs.Tests.{IsTestRefusal, max_tests}
 use Rattle.patterns.specs.declared.TestFault.{TestFault}
 use Rattle.patterns.specs.declared.TestFault.TheVariants as tests
+use Rattle.patterns.specs.declared.WordsFault.{WordsFault}
 use Rattle.patterns.specs.declared.WordsFault.TheVariants as words
+use Rattle.faultsim_c.specs.Following.{last_of}
 use Rattle.faultsim_c.specs.declared.status.FsFault.{FsFault}
 use Rattle.faultsim_c.specs.declared.status.Refusal.{Refusal}
 use Rattle.faultsim_c.specs.declared.status.Refusal.TheVariants as refusal
@@ -56,20 +58,44 @@ IsBenchReply netlist (refusal.Bench f) = (f ≡ bench.Memory) ⊎ IsRefused netl
 IsBenchReply netlist refusal.Memory = ⊤
 IsBenchReply netlist _ = ⊥
 
+-- why tests that are right aren't taken: by a handle that alone has the job for want of memory only
+abbrev pub IsUntaken : Bool → Refusal → Type 0
+IsUntaken alone refusal.Memory = ⊤
+IsUntaken alone refusal.Shared = alone ≡ false
+IsUntaken alone _ = ⊥
+
 -- why the tests of a text aren't taken
-abbrev pub IsTestsReply : ℕ → List ℕ → Refusal → Type 0
-IsTestsReply width text (refusal.Tests f) = (f ≡ tests.Memory) ⊎ IsTestRefusal text width f
-IsTestsReply width text refusal.Memory = ⊤
-IsTestsReply width text refusal.Shared = ⊤
-IsTestsReply width text _ = ⊥
+abbrev pub IsTestsReply : Bool → ℕ → List ℕ → Refusal → Type 0
+IsTestsReply alone width text (refusal.Tests f) = (f ≡ tests.Memory) ⊎ IsTestRefusal text width f
+IsTestsReply alone width text refusal.Memory = ⊤
+IsTestsReply alone width text refusal.Shared = alone ≡ false
+IsTestsReply alone width text _ = ⊥
 
 -- why tests in words aren't taken
-abbrev pub IsWordsReply : ℕ → ℕ → List ℕ → Refusal → Type 0
-IsWordsReply width count ws (refusal.Words f) =
+abbrev pub IsWordsReply : Bool → ℕ → ℕ → List ℕ → Refusal → Type 0
+IsWordsReply alone width count ws (refusal.Words f) =
     (f ≡ words.Memory) ⊎ IsWordsRefusal width count ws f
-IsWordsReply width count ws refusal.Memory = ⊤
-IsWordsReply width count ws refusal.Shared = ⊤
-IsWordsReply width count ws _ = ⊥
+IsWordsReply alone width count ws refusal.Memory = ⊤
+IsWordsReply alone width count ws refusal.Shared = alone ≡ false
+IsWordsReply alone width count ws _ = ⊥
+
+-- so many tests are too many behind the last of others
+abbrev pub AreTooMany : List (List Bool) → ℕ → WordsFault → Type 0
+AreTooMany old count f = (f ≡ words.TooMany) × (max_tests < length (last_of old) + count)
+
+-- why so many tests aren't put behind the last of others
+abbrev pub IsNextRefusal : List (List Bool) → ℕ → Refusal → Type 0
+IsNextRefusal old count (refusal.Words f) = AreTooMany old count f
+IsNextRefusal old count refusal.Memory = ⊤
+IsNextRefusal old count _ = ⊥
+
+-- why tests in words aren't taken behind the last of others
+abbrev pub IsNextReply : Bool → List (List Bool) → ℕ → ℕ → List ℕ → Refusal → Type 0
+IsNextReply alone old width count ws (refusal.Words f) =
+    (f ≡ words.Memory) ⊎ (IsWordsRefusal width count ws f ⊎ AreTooMany old count f)
+IsNextReply alone old width count ws refusal.Memory = ⊤
+IsNextReply alone old width count ws refusal.Shared = alone ≡ false
+IsNextReply alone old width count ws _ = ⊥
 
 -- the circuit is accepted, and its tests are refused
 abbrev pub IsRefusedFor : List ℕ → List ℕ → TestFault → Type 0

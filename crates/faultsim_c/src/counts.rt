@@ -2,7 +2,7 @@
 
 ghost use Rattle.std.specs.Prelude.{◌≡◌, ◌≢◌, ◌<◌, All, None, Some, length};
 ghost use Rattle.block_sim.specs.Parts.{Parts};
-ghost use Rattle.faultsim_c.specs.Calls.{AreClassCounts, AreRequests};
+ghost use Rattle.faultsim_c.specs.Calls.{AreClassCounts, AreRequests, job_of};
 
 use crate::are_classes;
 use crate::handle::{FsJob, put, take};
@@ -20,20 +20,20 @@ pub extern "C" fn fs_detections(
     most: u32,
     counts: &mut [u32],
 ) -> u32
-    ensures done { (parts : Parts) → job.old.held.session ≡ Some parts
+    ensures done { (parts : Parts) → job_of job.old.held.holding ≡ Some parts
         → AreRequests parts classes.now counts.old
         → (result ≡ 0) × AreClassCounts parts classes.now most counts.new }
-    ensures range { (parts : Parts) → job.old.held.session ≡ Some parts
+    ensures range { (parts : Parts) → job_of job.old.held.holding ≡ Some parts
         → ¬ AreRequests parts classes.now counts.old → result ≡ 4 }
-    ensures no_job { job.old.held.session ≡ None → result ≡ 1 }
+    ensures no_job { job.old.held.holding ≡ None → result ≡ 1 }
     ensures untouched { result ≢ 0 → counts.new ≡ counts.old }
-    ensures kept { job.new.held.session ≡ job.old.held.session }
+    ensures kept { job.new.held.holding ≡ job.old.held.holding }
 {
-    let Some(mut session) = take(alloc, job) else {
+    let Some(mut holding) = take(alloc, job) else {
         return NO_JOB;
     };
-    let status = detections_in(&mut session, classes, most, counts);
-    put(alloc, job, session);
+    let status = detections_in(&mut holding.session, classes, most, counts);
+    put(alloc, job, holding);
     status
 }
 

@@ -1,8 +1,10 @@
 //! A handle that C keeps: a job, or none.
 
 ghost use Rattle.std.specs.Prelude.{◌≡◌, ◌≢◌, ◌↔◌, ◌⊎◌, IfNone, IfSome, IsSome, IsTrue, None, Some};
+ghost use Rattle.faultsim_c.specs.Calls.{alone_with, job_of};
 
 use crate::held::Held;
+use crate::holding::Holding;
 use crate::session::Session;
 use crate::status::{DONE, MEMORY};
 use crate::taken::Taken;
@@ -14,12 +16,12 @@ use std::mem::replace;
 pub struct FsJob {
     live: bool,
     pub(crate) held: Held,
-    ghost told: { IsTrue live ↔ IsSome held.session },
+    ghost told: { IsTrue live ↔ IsSome held.holding },
 }
 
 /// Makes a handle of no job.
 fn none(alloc: Global) -> FsJob
-    ensures { result.held.session ≡ None }
+    ensures { result.held.holding ≡ None }
 {
     FsJob {
         live: false,
@@ -27,11 +29,12 @@ fn none(alloc: Global) -> FsJob
     }
 }
 
-/// Takes the session out of a handle, if it has one.
-pub(crate) fn take(alloc: Global, job: &mut FsJob) -> Option<Box<Session>>
-    ensures some { IfSome result (λ session. job.old.held.session ≡ Some session.value) }
-    ensures none { IfNone result (job.old.held.session ≡ None) }
-    ensures empty { job.new.held.session ≡ None }
+/// Takes out of a handle what it has, if it has a job.
+pub(crate) fn take(alloc: Global, job: &mut FsJob) -> Option<Box<Holding>>
+    ensures some { IfSome result (λ h. job.old.held.holding ≡ Some h.value) }
+    ensures job { IfSome result (λ h. job_of job.old.held.holding ≡ Some h.value.session) }
+    ensures none { IfNone result (job.old.held.holding ≡ None) }
+    ensures empty { job.new.held.holding ≡ None }
 {
     let FsJob { live, held } = replace(job, none(alloc));
     if live {
@@ -42,28 +45,29 @@ pub(crate) fn take(alloc: Global, job: &mut FsJob) -> Option<Box<Session>>
     }
 }
 
-/// Puts a session into a handle, and frees what the handle had.
-pub(crate) fn put(alloc: Global, job: &mut FsJob, session: Box<Session>)
-    ensures { job.new.held.session ≡ Some session.value }
+/// Puts something into a handle, and frees what the handle had.
+pub(crate) fn put(alloc: Global, job: &mut FsJob, holding: Box<Holding>)
+    ensures { job.new.held.holding ≡ Some holding.value }
 {
     drop(take(alloc, job));
     let handle = FsJob {
         live: true,
-        held: Held::of(Taken::of(session)),
+        held: Held::of(Taken::of(holding)),
     };
     let FsJob { live: _, held } = replace(job, handle);
     held.nothing();
 }
 
-/// Gives a handle a session of its own.
+/// Gives a handle a session that no other handle shares.
 pub(crate) fn give(alloc: Global, job: &mut FsJob, session: Session) -> u32
-    ensures done { result ≡ 0 → job.new.held.session ≡ Some session }
+    ensures done { result ≡ 0 → job.new.held.holding ≡ Some (alone_with session) }
     ensures statuses { (result ≡ 0) ⊎ (result ≡ 2) }
-    ensures kept { result ≢ 0 → job.new.held.session ≡ job.old.held.session }
+    ensures kept { result ≢ 0 → job.new.held.holding ≡ job.old.held.holding }
 {
-    match Box::new(alloc, session) {
-        Ok(session) => {
-            put(alloc, job, session);
+    let alone = true;
+    match Box::new(alloc, Holding { session, alone }) {
+        Ok(holding) => {
+            put(alloc, job, holding);
             DONE
         }
         Err(_) => MEMORY,

@@ -3,29 +3,29 @@
 ghost use Rattle.std.specs.Prelude.{◌≡◌, Option, Some, None};
 ghost use Rattle.faultsim_c.specs.Held.{Value, held_by, value_coded};
 
-use crate::session::Session;
+use crate::holding::Holding;
 use crate::taken::Taken;
 use std::alloc::Global;
 use std::marker::Model;
 use std::ptr::null_mut;
 
-/// A pointer that owns a session, or null. Its type names no type of this library, so that it
+/// A pointer that owns what the handle has, or null. Its type names no type of this library, so that it
 /// crosses to C.
 #[repr(C)]
 pub struct Held {
     at: *mut u8,
     alloc: Global,
-    pub ghost session: { Option Value } by { value_coded },
+    pub ghost holding: { Option Value } by { value_coded },
 }
 
 impl Model for Held {
-    ghost also_owns = { λ h. held_by h.alloc h.at h.session };
+    ghost also_owns = { λ h. held_by h.alloc h.at h.holding };
 }
 
 impl Held {
     /// Holds nothing.
     pub(crate) fn none(alloc: Global) -> Held
-        ensures { result.session ≡ None }
+        ensures { result.holding ≡ None }
     {
         Held {
             at: null_mut(),
@@ -33,9 +33,9 @@ impl Held {
         }
     }
 
-    /// Holds a session.
-    pub(crate) fn of(taken: Taken<Session, Global>) -> Held
-        ensures { result.session ≡ Some taken.value }
+    /// Holds what a handle has.
+    pub(crate) fn of(taken: Taken<Holding, Global>) -> Held
+        ensures { result.holding ≡ Some taken.value }
     {
         let Taken { ptr, alloc } = taken;
         Held {
@@ -44,25 +44,25 @@ impl Held {
         }
     }
 
-    /// Gives up the session that is held.
-    pub(crate) fn open(self) -> Taken<Session, Global>
-        requires { (v : Value) × (self.session ≡ Some v) }
-        ensures { self.session ≡ Some result.value }
+    /// Gives up what is held.
+    pub(crate) fn open(self) -> Taken<Holding, Global>
+        requires { (v : Value) × (self.holding ≡ Some v) }
+        ensures { self.holding ≡ Some result.value }
     {
         let Held { at, alloc } = self;
         Taken {
-            ptr: at as *mut Session,
+            ptr: at as *mut Holding,
             alloc,
         }
     }
 
     /// Lets a holder of nothing go.
     pub(crate) fn nothing(self)
-        requires { self.session ≡ None }
+        requires { self.holding ≡ None }
     {
         let Held { at: _, alloc: _ } = self;
     }
 }
 
-// What a handle holds may go to another thread because the session may.
+// What a handle holds may go to another thread because the job and its room may.
 unsafe impl Send for Held {}

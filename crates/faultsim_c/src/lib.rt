@@ -7,7 +7,7 @@
 #![tactic(auto)]
 
 ghost use Rattle.std.specs.Prelude.{◌≡◌, ◌≢◌, ◌↔◌, ◌⊎◌, ◌<◌, ◌≤◌, All, IfNone, IfSome};
-ghost use Rattle.std.specs.Prelude.{IsSome, IsTrue, None, Some, length};
+ghost use Rattle.std.specs.Prelude.{IsSome, IsTrue, None, Some, false, length};
 ghost use Rattle.bench_net.specs.Refusal.{IsRefused};
 ghost use Rattle.bench_net.specs.Scan.{sources};
 ghost use Rattle.bench_net.specs.declared.BenchFault.{BenchFault};
@@ -20,12 +20,17 @@ ghost use Rattle.block_sim.specs.First.{AreDetecting};
 ghost use Rattle.block_sim.specs.Parts.{Parts, with_tests};
 ghost use Rattle.faultsim_c.specs.Calls.{AreClassesOf, AreFaultFirsts, AreFirsts, AreRequests};
 ghost use Rattle.faultsim_c.specs.Calls.{AreSizes, IsCircuitJob, IsJobOfTexts, IsModelNumber};
-ghost use Rattle.faultsim_c.specs.Told.{AreRefusedTexts, told_fault};
+ghost use Rattle.faultsim_c.specs.Calls.{alone_with, job_of, shared_with};
+ghost use Rattle.faultsim_c.specs.declared.holding.Holding.{Holding as HoldingOf};
+ghost use Rattle.faultsim_c.specs.Following.{following};
+ghost use Rattle.faultsim_c.specs.Told.{AreRefusedTexts, AreTooMany, told_fault};
 ghost use Rattle.faultsim_c.specs.declared.status.Refusal.TheVariants as refusal;
 
 mod counts;
+mod following;
 mod handle;
 mod held;
+mod holding;
 mod observed;
 mod run;
 mod session;
@@ -36,8 +41,9 @@ mod texts;
 
 use fault_model::Model as FaultModel;
 use handle::{FsJob, give, put, take};
+use holding::is_send;
 use run::{fault_firsts, simulate};
-use session::{Session, is_send};
+use session::Session;
 use status::{DONE, FsFault, MEMORY, NO_JOB, RANGE, tell};
 use std::alloc::Global;
 
@@ -73,7 +79,7 @@ pub extern "C" fn fs_version() -> u32
 /// Frees what a handle has, and leaves zeros.
 #[unsafe(no_mangle)]
 pub extern "C" fn fs_job_free(alloc: Global, job: &mut FsJob)
-    ensures { job.new.held.session ≡ None }
+    ensures { job.new.held.holding ≡ None }
 {
     drop(take(alloc, job));
 }
@@ -100,13 +106,14 @@ pub extern "C" fn fs_job_read(
     job: &mut FsJob,
     fault: &mut FsFault,
 ) -> u32
-    ensures done { result ≡ 0 → (parts : Parts) × (job.new.held.session ≡ Some parts)
+    ensures done { result ≡ 0 → (parts : Parts)
+        × (job.new.held.holding ≡ Some (alone_with parts))
         × ((m : ModelOf) × IsModelNumber model m × IsCircuitJob m bench.now parts) }
     ensures refused { result ≡ 3 → (f : BenchFault) × IsRefused bench.now f
         × (fault.new ≡ told_fault (refusal.Bench f)) }
     ensures range { (result ≡ 4) ↔ (2 < model) }
     ensures statuses { (result ≡ 0) ⊎ (result ≡ 2) ⊎ (result ≡ 3) ⊎ (result ≡ 4) }
-    ensures kept { result ≢ 0 → job.new.held.session ≡ job.old.held.session }
+    ensures kept { result ≢ 0 → job.new.held.holding ≡ job.old.held.holding }
     ensures quiet { result ≢ 3 → fault.new ≡ fault.old }
 {
     let Some(model) = model_of(model) else {
@@ -121,19 +128,24 @@ pub extern "C" fn fs_job_read(
 /// Makes a second handle of the same job.
 #[unsafe(no_mangle)]
 pub extern "C" fn fs_job_share(alloc: Global, job: &mut FsJob, other: &mut FsJob) -> u32
-    ensures done { result ≡ 0 → other.new.held.session ≡ job.old.held.session }
-    ensures no_job { (result ≡ 1) ↔ (job.old.held.session ≡ None) }
-    ensures serves { IsSome job.old.held.session → (result ≡ 0) ⊎ (result ≡ 2) }
-    ensures unshared { result ≢ 0 → other.new.held.session ≡ other.old.held.session }
-    ensures kept { job.new.held.session ≡ job.old.held.session }
+    ensures done { result ≡ 0 → (parts : Parts) × (job_of job.old.held.holding ≡ Some parts)
+        × (job.new.held.holding ≡ Some (shared_with parts))
+        × (other.new.held.holding ≡ Some (shared_with parts)) }
+    ensures no_job { (result ≡ 1) ↔ (job.old.held.holding ≡ None) }
+    ensures serves { IsSome job.old.held.holding → (result ≡ 0) ⊎ (result ≡ 2) }
+    ensures unshared { result ≢ 0 → other.new.held.holding ≡ other.old.held.holding }
+    ensures kept { result ≢ 0 → job.new.held.holding ≡ job.old.held.holding }
 {
-    let Some(session) = take(alloc, job) else {
+    let Some(mut holding) = take(alloc, job) else {
         return NO_JOB;
     };
-    let second = session.share(alloc);
-    put(alloc, job, session);
+    let second = holding.share(alloc);
+    put(alloc, job, holding);
     match second {
-        Ok(second) => give(alloc, other, second),
+        Ok(second) => {
+            put(alloc, other, second);
+            DONE
+        }
         Err(_) => MEMORY,
     }
 }
@@ -141,16 +153,16 @@ pub extern "C" fn fs_job_share(alloc: Global, job: &mut FsJob, other: &mut FsJob
 /// Tells how large the job is.
 #[unsafe(no_mangle)]
 pub extern "C" fn fs_sizes_of(alloc: Global, job: &mut FsJob, sizes: &mut FsSizes) -> u32
-    ensures done { (parts : Parts) → job.old.held.session ≡ Some parts
+    ensures done { (parts : Parts) → job_of job.old.held.holding ≡ Some parts
         → (result ≡ 0) × AreSizes parts sizes.new }
-    ensures no_job { job.old.held.session ≡ None → (result ≡ 1) × (sizes.new ≡ sizes.old) }
-    ensures kept { job.new.held.session ≡ job.old.held.session }
+    ensures no_job { job.old.held.holding ≡ None → (result ≡ 1) × (sizes.new ≡ sizes.old) }
+    ensures kept { job.new.held.holding ≡ job.old.held.holding }
 {
-    let Some(session) = take(alloc, job) else {
+    let Some(holding) = take(alloc, job) else {
         return NO_JOB;
     };
-    *sizes = sizes_of(&session);
-    put(alloc, job, session);
+    *sizes = sizes_of(&holding.session);
+    put(alloc, job, holding);
     DONE
 }
 
@@ -179,24 +191,65 @@ pub extern "C" fn fs_set_words(
     fault: &mut FsFault,
 ) -> u32
     ensures done { result ≡ 0 → (parts : Parts) × (tests : TestList)
-        × (job.old.held.session ≡ Some parts)
+        × (job_of job.old.held.holding ≡ Some parts)
         × IsMadeOf (length (sources parts.circuit)) count words.now tests
-        × (job.new.held.session ≡ Some (with_tests parts tests)) }
+        × (job.new.held.holding ≡ Some (alone_with (with_tests parts tests))) }
     ensures refused { result ≡ 3 → (parts : Parts) × (f : WordsFaultOf)
-        × (job.old.held.session ≡ Some parts)
+        × (job_of job.old.held.holding ≡ Some parts)
         × IsWordsRefusal (length (sources parts.circuit)) count words.now f
         × (fault.new ≡ told_fault (refusal.Words f)) }
-    ensures no_job { (result ≡ 1) ↔ (job.old.held.session ≡ None) }
-    ensures statuses { IsSome job.old.held.session
+    ensures no_job { (result ≡ 1) ↔ (job.old.held.holding ≡ None) }
+    ensures statuses { IsSome job.old.held.holding
         → (result ≡ 0) ⊎ (result ≡ 2) ⊎ (result ≡ 3) ⊎ (result ≡ 5) }
-    ensures kept { result ≢ 0 → job.new.held.session ≡ job.old.held.session }
+    ensures shared { result ≡ 5 → (h : HoldingOf) × (job.old.held.holding ≡ Some h)
+        × (h.alone ≡ false) }
+    ensures kept { result ≢ 0 → job.new.held.holding ≡ job.old.held.holding }
     ensures quiet { result ≢ 3 → fault.new ≡ fault.old }
 {
-    let Some(mut session) = take(alloc, job) else {
+    let Some(mut holding) = take(alloc, job) else {
         return NO_JOB;
     };
-    let done = session.set_words(alloc, count, words);
-    put(alloc, job, session);
+    let done = holding.set_words(alloc, count, words);
+    put(alloc, job, holding);
+    match done {
+        Ok(()) => DONE,
+        Err(refusal) => tell(refusal, fault),
+    }
+}
+
+/// Takes tests in words in place of the job's, behind the last of those: that is test 0 then, and
+/// the pair of it and the first new test isn't lost. If the job has no tests, all are new.
+#[unsafe(no_mangle)]
+pub extern "C" fn fs_next_words(
+    alloc: Global,
+    job: &mut FsJob,
+    count: u32,
+    words: &[u64],
+    fault: &mut FsFault,
+) -> u32
+    ensures done { result ≡ 0 → (parts : Parts) × (tests : TestList)
+        × (job_of job.old.held.holding ≡ Some parts)
+        × IsMadeOf (length (sources parts.circuit)) count words.now tests
+        × (job.new.held.holding
+        ≡ Some (alone_with (with_tests parts (following parts.tests tests)))) }
+    ensures refused { result ≡ 3 → (parts : Parts) × (f : WordsFaultOf)
+        × (job_of job.old.held.holding ≡ Some parts)
+        × (IsWordsRefusal (length (sources parts.circuit)) count words.now f
+        ⊎ AreTooMany parts.tests.tests count f)
+        × (fault.new ≡ told_fault (refusal.Words f)) }
+    ensures no_job { (result ≡ 1) ↔ (job.old.held.holding ≡ None) }
+    ensures statuses { IsSome job.old.held.holding
+        → (result ≡ 0) ⊎ (result ≡ 2) ⊎ (result ≡ 3) ⊎ (result ≡ 5) }
+    ensures shared { result ≡ 5 → (h : HoldingOf) × (job.old.held.holding ≡ Some h)
+        × (h.alone ≡ false) }
+    ensures kept { result ≢ 0 → job.new.held.holding ≡ job.old.held.holding }
+    ensures quiet { result ≢ 3 → fault.new ≡ fault.old }
+{
+    let Some(mut holding) = take(alloc, job) else {
+        return NO_JOB;
+    };
+    let done = holding.next_words(alloc, count, words);
+    put(alloc, job, holding);
     match done {
         Ok(()) => DONE,
         Err(refusal) => tell(refusal, fault),
@@ -212,24 +265,26 @@ pub extern "C" fn fs_set_text(
     fault: &mut FsFault,
 ) -> u32
     ensures done { result ≡ 0 → (parts : Parts) × (tests : TestList)
-        × (job.old.held.session ≡ Some parts)
+        × (job_of job.old.held.holding ≡ Some parts)
         × HasTests text.now (length (sources parts.circuit)) tests
-        × (job.new.held.session ≡ Some (with_tests parts tests)) }
+        × (job.new.held.holding ≡ Some (alone_with (with_tests parts tests))) }
     ensures refused { result ≡ 3 → (parts : Parts) × (f : TestFaultOf)
-        × (job.old.held.session ≡ Some parts)
+        × (job_of job.old.held.holding ≡ Some parts)
         × IsTestRefusal text.now (length (sources parts.circuit)) f
         × (fault.new ≡ told_fault (refusal.Tests f)) }
-    ensures no_job { (result ≡ 1) ↔ (job.old.held.session ≡ None) }
-    ensures statuses { IsSome job.old.held.session
+    ensures no_job { (result ≡ 1) ↔ (job.old.held.holding ≡ None) }
+    ensures statuses { IsSome job.old.held.holding
         → (result ≡ 0) ⊎ (result ≡ 2) ⊎ (result ≡ 3) ⊎ (result ≡ 5) }
-    ensures kept { result ≢ 0 → job.new.held.session ≡ job.old.held.session }
+    ensures shared { result ≡ 5 → (h : HoldingOf) × (job.old.held.holding ≡ Some h)
+        × (h.alone ≡ false) }
+    ensures kept { result ≢ 0 → job.new.held.holding ≡ job.old.held.holding }
     ensures quiet { result ≢ 3 → fault.new ≡ fault.old }
 {
-    let Some(mut session) = take(alloc, job) else {
+    let Some(mut holding) = take(alloc, job) else {
         return NO_JOB;
     };
-    let done = session.set_text(alloc, text);
-    put(alloc, job, session);
+    let done = holding.set_text(alloc, text);
+    put(alloc, job, holding);
     match done {
         Ok(()) => DONE,
         Err(refusal) => tell(refusal, fault),
@@ -239,20 +294,20 @@ pub extern "C" fn fs_set_text(
 /// Tells the class of each fault. The length is the number of faults.
 #[unsafe(no_mangle)]
 pub extern "C" fn fs_classes_of(alloc: Global, job: &mut FsJob, classes: &mut [u32]) -> u32
-    ensures done { (parts : Parts) → job.old.held.session ≡ Some parts
+    ensures done { (parts : Parts) → job_of job.old.held.holding ≡ Some parts
         → length classes.old ≡ length parts.list.list
         → (result ≡ 0) × AreClassesOf parts classes.new }
-    ensures range { (parts : Parts) → job.old.held.session ≡ Some parts
+    ensures range { (parts : Parts) → job_of job.old.held.holding ≡ Some parts
         → length classes.old ≢ length parts.list.list → result ≡ 4 }
-    ensures no_job { job.old.held.session ≡ None → result ≡ 1 }
+    ensures no_job { job.old.held.holding ≡ None → result ≡ 1 }
     ensures untouched { result ≢ 0 → classes.new ≡ classes.old }
-    ensures kept { job.new.held.session ≡ job.old.held.session }
+    ensures kept { job.new.held.holding ≡ job.old.held.holding }
 {
-    let Some(session) = take(alloc, job) else {
+    let Some(holding) = take(alloc, job) else {
         return NO_JOB;
     };
-    let status = classes_of(&session, classes);
-    put(alloc, job, session);
+    let status = classes_of(&holding.session, classes);
+    put(alloc, job, holding);
     status
 }
 
@@ -281,21 +336,21 @@ pub extern "C" fn fs_simulate(
     classes: &[u32],
     firsts: &mut [u32],
 ) -> u32
-    ensures done { result ≡ 0 → (parts : Parts) × (job.old.held.session ≡ Some parts)
+    ensures done { result ≡ 0 → (parts : Parts) × (job_of job.old.held.holding ≡ Some parts)
         × AreFirsts parts classes.now firsts.new }
-    ensures serves { (parts : Parts) → job.old.held.session ≡ Some parts
+    ensures serves { (parts : Parts) → job_of job.old.held.holding ≡ Some parts
         → AreRequests parts classes.now firsts.old → (result ≡ 0) ⊎ (result ≡ 2) }
-    ensures range { (parts : Parts) → job.old.held.session ≡ Some parts
+    ensures range { (parts : Parts) → job_of job.old.held.holding ≡ Some parts
         → ¬ AreRequests parts classes.now firsts.old → result ≡ 4 }
-    ensures no_job { job.old.held.session ≡ None → result ≡ 1 }
+    ensures no_job { job.old.held.holding ≡ None → result ≡ 1 }
     ensures untouched { result ≢ 0 → firsts.new ≡ firsts.old }
-    ensures kept { job.new.held.session ≡ job.old.held.session }
+    ensures kept { job.new.held.holding ≡ job.old.held.holding }
 {
-    let Some(mut session) = take(alloc, job) else {
+    let Some(mut holding) = take(alloc, job) else {
         return NO_JOB;
     };
-    let status = simulate_in(alloc, &mut session, classes, firsts);
-    put(alloc, job, session);
+    let status = simulate_in(alloc, &mut holding.session, classes, firsts);
+    put(alloc, job, holding);
     status
 }
 
@@ -333,22 +388,22 @@ pub extern "C" fn fs_detecting(
     block: u32,
     lanes: &mut u64,
 ) -> u32
-    ensures done { (parts : Parts) → job.old.held.session ≡ Some parts
+    ensures done { (parts : Parts) → job_of job.old.held.holding ≡ Some parts
         → class < length parts.classes.representative → block < blocks (length parts.tests.tests)
         → (result ≡ 0) × AreDetecting parts.list.model parts.circuit parts.tests.tests class
         block lanes.new }
-    ensures range { (parts : Parts) → job.old.held.session ≡ Some parts
+    ensures range { (parts : Parts) → job_of job.old.held.holding ≡ Some parts
         → (length parts.classes.representative ≤ class)
         ⊎ (blocks (length parts.tests.tests) ≤ block) → result ≡ 4 }
-    ensures no_job { job.old.held.session ≡ None → result ≡ 1 }
+    ensures no_job { job.old.held.holding ≡ None → result ≡ 1 }
     ensures untouched { result ≢ 0 → lanes.new ≡ lanes.old }
-    ensures kept { job.new.held.session ≡ job.old.held.session }
+    ensures kept { job.new.held.holding ≡ job.old.held.holding }
 {
-    let Some(mut session) = take(alloc, job) else {
+    let Some(mut holding) = take(alloc, job) else {
         return NO_JOB;
     };
-    let status = detecting_in(&mut session, class, block, lanes);
-    put(alloc, job, session);
+    let status = detecting_in(&mut holding.session, class, block, lanes);
+    put(alloc, job, holding);
     status
 }
 
@@ -384,10 +439,12 @@ pub extern "C" fn fs_firsts(
     fault: &mut FsFault,
 ) -> u32
     ensures done { result ≡ 0 → (m : ModelOf) × (parts : Parts) × IsModelNumber model m
-        × IsJobOfTexts m bench.now text.now parts × AreFaultFirsts parts firsts.new }
+        × IsJobOfTexts m bench.now text.now parts × AreFaultFirsts parts firsts.new
+        × (faults.new ≡ length parts.list.list) × (length firsts.old ≡ faults.new) }
     ensures refused { result ≡ 3 → AreRefusedTexts bench.now text.now fault.new }
     ensures statuses { (result ≡ 0) ⊎ (result ≡ 2) ⊎ (result ≡ 3) ⊎ (result ≡ 4) }
     ensures model { 2 < model → (result ≡ 4) × (faults.new ≡ faults.old) }
+    ensures uncounted { result ≢ 0 → result ≢ 4 → faults.new ≡ faults.old }
     ensures range { model ≤ 2 → result ≡ 4 → (m : ModelOf) × (parts : Parts)
         × IsModelNumber model m × IsJobOfTexts m bench.now text.now parts
         × (faults.new ≡ length parts.list.list) × (length firsts.old ≢ faults.new) }
@@ -405,18 +462,24 @@ pub extern "C" fn fs_firsts(
 
 /// Tells the first test that detects each fault of a session.
 fn firsts_in(alloc: Global, session: &mut Session, firsts: &mut [u32], faults: &mut u32) -> u32
-    ensures done { result ≡ 0 → AreFaultFirsts session.old firsts.new }
+    ensures done { result ≡ 0 → AreFaultFirsts session.old firsts.new
+        × (length firsts.old ≡ length session.old.list.list) }
     ensures statuses { (result ≡ 0) ⊎ (result ≡ 2) ⊎ (result ≡ 4) }
     ensures range { (result ≡ 4) ↔ (length firsts.old ≢ length session.old.list.list) }
-    ensures faults { faults.new ≡ length session.old.list.list }
+    ensures faults { result ≢ 2 → faults.new ≡ length session.old.list.list }
+    ensures uncounted { result ≡ 2 → faults.new ≡ faults.old }
     ensures untouched { result ≢ 0 → firsts.new ≡ firsts.old }
 {
-    *faults = session.job().faults().count();
-    if firsts.len() != *faults as usize {
+    let count = session.job().faults().count();
+    if firsts.len() != count as usize {
+        *faults = count;
         return RANGE;
     }
     match fault_firsts(alloc, session, firsts) {
-        Ok(()) => DONE,
+        Ok(()) => {
+            *faults = count;
+            DONE
+        }
         Err(_) => MEMORY,
     }
 }

@@ -4,7 +4,7 @@ ghost use Rattle.std.specs.Prelude.{◌≡◌, ◌≢◌, ◌*◌, ◌<◌, None
 ghost use Rattle.bench_net.specs.Scan.{names};
 ghost use Rattle.patterns.specs.Tests.{blocks};
 ghost use Rattle.block_sim.specs.Parts.{Parts};
-ghost use Rattle.faultsim_c.specs.Calls.{AreResponseWords, IsCopied, observed};
+ghost use Rattle.faultsim_c.specs.Calls.{AreResponseWords, IsCopied, job_of, observed};
 
 use crate::handle::{FsJob, put, take};
 use crate::status::{DONE, NO_JOB, RANGE};
@@ -22,17 +22,17 @@ pub extern "C" fn fs_observers_of(
     signals: &mut [u32],
     wanted: &mut usize,
 ) -> u32
-    ensures done { (parts : Parts) → job.old.held.session ≡ Some parts
+    ensures done { (parts : Parts) → job_of job.old.held.holding ≡ Some parts
         → IsCopied (observed parts.circuit) signals.old signals.new wanted.new result }
-    ensures no_job { job.old.held.session ≡ None → result ≡ 1 }
+    ensures no_job { job.old.held.holding ≡ None → (result ≡ 1) × (wanted.new ≡ wanted.old) }
     ensures untouched { result ≢ 0 → signals.new ≡ signals.old }
-    ensures kept { job.new.held.session ≡ job.old.held.session }
+    ensures kept { job.new.held.holding ≡ job.old.held.holding }
 {
-    let Some(session) = take(alloc, job) else {
+    let Some(holding) = take(alloc, job) else {
         return NO_JOB;
     };
-    let status = observers_in(session.job(), signals, wanted);
-    put(alloc, job, session);
+    let status = observers_in(holding.session.job(), signals, wanted);
+    put(alloc, job, holding);
     status
 }
 
@@ -66,21 +66,21 @@ fn fill_observers(circuit: &Circuit, signals: &mut [u32])
 /// observer. The length is the number of blocks times that of observers.
 #[unsafe(no_mangle)]
 pub extern "C" fn fs_responses(alloc: Global, job: &mut FsJob, words: &mut [u64]) -> u32
-    ensures done { (parts : Parts) → job.old.held.session ≡ Some parts
+    ensures done { (parts : Parts) → job_of job.old.held.holding ≡ Some parts
         → length words.old ≡ blocks (length parts.tests.tests) * length (observed parts.circuit)
         → (result ≡ 0) × AreResponseWords parts words.new }
-    ensures range { (parts : Parts) → job.old.held.session ≡ Some parts
+    ensures range { (parts : Parts) → job_of job.old.held.holding ≡ Some parts
         → length words.old ≢ blocks (length parts.tests.tests) * length (observed parts.circuit)
         → result ≡ 4 }
-    ensures no_job { job.old.held.session ≡ None → result ≡ 1 }
+    ensures no_job { job.old.held.holding ≡ None → result ≡ 1 }
     ensures untouched { result ≢ 0 → words.new ≡ words.old }
-    ensures kept { job.new.held.session ≡ job.old.held.session }
+    ensures kept { job.new.held.holding ≡ job.old.held.holding }
 {
-    let Some(session) = take(alloc, job) else {
+    let Some(holding) = take(alloc, job) else {
         return NO_JOB;
     };
-    let status = responses_in(session.job(), words);
-    put(alloc, job, session);
+    let status = responses_in(holding.session.job(), words);
+    put(alloc, job, holding);
     status
 }
 

@@ -1,6 +1,6 @@
 //! What a handle stands for: a job with room to simulate it.
 
-ghost use Rattle.std.specs.Prelude.{◌≡◌, ◌⊎◌, ◌<◌, All, IfErr, IfOk, length};
+ghost use Rattle.std.specs.Prelude.{◌≡◌, ◌<◌, All, IfErr, IfOk, length};
 ghost use Rattle.bench_net.specs.Circuit.{IsCircuit};
 ghost use Rattle.bench_net.specs.Scan.{sources};
 ghost use Rattle.patterns.specs.Making.{IsMadeOf};
@@ -13,9 +13,11 @@ ghost use Rattle.detections.specs.Detections.{IsCount};
 ghost use Rattle.workers.specs.Listed.{ServesLists};
 ghost use Rattle.workers.specs.Verdict.{AreClassFirsts, AreFirsts};
 ghost use Rattle.faultsim_c.specs.Calls.{IsCircuitJob, IsJobOfTexts};
-ghost use Rattle.faultsim_c.specs.Told.{IsBenchReply, IsTestsReply, IsTextsReply, IsWordsReply};
-ghost use Rattle.faultsim_c.specs.declared.status.Refusal.TheVariants as refusal;
+ghost use Rattle.faultsim_c.specs.Told.{IsBenchReply, IsTestsReply, IsTextsReply, IsUntaken};
+ghost use Rattle.faultsim_c.specs.Told.{IsNextReply, IsWordsReply};
+ghost use Rattle.faultsim_c.specs.Following.{following};
 
+use crate::following::behind_last;
 use crate::status::Refusal;
 use bench_net::{Circuit, read_bench};
 use block_sim::{Job, Workspace, detecting};
@@ -113,6 +115,7 @@ impl Session {
     pub(crate) fn set_words(
         &mut self,
         alloc: Global,
+        alone: bool,
         count: u32,
         words: &[u64],
     ) -> Result<(), Refusal>
@@ -120,35 +123,60 @@ impl Session {
             × IsMadeOf (length (sources self.old.circuit)) count words.now tests
             × (self.new ≡ with_tests self.old tests)) }
         ensures refused { IfErr result
-            (IsWordsReply (length (sources self.old.circuit)) count words.now) }
+            (IsWordsReply alone (length (sources self.old.circuit)) count words.now) }
         ensures kept { IfErr result (λ _. self.new ≡ self.old) }
     {
         let tests = Tests::from_words(alloc, self.job.circuit().sources(), count, words)?;
-        self.set_tests(alloc, tests)
+        self.set_tests(alloc, alone, tests)
+    }
+
+    /// Takes tests in words in place of the job's, behind the last of those.
+    pub(crate) fn next_words(
+        &mut self,
+        alloc: Global,
+        alone: bool,
+        count: u32,
+        words: &[u64],
+    ) -> Result<(), Refusal>
+        ensures done { IfOk result (λ _. (tests : TestList)
+            × IsMadeOf (length (sources self.old.circuit)) count words.now tests
+            × (self.new ≡ with_tests self.old (following self.old.tests tests))) }
+        ensures refused { IfErr result (IsNextReply alone self.old.tests.tests
+            (length (sources self.old.circuit)) count words.now) }
+        ensures kept { IfErr result (λ _. self.new ≡ self.old) }
+    {
+        let new = Tests::from_words(alloc, self.job.circuit().sources(), count, words)?;
+        let tests = behind_last(alloc, self.job.tests(), &new)?;
+        self.set_tests(alloc, alone, tests)
     }
 
     /// Takes the tests of a text in place of the job's.
-    pub(crate) fn set_text(&mut self, alloc: Global, text: &[u8]) -> Result<(), Refusal>
+    pub(crate) fn set_text(
+        &mut self,
+        alloc: Global,
+        alone: bool,
+        text: &[u8],
+    ) -> Result<(), Refusal>
         ensures done { IfOk result (λ _. (tests : TestList)
             × HasTests text.now (length (sources self.old.circuit)) tests
             × (self.new ≡ with_tests self.old tests)) }
         ensures refused { IfErr result
-            (IsTestsReply (length (sources self.old.circuit)) text.now) }
+            (IsTestsReply alone (length (sources self.old.circuit)) text.now) }
         ensures kept { IfErr result (λ _. self.new ≡ self.old) }
     {
         let tests = read_tests(alloc, text, self.job.circuit().sources())?;
-        self.set_tests(alloc, tests)
+        self.set_tests(alloc, alone, tests)
     }
 
     /// Takes tests in place of the job's, unless another session has the job.
-    fn set_tests(&mut self, alloc: Global, tests: Tests) -> Result<(), Refusal>
+    fn set_tests(&mut self, alloc: Global, alone: bool, tests: Tests) -> Result<(), Refusal>
         requires tests { IsTestList tests }
         requires width { tests.width ≡ length (sources self.old.circuit) }
         ensures done { IfOk result (λ _. self.new ≡ with_tests self.old tests) }
-        ensures refused { IfErr result (λ r. (r ≡ refusal.Shared) ⊎ (r ≡ refusal.Memory)) }
+        ensures refused { IfErr result (IsUntaken alone) }
         ensures kept { IfErr result (λ _. self.new ≡ self.old) }
     {
-        replace_tests(alloc, &mut self.job, tests)
+        replace_tests(alloc, alone, &mut self.job, tests)
     }
 
     /// The lanes of a block whose tests detect a class.
@@ -197,15 +225,24 @@ impl Session {
 }
 
 /// Takes tests in place of a job's, unless another session has the job.
-fn replace_tests(alloc: Global, job: &mut Arc<Job>, tests: Tests) -> Result<(), Refusal>
+///
+/// `Arc::get_mut` promises nothing of when it gives none. If it gave none of a job that one session
+/// alone has, the answer would be that memory ran out, and not that another one shares the job.
+fn replace_tests(
+    alloc: Global,
+    alone: bool,
+    job: &mut Arc<Job>,
+    tests: Tests,
+) -> Result<(), Refusal>
     requires tests { IsTestList tests }
     requires width { tests.width ≡ length (sources job.old.value.circuit) }
     ensures done { IfOk result (λ _. job.new.value ≡ with_tests job.old.value tests) }
-    ensures refused { IfErr result (λ r. (r ≡ refusal.Shared) ⊎ (r ≡ refusal.Memory)) }
+    ensures refused { IfErr result (IsUntaken alone) }
     ensures kept { IfErr result (λ _. job.new.value ≡ job.old.value) }
 {
     match Arc::get_mut(job) {
         Some(job) => Ok(job.set_tests_of_any_size(alloc, tests)?),
+        None if alone => Err(Refusal::Memory),
         None => Err(Refusal::Shared),
     }
 }
@@ -229,11 +266,3 @@ fn job_of(
     let classes = collapse(alloc, &circuit, &faults)?;
     Job::of_any_size(alloc, circuit, faults, classes, tests)
 }
-
-/// A session may go to another thread: each has room of its own, and all have one job.
-pub(crate) fn may_cross(session: &Session) {
-    is_send(session)
-}
-
-/// Takes what may go to another thread.
-pub(crate) fn is_send<T: Send>(_value: &T) {}

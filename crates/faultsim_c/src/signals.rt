@@ -7,7 +7,7 @@ ghost use Rattle.bench_net.specs.Scan.{name_of, names, sources};
 ghost use Rattle.patterns.specs.Tests.{blocks};
 ghost use Rattle.block_sim.specs.Parts.{Parts};
 ghost use Rattle.block_sim.specs.Words.{IsFaultFreeWord};
-ghost use Rattle.faultsim_c.specs.Calls.{AreStemsOf, IsCopied};
+ghost use Rattle.faultsim_c.specs.Calls.{AreStemsOf, IsCopied, job_of};
 
 use crate::handle::{FsJob, put, take};
 use crate::status::{DONE, NO_JOB, RANGE};
@@ -18,20 +18,20 @@ use std::alloc::Global;
 /// ends. The length is the number of classes.
 #[unsafe(no_mangle)]
 pub extern "C" fn fs_stems_of(alloc: Global, job: &mut FsJob, stems: &mut [u32]) -> u32
-    ensures done { (parts : Parts) → job.old.held.session ≡ Some parts
+    ensures done { (parts : Parts) → job_of job.old.held.holding ≡ Some parts
         → length stems.old ≡ length parts.classes.representative
         → (result ≡ 0) × AreStemsOf parts stems.new }
-    ensures range { (parts : Parts) → job.old.held.session ≡ Some parts
+    ensures range { (parts : Parts) → job_of job.old.held.holding ≡ Some parts
         → length stems.old ≢ length parts.classes.representative → result ≡ 4 }
-    ensures no_job { job.old.held.session ≡ None → result ≡ 1 }
+    ensures no_job { job.old.held.holding ≡ None → result ≡ 1 }
     ensures untouched { result ≢ 0 → stems.new ≡ stems.old }
-    ensures kept { job.new.held.session ≡ job.old.held.session }
+    ensures kept { job.new.held.holding ≡ job.old.held.holding }
 {
-    let Some(session) = take(alloc, job) else {
+    let Some(holding) = take(alloc, job) else {
         return NO_JOB;
     };
-    let status = stems_of(session.job(), stems);
-    put(alloc, job, session);
+    let status = stems_of(holding.session.job(), stems);
+    put(alloc, job, holding);
     status
 }
 
@@ -61,22 +61,22 @@ pub extern "C" fn fs_word(
     signal: u32,
     word: &mut u64,
 ) -> u32
-    ensures done { (parts : Parts) → job.old.held.session ≡ Some parts
+    ensures done { (parts : Parts) → job_of job.old.held.holding ≡ Some parts
         → block < blocks (length parts.tests.tests) → signal < length (names parts.circuit)
         → (result ≡ 0)
         × IsFaultFreeWord parts.circuit parts.tests.tests block signal word.new }
-    ensures range { (parts : Parts) → job.old.held.session ≡ Some parts
+    ensures range { (parts : Parts) → job_of job.old.held.holding ≡ Some parts
         → (blocks (length parts.tests.tests) ≤ block) ⊎ (length (names parts.circuit) ≤ signal)
         → result ≡ 4 }
-    ensures no_job { job.old.held.session ≡ None → result ≡ 1 }
+    ensures no_job { job.old.held.holding ≡ None → result ≡ 1 }
     ensures untouched { result ≢ 0 → word.new ≡ word.old }
-    ensures kept { job.new.held.session ≡ job.old.held.session }
+    ensures kept { job.new.held.holding ≡ job.old.held.holding }
 {
-    let Some(session) = take(alloc, job) else {
+    let Some(holding) = take(alloc, job) else {
         return NO_JOB;
     };
-    let status = word_in(session.job(), block, signal, word);
-    put(alloc, job, session);
+    let status = word_in(holding.session.job(), block, signal, word);
+    put(alloc, job, holding);
     status
 }
 
@@ -106,20 +106,21 @@ pub extern "C" fn fs_name_of(
     text: &mut [u8],
     wanted: &mut usize,
 ) -> u32
-    ensures done { (parts : Parts) (name : List ℕ) → job.old.held.session ≡ Some parts
+    ensures done { (parts : Parts) (name : List ℕ) → job_of job.old.held.holding ≡ Some parts
         → signal < length (names parts.circuit) → name_of parts.circuit signal ≡ Some name
         → IsCopied name text.old text.new wanted.new result }
-    ensures range { (parts : Parts) → job.old.held.session ≡ Some parts
+    ensures range { (parts : Parts) → job_of job.old.held.holding ≡ Some parts
         → length (names parts.circuit) ≤ signal
         → (result ≡ 4) × (wanted.new ≡ wanted.old) × (text.new ≡ text.old) }
-    ensures no_job { job.old.held.session ≡ None → result ≡ 1 }
-    ensures kept { job.new.held.session ≡ job.old.held.session }
+    ensures no_job { job.old.held.holding ≡ None → (result ≡ 1) × (wanted.new ≡ wanted.old) }
+    ensures untouched { result ≢ 0 → text.new ≡ text.old }
+    ensures kept { job.new.held.holding ≡ job.old.held.holding }
 {
-    let Some(session) = take(alloc, job) else {
+    let Some(holding) = take(alloc, job) else {
         return NO_JOB;
     };
-    let status = name_in(session.job(), signal, text, wanted);
-    put(alloc, job, session);
+    let status = name_in(holding.session.job(), signal, text, wanted);
+    put(alloc, job, holding);
     status
 }
 
@@ -130,6 +131,7 @@ fn name_in(job: &Job, signal: u32, text: &mut [u8], wanted: &mut usize) -> u32
         → IsCopied name text.old text.new wanted.new result }
     ensures range { length (names job.now.circuit) ≤ signal
         → (result ≡ 4) × (wanted.new ≡ wanted.old) × (text.new ≡ text.old) }
+    ensures untouched { result ≢ 0 → text.new ≡ text.old }
 {
     let circuit = job.circuit();
     if signal >= circuit.signals() {
@@ -140,7 +142,9 @@ fn name_in(job: &Job, signal: u32, text: &mut [u8], wanted: &mut usize) -> u32
 
 /// Copies bytes to the front of a text, if it has room for them, and tells how many they are.
 pub(crate) fn copy_text(bytes: &[u8], text: &mut [u8], wanted: &mut usize) -> u32
-    ensures { IsCopied bytes.now text.old text.new wanted.new result }
+    ensures copied { IsCopied bytes.now text.old text.new wanted.new result }
+    ensures statuses { (result ≡ 0) ⊎ (result ≡ 4) }
+    ensures untouched { result ≢ 0 → text.new ≡ text.old }
 {
     *wanted = bytes.len();
     if text.len() < bytes.len() {
@@ -154,22 +158,22 @@ pub(crate) fn copy_text(bytes: &[u8], text: &mut [u8], wanted: &mut usize) -> u3
 /// Tells the place of a signal in a test, from 0. The status is 4 if the signal is a gate's, too.
 #[unsafe(no_mangle)]
 pub extern "C" fn fs_source_of(alloc: Global, job: &mut FsJob, signal: u32, place: &mut u32) -> u32
-    ensures done { result ≡ 0 → (parts : Parts) × (job.old.held.session ≡ Some parts)
+    ensures done { result ≡ 0 → (parts : Parts) × (job_of job.old.held.holding ≡ Some parts)
         × (signal < length (names parts.circuit))
         × (slice_get (sources parts.circuit) place.new ≡ name_of parts.circuit signal) }
-    ensures range { result ≡ 4 → (parts : Parts) × (job.old.held.session ≡ Some parts)
+    ensures range { result ≡ 4 → (parts : Parts) × (job_of job.old.held.holding ≡ Some parts)
         × ((length (names parts.circuit) ≤ signal) ⊎ ((i : ℕ)
         → slice_get (sources parts.circuit) i ≢ name_of parts.circuit signal)) }
-    ensures statuses { IsSome job.old.held.session → (result ≡ 0) ⊎ (result ≡ 4) }
-    ensures no_job { job.old.held.session ≡ None → result ≡ 1 }
+    ensures statuses { IsSome job.old.held.holding → (result ≡ 0) ⊎ (result ≡ 4) }
+    ensures no_job { job.old.held.holding ≡ None → result ≡ 1 }
     ensures untouched { result ≢ 0 → place.new ≡ place.old }
-    ensures kept { job.new.held.session ≡ job.old.held.session }
+    ensures kept { job.new.held.holding ≡ job.old.held.holding }
 {
-    let Some(session) = take(alloc, job) else {
+    let Some(holding) = take(alloc, job) else {
         return NO_JOB;
     };
-    let status = source_in(session.job(), signal, place);
-    put(alloc, job, session);
+    let status = source_in(holding.session.job(), signal, place);
+    put(alloc, job, holding);
     status
 }
 

@@ -7,7 +7,7 @@ ghost use Rattle.block_sim.specs.Parts.{Parts};
 ghost use Rattle.report.specs.declared.contents.Contents.{Contents as ContentsOf};
 ghost use Rattle.report.specs.EndToEnd.{IsReportOfJob};
 ghost use Rattle.report.specs.Report.{fault_text};
-ghost use Rattle.faultsim_c.specs.Calls.{AreContents, IsCopied, IsLinesNumber};
+ghost use Rattle.faultsim_c.specs.Calls.{AreContents, IsCopied, IsLinesNumber, job_of};
 
 use crate::handle::{FsJob, put, take};
 use crate::session::Session;
@@ -27,21 +27,22 @@ pub extern "C" fn fs_fault_text(
     text: &mut [u8],
     wanted: &mut usize,
 ) -> u32
-    ensures done { (parts : Parts) (f : Fault) → job.old.held.session ≡ Some parts
+    ensures done { (parts : Parts) (f : Fault) → job_of job.old.held.holding ≡ Some parts
         → slice_get (faults parts.list.model parts.circuit) fault ≡ Some f → result ≢ 2
         → IsCopied (fault_text parts.circuit f) text.old text.new wanted.new result }
-    ensures range { (parts : Parts) → job.old.held.session ≡ Some parts
-        → length parts.list.list ≤ fault → result ≡ 4 }
-    ensures no_job { job.old.held.session ≡ None → result ≡ 1 }
+    ensures range { (parts : Parts) → job_of job.old.held.holding ≡ Some parts
+        → length parts.list.list ≤ fault → (result ≡ 4) × (wanted.new ≡ wanted.old) }
+    ensures no_job { job.old.held.holding ≡ None → (result ≡ 1) × (wanted.new ≡ wanted.old) }
+    ensures unmeasured { result ≡ 2 → wanted.new ≡ wanted.old }
     ensures statuses { (result ≡ 0) ⊎ (result ≡ 1) ⊎ (result ≡ 2) ⊎ (result ≡ 4) }
     ensures untouched { result ≢ 0 → text.new ≡ text.old }
-    ensures kept { job.new.held.session ≡ job.old.held.session }
+    ensures kept { job.new.held.holding ≡ job.old.held.holding }
 {
-    let Some(session) = take(alloc, job) else {
+    let Some(holding) = take(alloc, job) else {
         return NO_JOB;
     };
-    let status = fault_text_in(alloc, session.job(), fault, text, wanted);
-    put(alloc, job, session);
+    let status = fault_text_in(alloc, holding.session.job(), fault, text, wanted);
+    put(alloc, job, holding);
     status
 }
 
@@ -52,6 +53,7 @@ fn fault_text_in(alloc: Global, job: &Job, fault: u32, text: &mut [u8], wanted: 
         → IsCopied (fault_text job.now.circuit f) text.old text.new wanted.new result }
     ensures range { length job.now.list.list ≤ fault
         → (result ≡ 4) × (wanted.new ≡ wanted.old) × (text.new ≡ text.old) }
+    ensures unmeasured { result ≡ 2 → wanted.new ≡ wanted.old }
     ensures statuses { (result ≡ 0) ⊎ (result ≡ 2) ⊎ (result ≡ 4) }
     ensures untouched { result ≢ 0 → text.new ≡ text.old }
 {
@@ -93,22 +95,23 @@ pub extern "C" fn fs_report(
     text: &mut [u8],
     wanted: &mut usize,
 ) -> u32
-    ensures done { (parts : Parts) → job.old.held.session ≡ Some parts → lines ≤ 2 → result ≢ 2
+    ensures done { (parts : Parts) → job_of job.old.held.holding ≡ Some parts → lines ≤ 2 → result ≢ 2
         → (contents : ContentsOf) × (bytes : List ℕ) × AreContents lines classes contents
         × IsReportOfJob parts contents bytes
         × IsCopied bytes text.old text.new wanted.new result }
-    ensures range { (parts : Parts) → job.old.held.session ≡ Some parts → 2 < lines
-        → result ≡ 4 }
-    ensures no_job { job.old.held.session ≡ None → result ≡ 1 }
+    ensures range { (parts : Parts) → job_of job.old.held.holding ≡ Some parts → 2 < lines
+        → (result ≡ 4) × (wanted.new ≡ wanted.old) }
+    ensures no_job { job.old.held.holding ≡ None → (result ≡ 1) × (wanted.new ≡ wanted.old) }
+    ensures unmeasured { result ≡ 2 → wanted.new ≡ wanted.old }
     ensures statuses { (result ≡ 0) ⊎ (result ≡ 1) ⊎ (result ≡ 2) ⊎ (result ≡ 4) }
     ensures untouched { result ≢ 0 → text.new ≡ text.old }
-    ensures kept { job.new.held.session ≡ job.old.held.session }
+    ensures kept { job.new.held.holding ≡ job.old.held.holding }
 {
-    let Some(mut session) = take(alloc, job) else {
+    let Some(mut holding) = take(alloc, job) else {
         return NO_JOB;
     };
-    let status = report_in(alloc, &mut session, lines, classes, text, wanted);
-    put(alloc, job, session);
+    let status = report_in(alloc, &mut holding.session, lines, classes, text, wanted);
+    put(alloc, job, holding);
     status
 }
 
@@ -125,7 +128,8 @@ fn report_in(
         → (contents : ContentsOf) × (bytes : List ℕ) × AreContents lines classes contents
         × IsReportOfJob session.old contents bytes
         × IsCopied bytes text.old text.new wanted.new result }
-    ensures range { 2 < lines → result ≡ 4 }
+    ensures range { 2 < lines → (result ≡ 4) × (wanted.new ≡ wanted.old) }
+    ensures unmeasured { result ≡ 2 → wanted.new ≡ wanted.old }
     ensures statuses { (result ≡ 0) ⊎ (result ≡ 2) ⊎ (result ≡ 4) }
     ensures untouched { result ≢ 0 → text.new ≡ text.old }
     ensures kept { session.new ≡ session.old }

@@ -17,6 +17,7 @@ import enum
 import operator
 import threading
 from array import array
+from collections import deque
 from concurrent.futures import ThreadPoolExecutor
 from typing import Any, Iterable, Optional, Sequence, Union
 
@@ -108,6 +109,30 @@ def _address(numbers: Any) -> int:
     return numbers.ctypes.data if numpy is not None else numbers.buffer_info()[0]
 
 
+# Runs of whole regions into which all classes are cut, and shares for each thread of a simulation.
+RUNS, SHARES = 256, 4
+
+
+def _runs_of(stems: Any) -> Any:
+    """The run of each class, by the stems of the classes."""
+    count = len(stems)
+    if numpy is not None:
+        order = numpy.argsort(stems, kind="stable")
+        by_stem = stems[order]
+        begins = numpy.flatnonzero(numpy.diff(by_stem, prepend=by_stem[:1] + 1))
+        region = numpy.zeros(count, numpy.int64)
+        region[begins[1:]] = numpy.diff(begins)
+        runs = numpy.zeros(count, numpy.uint16)
+        runs[order] = numpy.cumsum(region) * RUNS // max(count, 1)
+        return runs
+    runs, begin, last = array("H", bytes(2 * count)), 0, None
+    for at, class_ in enumerate(sorted(range(count), key=stems.__getitem__)):
+        if stems[class_] != last:
+            begin, last = at, stems[class_]
+        runs[class_] = begin * RUNS // count
+    return runs
+
+
 def _words_of(rows: Sequence[Sequence[int]], width: int) -> tuple[int, Any]:
     """The number of tests, and their words: for each block of 64 tests one for each source."""
     if any(len(row) != width for row in rows):
@@ -139,8 +164,8 @@ def _packed(rows: Any, width: int) -> tuple[int, Any]:
 class Job:
     """A circuit, its faults in classes, and tests.
 
-    A job is also a context manager, which closes it. A call on a closed job raises `ValueError`, and
-    a number out of range `IndexError`. Threads that call one job wait for each other; `share` makes
+    A job is also a context manager, which closes it. A call on a closed job raises `ValueError`,
+    and a number out of range `IndexError`. Threads that call one job wait for each other; `share` makes
     another one for another thread.
 
     sources, signals, faults, classes, tests, blocks: how many of each the job has.
@@ -156,6 +181,11 @@ class Job:
 
     def _start(self) -> None:
         self._handle, self._lock = FsJob(), threading.Lock()
+        self._helpers: list[Job] = []
+        # What depends on the circuit alone: all classes, their runs, and their shares by number.
+        self._whole: Any = None
+        self._cuts: dict[int, list[Any]] = {}
+        self._run_of: Any = None
         self._measure(FsSizes())
 
     def _call(self, function: Any, *arguments: Any) -> int:
@@ -178,7 +208,8 @@ class Job:
 
     def close(self) -> None:
         """Frees the job. A second call does nothing."""
-        if hasattr(self, "_lock"):
+        if hasattr(self, "_run_of"):
+            self._free_helpers()
             self._call(library.fs_job_free)
 
     __del__ = close
@@ -200,21 +231,27 @@ class Job:
         other._sizes()
         return other
 
-    def set_tests(self, tests: Any, count: Optional[int] = None) -> None:
+    def set_tests(
+        self, tests: Any, count: Optional[int] = None, keep_last: bool = False
+    ) -> None:
         """Takes tests in place of the job's.
 
         tests: a text with a line of 0s and 1s for each test; or rows of 0 and 1, of the shape
         (tests, sources), as a list or a numpy array; or, with `count`, words: for each block of 64
         tests one for each source, in one list, with bit k for test 64 * block + k.
 
+        keep_last: the job's last test stays, as test 0 before the new ones, which are rows or words.
+        So under `Model.TRANSITION` the pair of it and the first new test isn't lost.
+
         Raises `Error` if a text or words are wrong, `IndexError` if rows have another width,
         `ValueError` if they have another bit, and `RuntimeError` if `share` made another job that
         isn't closed.
         """
         fault = FsFault()
+        self._free_helpers()
         if isinstance(tests, (str, bytes, bytearray, memoryview)):
-            if count is not None:
-                raise TypeError("count goes with words, and not with a text")
+            if count is not None or keep_last:
+                raise TypeError("count and keep_last don't go with a text")
             text = _bytes(tests)
             check(self._call(library.fs_set_text, text, len(text), fault), fault)
         else:
@@ -224,9 +261,8 @@ class Job:
                 count, words = _packed(tests, self.sources)
             else:
                 count, words = _words_of(list(tests), self.sources)
-            status = self._call(
-                library.fs_set_words, _number(count), _address(words), len(words), fault
-            )
+            call = library.fs_next_words if keep_last else library.fs_set_words
+            status = self._call(call, _number(count), _address(words), len(words), fault)
             check(status, fault)
         self._sizes()
 
@@ -240,7 +276,7 @@ class Job:
         """The stem of each class, the signal at which its fanout-free region ends: an array of the
         shape (classes,)."""
         stems = _room(self.classes, "I")
-        check(library.fs_stems_of(self._handle, _address(stems), len(stems)))
+        check(self._call(library.fs_stems_of, _address(stems), len(stems)))
         return stems
 
     def _text(self, function: Any, *numbers: Any) -> bytes:
@@ -293,8 +329,8 @@ class Job:
         return word.value
 
     def observers(self) -> Any:
-        """The signal of each observer, the OUTPUT lines and then the data pins of the flip-flops: an
-        array of the shape (observers,)."""
+        """The signal of each observer, the OUTPUT lines and then the data pins of the flip-flops:
+        an array of the shape (observers,)."""
         wanted, signals = ctypes.c_size_t(), _room(0, "I")
         for _ in range(2):
             status = self._call(library.fs_observers_of, _address(signals), len(signals), wanted)
@@ -317,50 +353,105 @@ class Job:
         coverage, and with `classes` that of the classes."""
         return self._text(library.fs_report, _number(lines), classes).decode()
 
+    def _all(self) -> Any:
+        """All classes, in an array that is kept."""
+        if self._whole is None:
+            self._whole = _numbers(range(self.classes), "I")
+        return self._whole
+
     def simulate(self, classes: Optional[Iterable[int]] = None, workers: int = 1) -> Any:
         """The first test that detects each class of a list, or of all: an array of the shape
         (classes,), with `NONE` for a class that no test detects.
 
-        workers: the number of threads, each with a job that `share` makes and with whole regions,
-        so that no two simulate one region.
+        workers: the number of threads that simulate. Each but the caller's has a job of its own,
+        which this one shares and keeps until `set_tests` or `close`. They take shares of whole
+        regions, so that no two simulate one region, and each takes the next share when it is done
+        with one.
         """
-        asked = _numbers(range(self.classes) if classes is None else classes, "I")
+        asked = self._all() if classes is None else _numbers(classes, "I")
         found = _room(len(asked), "I")
         workers = max(1, min(workers, len(asked)))
         if workers == 1:
             self._simulate(asked, found)
             return found
-        parts = self._parts(asked, workers)
-        jobs = [self.share() for _ in parts]
+        shares = deque(self._cut(None if classes is None else asked, SHARES * workers))
+        jobs: list[Job] = []
         try:
-            with ThreadPoolExecutor(workers) as pool:
-                runs = [
-                    pool.submit(job._part, _numbers([asked[at] for at in part], "I"))
-                    for job, part in zip(jobs, parts)
-                ]
-                for run, part in zip(runs, parts):
-                    for at, first in zip(part, run.result()):
-                        found[at] = first
+            for _ in range(workers - 1):
+                jobs.append(self._helper())
+            with ThreadPoolExecutor(workers - 1) as pool:
+                runs = [pool.submit(job._work, asked, shares, found) for job in jobs]
+                self._work(asked, shares, found)
+                for run in runs:
+                    run.result()
         finally:
-            for job in jobs:
-                job.close()
+            self._helpers.extend(jobs)
         return found
 
-    def _parts(self, asked: Any, workers: int) -> list[list[int]]:
-        """The places of a list of classes in so many parts, each with whole regions."""
-        stems = self.stems_of()
-        if any(int(class_) >= self.classes for class_ in asked):
-            raise IndexError("a class is out of range")
-        stem_at = [int(stems[int(class_)]) for class_ in asked]
-        places = sorted(range(len(asked)), key=stem_at.__getitem__)
-        parts: list[list[int]] = [[] for _ in range(workers)]
-        part = 0
-        for done, at in enumerate(places):
-            new_region = done == 0 or stem_at[at] != stem_at[places[done - 1]]
-            if new_region:
-                part = max(part, done * workers // len(places))
-            parts[part].append(at)
-        return [it for it in parts if it]
+    def _helper(self) -> "Job":
+        """A job of the same tests for another thread: one that is kept, or a new one."""
+        try:
+            return self._helpers.pop()
+        except IndexError:
+            return self.share()
+
+    def _free_helpers(self) -> None:
+        try:
+            while True:
+                self._helpers.pop().close()
+        except IndexError:
+            pass
+
+    def _work(self, asked: Any, shares: Any, found: Any) -> None:
+        """Simulates one share after another, each the places of classes in a list."""
+        while True:
+            try:
+                places = shares.popleft()
+            except IndexError:
+                return
+            if numpy is not None:
+                found[places] = self._part(asked[places])
+            else:
+                firsts = self._part(array("I", map(asked.__getitem__, places)))
+                for at, first in zip(places, firsts):
+                    found[at] = first
+
+    def _cut(self, asked: Any, count: int) -> list[Any]:
+        """The shares of a list of classes, or of all. Those of all are kept."""
+        if asked is not None:
+            return self._shares(asked, count)
+        if count not in self._cuts:
+            self._cuts[count] = self._shares(self._all(), count)
+        return self._cuts[count]
+
+    def _shares(self, asked: Any, count: int) -> list[Any]:
+        """The places of a list of classes in at most so many shares, each with whole regions. Each
+        share has regions from all over the circuit, so they take about the same time."""
+        runs = self._runs()
+        if numpy is not None:
+            if len(asked) and int(asked.max()) >= self.classes:
+                raise IndexError("a class is out of range")
+            share_of = (numpy.arange(RUNS) % count).astype(numpy.uint16)[runs[asked]]
+            places = numpy.argsort(share_of, kind="stable")
+            ends = numpy.cumsum(numpy.bincount(share_of, minlength=count))
+            parts = numpy.split(places, ends[:-1])
+        else:
+            parts = [array("I") for _ in range(count)]
+            take = [parts[run % count].append for run in range(RUNS)]
+            try:
+                for at, class_ in enumerate(asked):
+                    take[runs[class_]](at)
+            except IndexError:
+                raise IndexError("a class is out of range") from None
+        return [it for it in parts if len(it)]
+
+    def _runs(self) -> Any:
+        """The run of each class. The classes by their stems, so that those of a region stand
+        together, are cut into runs of whole regions. It depends on the circuit alone, and so is
+        kept."""
+        if self._run_of is None:
+            self._run_of = _runs_of(self.stems_of())
+        return self._run_of
 
     def _part(self, asked: Any) -> Any:
         found = _room(len(asked), "I")
@@ -382,7 +473,7 @@ class Job:
     def detections(self, most: int, classes: Optional[Iterable[int]] = None) -> Any:
         """How many tests detect each class of a list, or of all, counted up to `most`: an array
         of the shape (classes,)."""
-        asked = _numbers(range(self.classes) if classes is None else classes, "I")
+        asked = self._all() if classes is None else _numbers(classes, "I")
         counts = _room(len(asked), "I")
         status = self._call(
             library.fs_detections,
@@ -399,6 +490,8 @@ class Job:
         """How many faults the tests detect, and how many there are."""
         found = self.simulate(workers=workers)
         of = self.classes_of()
+        if numpy is not None:
+            return int((found[of] != NONE).sum()), self.faults
         return sum(int(found[int(class_)]) != NONE for class_ in of), self.faults
 
 

@@ -79,6 +79,7 @@ SIGNATURES = {
     "fs_job_share": (_U32, [_JOB, _JOB]),
     "fs_sizes_of": (_U32, [_JOB, _SIZES]),
     "fs_set_words": (_U32, [_JOB, _U32, _U64S, _SIZE, _FAULT]),
+    "fs_next_words": (_U32, [_JOB, _U32, _U64S, _SIZE, _FAULT]),
     "fs_set_text": (_U32, [_JOB, _U8S, _SIZE, _FAULT]),
     "fs_classes_of": (_U32, [_JOB, _U32S, _SIZE]),
     "fs_stems_of": (_U32, [_JOB, _U32S, _SIZE]),

@@ -11,4 +11,4 @@ returns-clause-done c name low of =
     let same : c.as_bytes.result.now ≡ name =
     some_inj (ap Some c.as_bytes.ensures.value ∙ named ∙ of) in
     subst (λ (bytes : List ℕ). IsCopied bytes c.args.text.now c.copy_text.new.text
-    c.copy_text.new.wanted c.copy_text.result) same c.copy_text.ensures
+    c.copy_text.new.wanted c.copy_text.result) same c.copy_text.ensures.copied

@@ -1,5 +1,5 @@
--- What is held may cross threads: the allocator may, and so may the session and the right to free
--- its box.
+-- What is held may cross threads: the allocator may, and so may what the handle has and the right to
+-- free its box.
 use mir.Raw.{raw}
 use base.Shift.{Keyless}
 use denote.Memory.{lone}
@@ -13,14 +13,14 @@ use Rattle.std_alloc.proofs.SendSync.{quiet, lies}
 use Rattle.std.specs.Global.{Global}
 use Rattle.std_heap.proofs.Global.TheSendSync as allocator
 use Rattle.faultsim_c.specs.Held.{Value, held_by}
-use Rattle.faultsim_c.specs.contracts.session.Session as session
-use Rattle.faultsim_c.proofs.session.Session.TheSendSync.{the_send as session_crosses}
+use Rattle.faultsim_c.specs.contracts.holding.Holding as holding
+use Rattle.faultsim_c.proofs.holding.Holding.TheSendSync.{the_send as holding_crosses}
 use Rattle.faultsim_c.specs.contracts.held.Held.{the_row, the_type}
 
 held_crosses : (a : Global) (p : Ptr) (held : Option Value) → Keyless (held_by a p held)
 held_crosses a p (Some v) = (
-  lies session.the_row session_crosses p v,
-  heap.frees.frees a (raw (lone (session.the_row).mir)) p,
+  lies holding.the_row holding_crosses p v,
+  heap.frees.frees a (raw (lone (holding.the_row).mir)) p,
 )
 held_crosses a p None = tt
 
@@ -28,6 +28,6 @@ fields_cross : AllSend (fields the_type)
 fields_cross = (search sendable, (allocator.the_field_send, tt))
 
 pub send : IsSend the_row
-send = owning_send the_type fields_cross (λ h. held_crosses h.alloc h.at h.session)
+send = owning_send the_type fields_cross (λ h. held_crosses h.alloc h.at h.holding)
     (λ k. quiet (to the_type) (exits_of k (fields the_type)) ((struct_send
     (shape the_type) fields_cross).leaving k))

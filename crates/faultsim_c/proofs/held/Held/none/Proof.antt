@@ -34,7 +34,7 @@ none_spec 𝓤 𝓛 𝓜 𝓡 wired =
     proved_at 𝓛 f.ended stayed c 𝓜 𝓡 (Goes-dropped 𝓛 0 handle yes (λ κs x w. refl), tt)
     f.Key.name code.function (code.unfolded 𝓤 𝓛.H 𝓜 𝓡 wired) (λ y are.
     let a = y.0.3.0 in let vs = y.0.4.0 in let Z = heap_of_c in
-    let made : (held.the_row).Denot = record { at = null_ptr; alloc = a; session = None } in
+    let made : (held.the_row).Denot = record { at = null_ptr; alloc = a; holding = None } in
     qed 𝓛 ((‵ ftrue ⊛ ‵ (fsep (Z.row.own_val a vs) ftrue)) ∷ raw (emp 𝓤) ∷ []) ∵
     split ! $ drop ! $ fsplit ! $ handle_tells Z ! a vs (λ hv one fits.
     regoal ! (λ (us : List Val). prop (WpFn 𝓤 𝓛.H 𝓣.C 𝓣.Λ code.function (us ++ [])

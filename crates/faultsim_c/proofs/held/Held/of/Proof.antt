@@ -16,7 +16,7 @@ use denote.Struct.Owning.{row}
 use denote.Steps.{nothing}
 use denote.Triple.Walked.{says, Stays, stay_dropped, walk_of, ends_at, Goes-dropped}
 use Rattle.std.proofs.raw_atomic.Walks.{proved_at}
-use Rattle.faultsim_c.proofs.Boxed.{heap_of_c, taken_session, taken_type}
+use Rattle.faultsim_c.proofs.Boxed.{heap_of_c, taken_holding, taken_type}
 use Rattle.faultsim_c.proofs.Pointed.{word, word_typed, pointer_typed, fields_out, fields_in}
 use Rattle.faultsim_c.specs.contracts.held.Held as held
 use Rattle.faultsim_c.specs.contracts.held.Held.of as f
@@ -24,17 +24,17 @@ use Rattle.faultsim_c.proofs.held.Held.of.Statement.{statement}
 use Rattle.faultsim_c.proofs.held.Held.of.Code as code
 
 abbrev stayed : Stays (f.ended).signature.params (f.ended).kept
-stayed = (stay_dropped taken_session yes, tt)
+stayed = (stay_dropped taken_holding yes, tt)
 
 pub of_spec : {M : Type 1} → statement M
 of_spec 𝓤 𝓛 𝓜 𝓡 wired =
     let c = f.clauses 𝓛 𝓜.mem 𝓡.returns in let W = walk_of 𝓛 f.ended stayed c in
     let 𝓣 = tables 𝓤 𝓛.H 𝓜 𝓡 𝓡.env in
-    proved_at 𝓛 f.ended stayed c 𝓜 𝓡 (Goes-dropped 𝓛 0 taken_session yes (λ κs x w. refl), tt)
+    proved_at 𝓛 f.ended stayed c 𝓜 𝓡 (Goes-dropped 𝓛 0 taken_holding yes (λ κs x w. refl), tt)
     f.Key.name code.function (code.unfolded 𝓤 𝓛.H 𝓜 𝓡 wired) (λ y are.
     let t = y.0.3.0 in let p = t.ptr in let a = t.alloc in let vs = y.0.4.0 in
     let Z = heap_of_c in let From = row taken_type in
-    let made : (held.the_row).Denot = record { at = p; alloc = a; session = Some t.value } in
+    let made : (held.the_row).Denot = record { at = p; alloc = a; holding = Some t.value } in
     qed 𝓛 ((‵ ftrue ⊛ ‵ (fsep (From.own_val t vs) ftrue)) ∷ raw (emp 𝓤) ∷ []) ∵
     split ! $ drop ! $ fsplit ! $ fsplit ! $ fields_out Z ! p a vs (λ hv one fits.
     regoal ! (λ (us : List Val). prop (WpFn 𝓤 𝓛.H 𝓣.C 𝓣.Λ code.function (us ++ [])

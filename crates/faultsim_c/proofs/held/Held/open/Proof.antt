@@ -1,4 +1,4 @@
--- `open` moves the pointer and the allocator, and with a session they own its box.
+-- `open` moves the pointer and the allocator, and where it holds something they own its box.
 use Rattle.std.proofs.Common.{◌≡◌, List, [], ◌∷◌, ◌++◌, refl}
 use Rattle.std.specs.Prelude.{Option, Some}
 use mir.Val.{Val}
@@ -18,7 +18,7 @@ use denote.Steps.{heard, nothing}
 use denote.Triple.Walked.{says, Stays, stay_dropped, walk_of, ends_at, Goes-dropped}
 use Rattle.std.proofs.raw_atomic.Walks.{proved_at}
 use Rattle.faultsim_c.specs.Held.{Value, held_by}
-use Rattle.faultsim_c.proofs.Boxed.{heap_of_c, held_session, taken_type}
+use Rattle.faultsim_c.proofs.Boxed.{heap_of_c, held_handle, taken_type}
 use Rattle.faultsim_c.proofs.Pointed.{word, word_typed, pointer_typed, fields_out, fields_in}
 use Rattle.faultsim_c.specs.contracts.held.Held as held
 use Rattle.faultsim_c.specs.contracts.held.Held.«open» as f
@@ -26,17 +26,17 @@ use Rattle.faultsim_c.proofs.held.Held.«open».Statement.{statement}
 use Rattle.faultsim_c.proofs.held.Held.«open».Code as code
 
 abbrev stayed : Stays (f.ended).signature.params (f.ended).kept
-stayed = (stay_dropped held_session yes, tt)
+stayed = (stay_dropped held_handle yes, tt)
 
 pub open_spec : {M : Type 1} → statement M
 open_spec 𝓤 𝓛 𝓜 𝓡 wired =
     let c = f.clauses 𝓛 𝓜.mem 𝓡.returns in let W = walk_of 𝓛 f.ended stayed c in
     let 𝓣 = tables 𝓤 𝓛.H 𝓜 𝓡 𝓡.env in
-    proved_at 𝓛 f.ended stayed c 𝓜 𝓡 (Goes-dropped 𝓛 0 held_session yes (λ κs x w. refl), tt)
+    proved_at 𝓛 f.ended stayed c 𝓜 𝓡 (Goes-dropped 𝓛 0 held_handle yes (λ κs x w. refl), tt)
     f.Key.name code.function (code.unfolded 𝓤 𝓛.H 𝓜 𝓡 wired) (λ y are.
     let h = y.0.3.0 in let p = h.at in let a = h.alloc in let vs = y.0.4.0 in
     let Z = heap_of_c in let To = row taken_type in
-    let IsHeld : Type 0 = (v : Value) × (h.session ≡ Some v) in
+    let IsHeld : Type 0 = (v : Value) × (h.holding ≡ Some v) in
     qed 𝓛 ((‵ ftrue ⊛ ‵ (fsep ((held.the_row).own_val h vs) ftrue)) ∷ raw (fact 𝓤 IsHeld) ∷ []) ∵
     move ! (1 ∷ []) $ heard ! IsHeld (λ held_is.
     let made : To.Denot = record { ptr = p; alloc = a; value = held_is.0 } in

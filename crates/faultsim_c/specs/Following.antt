@@ -1,0 +1,15 @@
+-- New tests behind the last one of a list.
+use Rattle.std.specs.Prelude.{◌-◌, ◌++◌, Bool, List, length, drop}
+use Rattle.patterns.specs.Tests.{TestList}
+
+-- the last test, if there is one
+abbrev pub last_of : List (List Bool) → List (List Bool)
+last_of tests = drop (length tests - 1) tests
+
+-- the last of some tests, and behind it others
+abbrev pub behind_last : List (List Bool) → List (List Bool) → List (List Bool)
+behind_last old new = last_of old ++ new
+
+-- tests of the same width
+abbrev pub following : TestList → TestList → TestList
+following old new = record { width = new.width; tests = behind_last old.tests new.tests }
