@@ -110,27 +110,27 @@ static uint32_t without(void) {
     return status ? status : fs_version() - FAULTSIM_VERSION;
 }
 
-/* Whether the handle answers as it did before any allocation was refused. */
-static int is_as_before(void) {
-    fs_sizes now;
-    memset(&now, 0, sizeof now);
-    if (!expected)
-        return fs_sizes_of(&job, &now) == (n.faults ? FS_DONE : FS_NO_JOB);
-    return !fs_sizes_of(&job, &now) && !memcmp(&now, &n, sizeof n) && !simulate()
-        && !memcmp(firsts, expected, n.classes * sizeof *firsts);
+/* Whether the handle answers as it did before an allocation was refused. */
+static int is_as_before(uint32_t had, const fs_sizes *before) {
+    fs_sizes now = {0};
+    return fs_sizes_of(&job, &now) == had && !memcmp(&now, before, sizeof now)
+        && (!expected
+            || (!simulate() && !memcmp(firsts, expected, n.classes * sizeof *firsts)));
 }
 
 /* Refuses the first allocation of a call, then the second, until none is left to refuse. Returns
  * how many were refused. */
 static long refuse(const char *name, uint32_t (*call)(void)) {
     for (long at = 1, done = 0;; at++) {
+        fs_sizes before = {0};
+        uint32_t had = fs_sizes_of(&job, &before);
         left = at;
         uint32_t status = call();
         int none_refused = left != 0;
         left = 0;
         if (status != FS_DONE && (status != FS_MEMORY || none_refused))
             end(name, at);
-        if (status == FS_MEMORY && !is_as_before())
+        if (status == FS_MEMORY && !is_as_before(had, &before))
             end(name, at);
         if (none_refused) {
             printf("%-14s %4ld refused, %ld done without\n", name, at - 1, done);
@@ -216,7 +216,7 @@ int main(int argc, char **argv) {
     if (refuse("the others", without))
         end("a call that takes no memory", 0);
     fs_job_free(&second);
-    if (!is_as_before())
+    if (!is_as_before(FS_DONE, &n))
         end("fs_job_free", 0);
     fs_job_free(&job);
     free(classes);
