@@ -187,3 +187,16 @@ marked_twice (true ∷ marks) (false ∷ inner) [] = refl
 marked_twice (true ∷ marks) (true ∷ inner) (x ∷ xs) =
     ap (λ ys. x ∷ ys) (marked_twice marks inner xs)
 marked_twice (true ∷ marks) (false ∷ inner) (x ∷ xs) = marked_twice marks inner xs
+
+-- as many elements of two lists of one length are marked
+pub as_many_marked : {X Y : Type 0} (marks : List Bool) (xs : List X) (ys : List Y)
+    → length xs ≡ length ys → length (at_marks marks xs) ≡ length (at_marks marks ys)
+as_many_marked [] xs ys e = refl
+as_many_marked (true ∷ marks) [] [] e = refl
+as_many_marked (false ∷ marks) [] [] e = refl
+as_many_marked (mark ∷ marks) [] (y ∷ ys) e = absurd (omega (arith, e))
+as_many_marked (mark ∷ marks) (x ∷ xs) [] e = absurd (omega (arith, e))
+as_many_marked (true ∷ marks) (x ∷ xs) (y ∷ ys) e =
+    ap suc (as_many_marked marks xs ys (omega (arith, e)))
+as_many_marked (false ∷ marks) (x ∷ xs) (y ∷ ys) e =
+    as_many_marked marks xs ys (omega (arith, e))

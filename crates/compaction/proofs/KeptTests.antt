@@ -21,17 +21,19 @@ use Rattle.fault_model.specs.Solution.{Test, Detects}
 use Rattle.fault_model.specs.declared.Line.{Line}
 use Rattle.fault_model.specs.Detection.{DetectsAt, IsInitialized, IsSecondOfPair, LooksBack}
 use Rattle.fault_model.proofs.Public.{listed_model}
+use Rattle.patterns.specs.Least.{below}
 use Rattle.patterns.specs.Tests.{TestList, blocks}
 use Rattle.block_sim.specs.First.{IsFirst}
 use Rattle.block_sim.specs.Parts.{Parts, with_tests}
 use Rattle.workers.specs.declared.RunFault.{RunFault}
 use Rattle.workers.specs.declared.RunFault.TheVariants as run_fault
-use Rattle.workers.specs.Refused.{IsRunFault}
+use Rattle.workers.specs.Part.{stretch_size}
+use Rattle.workers.specs.Refused.{IsPartsFault}
 use Rattle.workers.specs.Stops.{no_stop}
 use Rattle.workers.specs.Verdict.{AreFirsts}
-use Rattle.compaction.specs.Compaction.{Covers, IsCompaction, IsFirstForSome, IsLastForSome}
-use Rattle.compaction.specs.Compaction.{IsNeeded, finds, is_first, at_marks, row_of}
-use Rattle.compaction.specs.Marks.{AreFinding, AreLast}
+use Rattle.compaction.specs.Compaction.{Covers, IsFirstForSome, IsLastForSome}
+use Rattle.compaction.specs.Compaction.{IsNeeded, IsNumbered, finds, is_first, at_marks, row_of}
+use Rattle.compaction.specs.Marks.{AreFinding, AreLast, AreLastOf}
 use Rattle.compaction.proofs.ElementsAtMarks.{ComesFrom, both_counted, both_marked, both_marks}
 use Rattle.compaction.proofs.ElementsAtMarks.{comes_from, earlier_place, marked_at, marked_twice}
 use Rattle.compaction.proofs.ElementsAtMarks.{ones, ones_counted, ones_next, ones_stay}
@@ -137,9 +139,10 @@ pub are_last : (c : List Statement) (tests turned : List Test) (found marks : Li
     → length turned ≡ length tests → ReversedBelow tests turned (length tests)
     → AreFinding StuckAt c turned found
     → length marks ≡ length tests → ReversedBelow found marks (length tests)
-    → AreLast c tests (at_marks marks tests)
-are_last c tests turned found marks count round are marked_all back =
-    record { rows = (marks, marked_all, refl); covers = covers; last = last }
+    → (given numbers : List ℕ) → numbers ≡ at_marks marks given
+    → AreLastOf c tests (at_marks marks tests) given numbers
+are_last c tests turned found marks count round are marked_all back given numbers e =
+    (record { rows = (marks, marked_all, refl); covers = covers; last = last }, e)
   where
     all_found : length found ≡ length tests
     all_found = are.count ∙ count
@@ -204,18 +207,25 @@ are_last c tests turned found marks count round are marked_all back =
             (stuck_at c turned f place detects.0 listed (turned_to tests turned
             (length tests) other.place detects.0 refl count round other.at) detects.2)
 
-pub compacted_stuck : (c : List Statement) (tests kept : List Test) (marks : List Bool)
-    → AreFinding StuckAt c tests marks → AreLast c (at_marks marks tests) kept
-    → IsCompaction StuckAt c tests kept
-compacted_stuck c tests kept marks are last_are =
-    record {
-      marks = both;
-      count = all;
-      rows = rows;
-      covers = covers;
-      needed = needed;
-    }
+pub numbered_stuck : (c : List Statement) (tests kept : List Test) (marks : List Bool)
+    (given numbers : List ℕ) → AreFinding StuckAt c tests marks
+    → given ≡ at_marks marks (below (length tests))
+    → AreLastOf c (at_marks marks tests) kept given numbers → IsNumbered StuckAt c tests kept numbers
+numbered_stuck c tests kept marks given numbers are numbered last_of = (
+  record {
+    marks = both;
+    count = all;
+    rows = rows;
+    covers = covers;
+    needed = needed;
+  },
+  last_of.1 ∙ (ap (at_marks last_are.rows.0) numbered
+      ∙ marked_twice marks last_are.rows.0 (below (length tests))),
+)
   where
+    last_are : AreLast c (at_marks marks tests) kept
+    last_are = last_of.0
+
     both : List Bool
     both = both_marks marks last_are.rows.0
 
@@ -306,18 +316,21 @@ pub record LooksBackSame (m : Model) (c : List Statement) (tests : List Test)
       → IsFirstForSome m c tests t ⊎ IsFirstForSome m c tests (t + 1)
       → IsNeeded m c tests kept t k
 
-pub compacted_before : (m : Model) (c : List Statement) (tests : List Test)
-    (found marks : List Bool) → AreFinding m c tests found → AreWithBefore found marks
-    → LooksBackSame m c tests found marks
-    → IsCompaction m c tests (at_marks marks tests)
-compacted_before m c tests found marks are before looks_back =
-    record {
-      marks = marks;
-      count = before.count ∙ are.count;
-      rows = refl;
-      covers = covers;
-      needed = needed;
-    }
+pub numbered_before : (m : Model) (c : List Statement) (tests : List Test)
+    (found marks : List Bool) (numbers : List ℕ) → AreFinding m c tests found
+    → AreWithBefore found marks → LooksBackSame m c tests found marks
+    → numbers ≡ at_marks marks (below (length tests))
+    → IsNumbered m c tests (at_marks marks tests) numbers
+numbered_before m c tests found marks numbers are before looks_back e = (
+  record {
+    marks = marks;
+    count = before.count ∙ are.count;
+    rows = refl;
+    covers = covers;
+    needed = needed;
+  },
+  e,
+)
   where
     kept_pair : (s : ℕ) (f : Fault) → Contains (faults m c) f → slice_get found s ≡ Some true
         → DetectsAt c tests f s → (k : ℕ) × DetectsAt c (at_marks marks tests) f k
@@ -487,23 +500,26 @@ looks_back_pairs c tests found marks are before = record {
 
 -- ---- by the model of the job
 
-pub stuck_compacted : (m : Model) (c : List Statement) (tests rows kept : List Test)
-    (marks : List Bool) → m ≡ StuckAt → AreFinding m c tests marks → rows ≡ at_marks marks tests
-    → AreLast c rows kept → IsCompaction m c tests kept
-stuck_compacted m c tests rows kept marks model are is last =
-    subst (λ x. IsCompaction x c tests kept) (sym model)
-    (compacted_stuck c tests kept marks (subst (λ x. AreFinding x c tests marks) model are)
-    (subst (λ xs. AreLast c xs kept) is last))
+pub stuck_numbered : (m : Model) (c : List Statement) (tests rows kept : List Test)
+    (marks : List Bool) (given numbers : List ℕ) → m ≡ StuckAt → AreFinding m c tests marks
+    → rows ≡ at_marks marks tests → given ≡ at_marks marks (below (length tests))
+    → AreLastOf c rows kept given numbers → IsNumbered m c tests kept numbers
+stuck_numbered m c tests rows kept marks given numbers model are is numbered last =
+    subst (λ x. IsNumbered x c tests kept numbers) (sym model)
+    (numbered_stuck c tests kept marks given numbers
+    (subst (λ x. AreFinding x c tests marks) model are) numbered
+    (subst (λ xs. AreLastOf c xs kept given numbers) is last))
 
 -- both models under which a test looks back to the one before it
-pub before_compacted : (m x : Model) (c : List Statement) (tests kept : List Test)
-    (found marks : List Bool) → m ≡ x → (x ≡ Transition) ⊎ (x ≡ TransitionPairs)
+pub before_numbered : (m x : Model) (c : List Statement) (tests kept : List Test)
+    (found marks : List Bool) (numbers : List ℕ) → m ≡ x
+    → (x ≡ Transition) ⊎ (x ≡ TransitionPairs)
     → AreFinding m c tests found → AreWithBefore found marks → kept ≡ at_marks marks tests
-    → IsCompaction m c tests kept
-before_compacted m x c tests kept found marks same either are before is =
-    subst (λ xs. IsCompaction m c tests xs) (sym is)
-    (compacted_before m c tests found marks are before
-    (subst (λ y. LooksBackSame y c tests found marks) (sym same) (go either)))
+    → numbers ≡ at_marks marks (below (length tests)) → IsNumbered m c tests kept numbers
+before_numbered m x c tests kept found marks numbers same either are before is e =
+    subst (λ xs. IsNumbered m c tests xs numbers) (sym is)
+    (numbered_before m c tests found marks numbers are before
+    (subst (λ y. LooksBackSame y c tests found marks) (sym same) (go either)) e)
   where
     go : (x ≡ Transition) ⊎ (x ≡ TransitionPairs) → LooksBackSame x c tests found marks
     go (inl e) = subst (λ y. LooksBackSame y c tests found marks) (sym e)
@@ -525,18 +541,18 @@ pub fewer_pieces : (classes few many : ℕ) → few ≤ many
 fewer_pieces classes few many le =
     mul-le classes (blocks few) classes (blocks many) (omega arith) (omega (arith, le))
 
--- a run under tests that are no more is refused as one under the job's own
-pub refused_alike : (job : Parts) (tests : TestList) (workers : ℕ) (f : RunFault)
+-- a run in parts under tests that are no more is refused as one under the job's own
+pub refused_alike : (job : Parts) (tests : TestList) (parts workers : ℕ) (f : RunFault)
     → length tests.tests ≤ length job.tests.tests
-    → IsRunFault (with_tests job tests) workers ⊤ no_stop f
-    → IsRunFault job workers ⊤ no_stop f
-refused_alike job tests workers run_fault.NoWorkers le h = h
-refused_alike job tests workers run_fault.TooManyWorkers le h = h
-refused_alike job tests workers (run_fault.NoSuchMove index) le h = h
-refused_alike job tests workers run_fault.TooManyPieces le h =
-    let fewer = fewer_pieces (length job.classes.representative) (length tests.tests)
-    (length job.tests.tests) le in
+    → IsPartsFault (with_tests job tests) parts workers ⊤ no_stop f
+    → IsPartsFault job parts workers ⊤ no_stop f
+refused_alike job tests parts workers run_fault.NoWorkers le h = h
+refused_alike job tests parts workers run_fault.TooManyWorkers le h = h
+refused_alike job tests parts workers (run_fault.NoSuchMove index) le h = h
+refused_alike job tests parts workers run_fault.TooManyPieces le h =
+    let fewer = fewer_pieces (stretch_size (length job.classes.representative) parts)
+    (length tests.tests) (length job.tests.tests) le in
     (h.0, h.1, omega (arith, h.2, fewer))
-refused_alike job tests workers run_fault.Memory le h = h
-refused_alike job tests workers run_fault.Threads le h = h
-refused_alike job tests workers (run_fault.Unfinished class block) le h = absurd (h.4 tt)
+refused_alike job tests parts workers run_fault.Memory le h = h
+refused_alike job tests parts workers run_fault.Threads le h = h
+refused_alike job tests parts workers (run_fault.Unfinished class block) le h = absurd (h.4 tt)

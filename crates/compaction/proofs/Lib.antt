@@ -1,4 +1,5 @@
 mod ElementsAtMarks
+mod TestNumbers
 mod TurnedLists
 mod KeptTests
 pub mod Public

@@ -8,6 +8,7 @@ use Rattle.fault_model.specs.declared.Model.TheVariants.{StuckAt, Transition, Tr
 use Rattle.fault_model.specs.Fault.{Fault, faults}
 use Rattle.fault_model.specs.Solution.{Test}
 use Rattle.fault_model.specs.Detection.{DetectsAt}
+use Rattle.patterns.specs.Least.{below}
 use Rattle.block_sim.specs.First.{IsFirst}
 
 -- the elements at the places that are marked, in order
@@ -67,3 +68,8 @@ pub record IsCompaction (m : Model) (c : List Statement) (tests kept : List Test
   pub covers : Covers m c tests kept
   pub needed : (t : ℕ) → slice_get marks t ≡ Some true
       → IsNeeded m c tests kept t (row_of marks t)
+
+-- with the number that each row has in the list, from 0: those of the places that are marked
+abbrev pub IsNumbered : Model → List Statement → List Test → List Test → List ℕ → Type 0
+IsNumbered m c tests kept numbers = (is : IsCompaction m c tests kept)
+    × (numbers ≡ at_marks is.marks (below (length tests)))

@@ -8,6 +8,7 @@ use Rattle.fault_model.specs.Solution.{Test}
 use Rattle.fault_model.specs.Detection.{DetectsAt}
 use Rattle.block_sim.specs.First.{IsFirst}
 use Rattle.compaction.specs.Compaction.{Covers, IsFirstForSome, IsLastForSome, IsSublist}
+use Rattle.compaction.specs.Compaction.{at_marks}
 
 -- the tests that are marked are the first of some faults, and among them is the first test of each
 -- fault that a test detects
@@ -24,3 +25,8 @@ pub record AreLast (c : List Statement) (tests kept : List Test) : Type 0 where
   pub rows : IsSublist kept tests
   pub covers : Covers StuckAt c tests kept
   pub last : (k : ℕ) (row : Test) → slice_get kept k ≡ Some row → IsLastForSome StuckAt c kept k
+
+-- with the numbers that the rows have among those of the tests
+abbrev pub AreLastOf : List Statement → List Test → List Test → List ℕ → List ℕ → Type 0
+AreLastOf c tests kept given numbers =
+    (are : AreLast c tests kept) × (numbers ≡ at_marks are.rows.0 given)

@@ -4,28 +4,32 @@ ghost use Rattle.std.specs.Prelude.{◌≡◌, ℕ, ◌+◌, ◌<◌, ◌≤◌,
 ghost use Rattle.std.specs.Prelude.{length, slice_index_or};
 ghost use Rattle.compaction.specs.Compaction.{finds, is_first};
 ghost use Rattle.compaction.specs.Marks.{AreFinding};
-ghost use Rattle.workers.specs.Refused.{IsRunFault};
+ghost use Rattle.workers.specs.Refused.{ArePartsWithin, IsPartsFault};
 ghost use Rattle.workers.specs.Stops.{no_stop};
 
 use block_sim::Job;
 use std::alloc::{AllocError, Global};
 use std::sync::Wait;
 use std::thread::Threads;
-use workers::{RunFault, Verdicts, run_open};
+use workers::{OpenGate, RunFault, Verdicts, run_in_parts};
 
-/// Tells of each test of a job whether it is the first to detect some fault.
+/// Tells of each test of a job whether it is the first to detect some fault. The run is one in so
+/// many parts.
 pub fn finding_tests<R: Threads + Wait>(
     rt: &R,
     alloc: Global,
     job: &Job,
+    parts: u32,
     workers: u32,
 ) -> Result<Vec<bool>, RunFault>
+    requires { 0 < parts }
     ensures marks { IfOk result (λ marks. AreFinding job.now.list.model job.now.circuit
         job.now.tests.tests marks.items) }
     ensures workers { OnOk result ((0 < workers) × (workers ≤ 64)) }
-    ensures refused { IfErr result (IsRunFault job.now workers ⊤ no_stop) }
+    ensures within { OnOk result (ArePartsWithin job.now parts) }
+    ensures refused { IfErr result (IsPartsFault job.now parts workers ⊤ no_stop) }
 {
-    let verdicts = run_open(rt, alloc, job, workers)?;
+    let verdicts = run_in_parts(rt, alloc, job, parts, workers, &OpenGate)?;
     Ok(marks_of(alloc, &verdicts, job.tests().count())?)
 }
 

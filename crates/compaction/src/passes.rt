@@ -2,22 +2,23 @@
 
 ghost use Rattle.std.specs.Prelude.{◌≡◌, ◌<◌, ◌≤◌, ⊤, IfErr, IfOk, OnOk, length};
 ghost use Rattle.block_sim.specs.Parts.{BelongTogether, with_tests};
-ghost use Rattle.compaction.specs.Compaction.{IsCompaction};
-ghost use Rattle.compaction.specs.Marks.{AreLast};
+ghost use Rattle.compaction.specs.Compaction.{IsCompaction, IsNumbered};
+ghost use Rattle.compaction.specs.Marks.{AreLastOf};
 ghost use Rattle.patterns.specs.Tests.{IsTestList};
 ghost use Rattle.fault_model.specs.declared.Model.TheVariants as model;
-ghost use Rattle.workers.specs.Refused.{IsRunFault};
+ghost use Rattle.workers.specs.Refused.{ArePartsWithin, IsPartsFault, IsRunFault};
 ghost use Rattle.workers.specs.Stops.{no_stop};
 
+use crate::Kept;
 use crate::finding::{finding_tests, mark_before};
-use crate::rows::{marked_tests, reversed_tests};
+use crate::rows::{all_numbers, kept_tests, reversed_tests};
 use block_sim::Job;
 use fault_model::Model;
 use patterns::Tests;
 use std::alloc::Global;
 use std::sync::Wait;
 use std::thread::Threads;
-use workers::RunFault;
+use workers::{RunFault, parts_for};
 
 /// Fewer tests that detect the same faults: rows of the job's tests, in order. Each fault that some
 /// test of the job detects is detected by one of them.
@@ -45,15 +46,50 @@ pub fn compact<R: Threads + Wait>(
     ensures workers { OnOk result ((0 < workers) × (workers ≤ 64)) }
     ensures refused { IfErr result (IsRunFault job.old workers ⊤ no_stop) }
 {
-    let mut found = finding_tests(rt, alloc, job, workers)?;
+    let parts = parts_for(job, workers);
+    match compact_in_parts(rt, alloc, job, parts, workers) {
+        Ok(kept) => {
+            let Kept {
+                tests,
+                numbers: _numbers,
+            } = kept;
+            Ok(tests)
+        }
+        Err(fault) => Err(fault),
+    }
+}
+
+/// The tests that [`compact`] keeps, each with its number in the list. Each run is one in so many
+/// parts.
+///
+/// It is refused as [`workers::run_in_parts`] is.
+pub fn compact_in_parts<R: Threads + Wait>(
+    rt: &R,
+    alloc: Global,
+    job: &mut Job,
+    parts: u32,
+    workers: u32,
+) -> Result<Kept, RunFault>
+    requires { 0 < parts }
+    ensures compacted { IfOk result (λ kept. IsNumbered job.old.list.model job.old.circuit
+        job.old.tests.tests kept.tests.tests kept.numbers.items) }
+    ensures list { IfOk result (λ kept. IsTestList kept.tests) }
+    ensures width { IfOk result (λ kept. kept.tests.width ≡ job.old.tests.width) }
+    ensures job { job.new ≡ with_tests job.old job.new.tests }
+    ensures workers { OnOk result ((0 < workers) × (workers ≤ 64)) }
+    ensures within { OnOk result (ArePartsWithin job.old parts) }
+    ensures refused { IfErr result (IsPartsFault job.old parts workers ⊤ no_stop) }
+{
+    let mut found = finding_tests(rt, alloc, job, parts, workers)?;
+    let numbers = all_numbers(alloc, job.tests().count())?;
     match job.faults().model() {
         Model::StuckAt => {
-            let kept = marked_tests(alloc, job.tests(), &found)?;
-            last_tests(rt, alloc, job, &kept, workers)
+            let kept = kept_tests(alloc, job.tests(), &numbers, &found)?;
+            last_tests(rt, alloc, job, &kept, parts, workers)
         }
         Model::Transition | Model::TransitionPairs => {
             mark_before(&mut found);
-            Ok(marked_tests(alloc, job.tests(), &found)?)
+            Ok(kept_tests(alloc, job.tests(), &numbers, &found)?)
         }
     }
 }
@@ -64,23 +100,27 @@ fn last_tests<R: Threads + Wait>(
     rt: &R,
     alloc: Global,
     job: &mut Job,
-    tests: &Tests,
+    given: &Kept,
+    parts: u32,
     workers: u32,
-) -> Result<Tests, RunFault>
+) -> Result<Kept, RunFault>
     requires job { BelongTogether job.old }
     requires model { job.old.list.model ≡ model.StuckAt }
-    requires width { tests.now.width ≡ job.old.tests.width }
-    requires few { length tests.now.tests ≤ length job.old.tests.tests }
+    requires width { given.now.tests.width ≡ job.old.tests.width }
+    requires few { length given.now.tests.tests ≤ length job.old.tests.tests }
+    requires numbers { length given.now.numbers.items ≡ length given.now.tests.tests }
+    requires parts { 0 < parts }
     requires workers { (0 < workers) × (workers ≤ 64) }
-    ensures last { IfOk result (λ kept. AreLast job.old.circuit tests.now.tests kept.tests) }
-    ensures list { IfOk result (λ kept. IsTestList kept) }
-    ensures width { IfOk result (λ kept. kept.width ≡ job.old.tests.width) }
+    ensures last { IfOk result (λ kept. AreLastOf job.old.circuit given.now.tests.tests
+        kept.tests.tests given.now.numbers.items kept.numbers.items) }
+    ensures list { IfOk result (λ kept. IsTestList kept.tests) }
+    ensures width { IfOk result (λ kept. kept.tests.width ≡ job.old.tests.width) }
     ensures job { job.new ≡ with_tests job.old job.new.tests }
-    ensures refused { IfErr result (IsRunFault job.old workers ⊤ no_stop) }
+    ensures refused { IfErr result (IsPartsFault job.old parts workers ⊤ no_stop) }
 {
-    let turned = reversed_tests(alloc, tests)?;
+    let turned = reversed_tests(alloc, &given.tests)?;
     job.set_tests_of_any_size_in_threads(rt, alloc, turned, workers)?;
-    let mut found = finding_tests(rt, alloc, job, workers)?;
+    let mut found = finding_tests(rt, alloc, job, parts, workers)?;
     found.reverse();
-    Ok(marked_tests(alloc, tests, &found)?)
+    Ok(kept_tests(alloc, &given.tests, &given.numbers, &found)?)
 }

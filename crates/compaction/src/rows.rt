@@ -1,16 +1,62 @@
-//! Lists of tests that are made of the tests of a list.
+//! Lists of tests that are made of the tests of a list, and their numbers.
 
 ghost use Rattle.std.specs.Prelude.{◌≡◌, ◌+◌, ◌<◌, ◌≤◌, ◌++◌, ◌∷◌, [], IfOk, OnOk, length};
 ghost use Rattle.std.specs.Prelude.{slice_index_or};
 ghost use Rattle.std.specs.List.{ReversedBelow};
 ghost use Rattle.compaction.specs.Compaction.{at_marks};
+ghost use Rattle.patterns.specs.Least.{below};
 ghost use Rattle.patterns.specs.Tests.{IsTestList, max_tests};
 
+use crate::Kept;
 use patterns::{PushFault, Tests};
 use std::alloc::{AllocError, Global};
 
+/// The numbers of so many tests, from 0.
+pub fn all_numbers(alloc: Global, tests: u32) -> Result<Vec<u32>, AllocError>
+    ensures { IfOk result (λ numbers. numbers.items ≡ below tests) }
+{
+    let mut numbers = Vec::with_capacity(alloc, tests as usize)?;
+    for test in 0..tests {
+        numbers.push(test)?;
+    }
+    Ok(numbers)
+}
+
+/// The tests of a list that are marked, in order, each with the number that the list has for it.
+pub fn kept_tests(
+    alloc: Global,
+    tests: &Tests,
+    numbers: &[u32],
+    marks: &[bool],
+) -> Result<Kept, AllocError>
+    requires marks { length marks.now ≡ length tests.now.tests }
+    requires numbers { length numbers.now ≡ length tests.now.tests }
+    ensures rows { IfOk result (λ kept. kept.tests.tests ≡ at_marks marks.now tests.now.tests) }
+    ensures numbers { IfOk result (λ kept. kept.numbers.items ≡ at_marks marks.now numbers.now) }
+    ensures list { IfOk result (λ kept. IsTestList kept.tests) }
+    ensures width { IfOk result (λ kept. kept.tests.width ≡ tests.now.width) }
+{
+    let numbers = marked_numbers(alloc, numbers, marks)?;
+    let tests = marked_tests(alloc, tests, marks)?;
+    Ok(Kept { tests, numbers })
+}
+
+/// The numbers that are marked, in order.
+fn marked_numbers(alloc: Global, numbers: &[u32], marks: &[bool]) -> Result<Vec<u32>, AllocError>
+    requires { length marks.now ≡ length numbers.now }
+    ensures { IfOk result (λ kept. kept.items ≡ at_marks marks.now numbers.now) }
+{
+    let mut kept = Vec::new(alloc);
+    for place in 0..marks.len() {
+        if marks[place] {
+            kept.push(numbers[place])?;
+        }
+    }
+    Ok(kept)
+}
+
 /// The tests of a list that are marked, in order.
-pub fn marked_tests(alloc: Global, tests: &Tests, marks: &[bool]) -> Result<Tests, AllocError>
+fn marked_tests(alloc: Global, tests: &Tests, marks: &[bool]) -> Result<Tests, AllocError>
     requires { length marks.now ≡ length tests.now.tests }
     ensures rows { IfOk result (λ kept. kept.tests ≡ at_marks marks.now tests.now.tests) }
     ensures list { IfOk result (λ kept. IsTestList kept) }

@@ -1,5 +1,6 @@
 -- The text of a compaction.
-use Rattle.std.specs.Prelude.{◌≡◌, ℕ, List, length}
+use Rattle.std.specs.Prelude.{◌≡◌, ℕ, List, ◌++◌, codes, decimal, flat_map, length, Result, Ok}
+use Rattle.std.specs.Prelude.{Err}
 use Rattle.bench_net.specs.Statement.{Statement}
 use Rattle.bench_net.specs.Scan.{sources}
 use Rattle.bench_net.specs.Refusal.{IsAccepted}
@@ -8,7 +9,13 @@ use Rattle.fault_model.specs.Solution.{Test}
 use Rattle.patterns.specs.Making.{test_text}
 use Rattle.patterns.specs.Tests.{TestList, HasTests}
 use Rattle.block_sim.specs.Parts.{Parts}
-use Rattle.compaction.specs.Compaction.{IsCompaction}
+use Rattle.compaction.specs.Compaction.{IsCompaction, IsNumbered}
+use Rattle.jobs.specs.declared.fault.SimFault.{SimFault}
+use Rattle.jobs.specs.declared.fault.SimFault.TheVariants as fault
+use Rattle.output.specs.Output.{Output, TakesAll, TakesFront}
+use Rattle.report.specs.declared.compacted.KeptCount.{KeptCount}
+use Rattle.report.specs.declared.compacted.KeptForm.{KeptForm}
+use Rattle.report.specs.declared.compacted.KeptForm.TheVariants.{Numbers, Rows}
 
 -- the bytes are the rows of a compaction of a test text for a bench text, under a model
 abbrev pub IsCompactionOf : Model → List ℕ → List ℕ → List ℕ → Type 0
@@ -16,7 +23,39 @@ IsCompactionOf m bench text bytes = (c : List Statement) × (tests : TestList)
     × (kept : List Test) × IsAccepted bench c × HasTests text (length (sources c)) tests
     × IsCompaction m c tests.tests kept × (bytes ≡ test_text kept)
 
+-- the line of a number
+abbrev pub number_line : ℕ → List ℕ
+number_line n = decimal n ++ codes "\n"
+
+-- what is written of the tests that are kept: their rows, or the number of each in the list
+abbrev pub kept_text : KeptForm → List Test → List ℕ → List ℕ
+kept_text Rows kept numbers = test_text kept
+kept_text Numbers kept numbers = flat_map number_line numbers
+
+-- how many of a list of tests are kept
+abbrev pub count_of : List Test → List Test → KeptCount
+count_of tests kept = record { kept = length kept; all = length tests }
+
+-- the bytes are the rows or the numbers of a compaction of a test text for a bench text, under a
+-- model, and so many tests are kept of so many
+abbrev pub IsKeptText : Model → List ℕ → List ℕ → KeptForm → KeptCount → List ℕ → Type 0
+IsKeptText m bench text form count bytes = (c : List Statement) × (tests : TestList)
+    × (kept : List Test) × (numbers : List ℕ) × IsAccepted bench c
+    × HasTests text (length (sources c)) tests × IsNumbered m c tests.tests kept numbers
+    × (count ≡ count_of tests.tests kept) × (bytes ≡ kept_text form kept numbers)
+
 -- the same of a job
-abbrev pub IsCompactionOfJob : Parts → List ℕ → Type 0
-IsCompactionOfJob job bytes = (kept : List Test)
-    × IsCompaction job.list.model job.circuit job.tests.tests kept × (bytes ≡ test_text kept)
+abbrev pub IsKeptTextOfJob : Parts → KeptForm → KeptCount → List ℕ → Type 0
+IsKeptTextOfJob job form count bytes = (kept : List Test) × (numbers : List ℕ)
+    × IsNumbered job.list.model job.circuit job.tests.tests kept numbers
+    × (count ≡ count_of job.tests.tests kept) × (bytes ≡ kept_text form kept numbers)
+
+-- What a call wrote that gives a value beside a text of this kind: the whole text of the value, and
+-- nothing else; a beginning of one, where the output failed; or nothing, where anything else was
+-- refused.
+abbrev pub GivesOneOf : {X : Type 0} → (X → List ℕ → Type 0) → Result X SimFault → Output → Output
+    → Type 0
+GivesOneOf IsText (Ok x) old new = (text : List ℕ) × IsText x text × TakesAll old new text
+GivesOneOf {X} IsText (Err (fault.Report f)) old new = (x : X) × (text : List ℕ) × IsText x text
+    × TakesFront old new text
+GivesOneOf IsText (Err _) old new = new ≡ old

@@ -1,21 +1,47 @@
-//! Fewer tests that detect the same faults, from the bytes of texts to the bytes of rows.
+//! Fewer tests that detect the same faults, from the bytes of texts to the bytes of rows or of
+//! numbers.
 
-ghost use Rattle.std.specs.Prelude.{◌<◌, ◌≤◌, IfErr, OnOk};
+ghost use Rattle.std.specs.Prelude.{◌≡◌, ◌<◌, ◌≤◌, ⊤, IfErr, OnOk, length};
+ghost use Rattle.std.specs.List.{flat_map};
 ghost use Rattle.block_sim.specs.Parts.{BelongTogether};
-ghost use Rattle.report.specs.Compacted.{IsCompactionOf, IsCompactionOfJob};
-ghost use Rattle.report.specs.Curve.{IsCurveFault};
-ghost use Rattle.report.specs.EndToEnd.{IsReportFault, WritesOneOf};
+ghost use Rattle.jobs.specs.Splits.{HasSomePart};
+ghost use Rattle.output.specs.Output.{Writes};
+ghost use Rattle.report.specs.Compacted.{GivesOneOf, IsCompactionOf, IsKeptText, IsKeptTextOfJob};
+ghost use Rattle.report.specs.Compacted.{kept_text, number_line};
+ghost use Rattle.report.specs.EndToEnd.{IsJobTextFault, IsListFault, IsReportFault, IsWatchedFault};
+ghost use Rattle.report.specs.EndToEnd.{IsWithin, WritesOneOf};
+ghost use Rattle.workers.specs.Refused.{ArePartsWithin, IsPartsFault};
+ghost use Rattle.workers.specs.Stops.{no_stop};
 
 use crate::whole::put_text;
 use block_sim::Job;
-use compaction::compact;
+use compaction::{Kept, compact_in_parts};
 use fault_model::Model;
-use jobs::{SimFault, job_of_in_threads};
-use output::Out;
+use itoa::Buffer;
+use jobs::{ReportFault, SimFault, Split, split_job_of};
+use output::{Out, OutFailed, put_pieces};
 use patterns::write_tests;
 use std::alloc::Global;
 use std::sync::Wait;
 use std::thread::Threads;
+
+/// What is written of the tests that a compaction keeps.
+#[derive(Clone, Copy, Debug, PartialEq, Eq)]
+pub enum KeptForm {
+    /// The tests: a test text.
+    Rows,
+    /// The number of each test in the list, from 0, on a line of its own.
+    Numbers,
+}
+
+/// How many tests a compaction keeps of how many.
+#[derive(Clone, Copy, Debug, PartialEq, Eq)]
+pub struct KeptCount {
+    /// The tests that are kept.
+    pub kept: u32,
+    /// All tests of the list.
+    pub all: u32,
+}
 
 /// Reads a circuit and tests for it, and writes a test text with some of the tests, in order, that
 /// detect each fault of a model that all detect ([`compaction::compact`]).
@@ -36,25 +62,112 @@ pub fn compact_text_in<R: Threads + Wait, W: Out>(
     ensures refused { IfErr result (IsReportFault model bench.now tests.now workers) }
     ensures workers { OnOk result ((0 < workers) × (workers ≤ 64)) }
 {
-    let mut job = job_of_in_threads(rt, alloc, model, bench, tests, workers)?;
-    write_compacted(rt, alloc, &mut job, workers, out)
+    let split = Split::Whole;
+    let form = KeptForm::Rows;
+    match compact_text_with(rt, alloc, model, bench, tests, split, workers, form, out) {
+        Ok(_count) => Ok(()),
+        Err(fault) => Err(fault),
+    }
 }
 
-/// Writes some of a job's tests that detect each fault that all detect.
+/// Reads a circuit and tests for it, and writes the tests that [`compact_text_in`] writes, or their
+/// numbers in the list, however the runs are split. Returns how many are kept.
+///
+/// It is refused as [`crate::simulate_text_watched`] is with an open gate. Nothing is written before
+/// all is known.
+pub fn compact_text_with<R: Threads + Wait, W: Out>(
+    rt: &R,
+    alloc: Global,
+    model: Model,
+    bench: &[u8],
+    tests: &[u8],
+    split: Split,
+    workers: u32,
+    form: KeptForm,
+    out: &mut W,
+) -> Result<KeptCount, SimFault>
+    requires { HasSomePart split }
+    ensures written { GivesOneOf (IsKeptText model bench.now tests.now form) result
+        (W.seen out.old) (W.seen out.new) }
+    ensures refused { IfErr result (IsWatchedFault model bench.now tests.now split workers ⊤
+        no_stop) }
+    ensures workers { OnOk result ((0 < workers) × (workers ≤ 64)) }
+    ensures within { OnOk result (IsWithin model bench.now tests.now split) }
+{
+    let (mut job, parts) = split_job_of(rt, alloc, model, bench, tests, split, workers)?;
+    write_compacted(rt, alloc, &mut job, parts, workers, form, out)
+}
+
+/// Writes some of a job's tests, or their numbers, that detect each fault that all detect, and
+/// returns how many these are.
 fn write_compacted<R: Threads + Wait, W: Out>(
     rt: &R,
     alloc: Global,
     job: &mut Job,
+    parts: u32,
     workers: u32,
+    form: KeptForm,
     out: &mut W,
-) -> Result<(), SimFault>
-    ensures written { WritesOneOf (IsCompactionOfJob job.old) result (W.seen out.old)
+) -> Result<KeptCount, SimFault>
+    requires parts { 0 < parts }
+    ensures written { GivesOneOf (IsKeptTextOfJob job.old form) result (W.seen out.old)
         (W.seen out.new) }
-    ensures refused { IfErr result (IsCurveFault job.old workers) }
+    ensures refused { IfErr result (IsJobTextFault workers
+        (IsPartsFault job.old parts workers ⊤ no_stop)) }
     ensures workers { OnOk result ((0 < workers) × (workers ≤ 64)) }
+    ensures within { OnOk result (ArePartsWithin job.old parts) }
 {
-    let kept = compact(rt, alloc, job, workers)?;
-    let text = write_tests(alloc, &kept)?;
-    put_text(&text, out)?;
+    let all = job.tests().count();
+    let kept = compact_in_parts(rt, alloc, job, parts, workers)?;
+    let count = KeptCount {
+        kept: kept.tests.count(),
+        all,
+    };
+    put_kept(alloc, &kept, form, out)?;
+    Ok(count)
+}
+
+/// Writes the tests that are kept, or their numbers.
+fn put_kept<W: Out>(alloc: Global, kept: &Kept, form: KeptForm, out: &mut W) -> Result<(), SimFault>
+    ensures written { WritesOneOf
+        (λ bytes. bytes ≡ kept_text form kept.now.tests.tests kept.now.numbers.items) result
+        (W.seen out.old) (W.seen out.new) }
+    ensures refused { IfErr result IsListFault }
+{
+    match form {
+        KeptForm::Rows => {
+            let text = write_tests(alloc, &kept.tests)?;
+            put_text(&text, out)?;
+        }
+        KeptForm::Numbers => write_numbers(&kept.numbers, out)?,
+    }
     Ok(())
+}
+
+/// Writes numbers, each on a line of its own.
+fn write_numbers<W: Out>(numbers: &[u32], out: &mut W) -> Result<(), ReportFault>
+    ensures { Writes result (W.seen out.old) (W.seen out.new)
+        (flat_map number_line numbers.now) }
+{
+    Ok(put_numbers(numbers, out)?)
+}
+
+/// Writes them, and tells no more than that the output failed.
+fn put_numbers<W: Out>(numbers: &[u32], out: &mut W) -> Result<(), OutFailed>
+    ensures { Writes result (W.seen out.old) (W.seen out.new)
+        (flat_map number_line numbers.now) }
+{
+    for number in numbers {
+        put_number(*number, out)?;
+    }
+    Ok(())
+}
+
+/// Writes the line of a number.
+fn put_number<W: Out>(number: u32, out: &mut W) -> Result<(), OutFailed>
+    ensures { Writes result (W.seen out.old) (W.seen out.new) (number_line number) }
+{
+    let mut digits = Buffer::new();
+    let pieces = [digits.format(number), "\n"];
+    put_pieces(&pieces, out)
 }

@@ -28,7 +28,7 @@ mod text;
 mod watched;
 mod whole;
 
-pub use compacted::compact_text_in;
+pub use compacted::{KeptCount, KeptForm, compact_text_in, compact_text_with};
 pub use contents::{Contents, Lines};
 pub use curve::{CurvePoint, curve_of, curve_text_in, curve_text_watched, write_curve};
 pub use detected::{detections_text_in, detections_text_of_any_size, write_detections};

@@ -3,9 +3,10 @@ use Rattle.std.specs.Prelude.{⊤, vec_len}
 use Rattle.std.proofs.lemmas.Result.{err_from_is_err_and}
 use Rattle.std.specs.List.{ReversedBelow}
 use Rattle.fault_model.specs.declared.Model.TheVariants.{StuckAt}
-use Rattle.workers.specs.Refused.{IsRunFault}
+use Rattle.workers.specs.Refused.{IsPartsFault}
 use Rattle.workers.specs.Stops.{no_stop}
-use Rattle.compaction.specs.Marks.{AreFinding, AreLast}
+use Rattle.compaction.specs.Compaction.{at_marks}
+use Rattle.compaction.specs.Marks.{AreFinding, AreLastOf}
 use Rattle.compaction.proofs.KeptTests.{are_last, refused_alike}
 use Rattle.compaction.proofs.passes.last_tests.Goals as goal
 
@@ -19,32 +20,38 @@ returns-in_err-found-clause-refused g c =
     let p = err_from_is_err_and c.from_residual-in_err-found.result
     c.from_residual-in_err-found.ensures.1 in
     let job = c.args.job.now in
-    let given = subst (λ x. IsRunFault x c.args.workers ⊤ no_stop c.in_err-found.field-0.0)
+    let given = subst (λ x. IsPartsFault x c.args.parts c.args.workers ⊤ no_stop
+    c.in_err-found.field-0.0)
     c.in_ok-set_tests_of_any_size_in_threads.ensures.job c.in_err-found.ensures.refused in
-    rw (p.1, p.2) (refused_alike job c.in_ok-turned.turned c.args.workers
+    rw (p.1, p.2) (refused_alike job c.in_ok-turned.turned c.args.parts c.args.workers
     c.in_err-found.field-0.0
     (omega (arith, c.in_ok-turned.ensures.count, c.requires.few)) given)
 
 pub returns-clause-last : goal.returns-clause-last
 returns-clause-last g c =
     let job = c.args.job.now in
-    let tests = c.args.tests.now.tests in
+    let given = c.args.given.now.numbers.items in
+    let tests = c.args.given.now.tests.tests in
     let turned = c.in_ok-turned.turned.tests in
     let found = c.in_ok-found.found.items in
-    let marks = c.deref.result.now in
-    let given = subst (λ p. AreFinding p.list.model p.circuit p.tests.tests found)
+    let marks = c.deref-2.result.now in
+    let kept = c.in_ok-kept_tests.field-0 in
+    let of_job = subst (λ p. AreFinding p.list.model p.circuit p.tests.tests found)
     c.in_ok-set_tests_of_any_size_in_threads.ensures.job c.in_ok-found.ensures.marks in
     let are : AreFinding StuckAt job.circuit turned found =
-    subst (λ m. AreFinding m job.circuit turned found) c.requires.model given in
+    subst (λ m. AreFinding m job.circuit turned found) c.requires.model of_job in
     let all : length found ≡ length tests = are.count ∙ c.in_ok-turned.ensures.count in
     let len : vec_len c.in_ok-found.found ≡ length tests =
     omega (arith, all, c.in_ok-found.found.ok.0) in
     let long : length marks ≡ length tests =
-    omega (arith, len, c.deref.ensures.len, c.reverse.ensures.len) in
+    omega (arith, len, c.deref-2.ensures.len, c.reverse.ensures.len) in
     let back : ReversedBelow found marks (length tests) =
-    λ k d lt. ap (λ xs. get_or xs k d) c.deref.ensures.value
+    λ k d lt. ap (λ xs. get_or xs k d) c.deref-2.ensures.value
     ∙ subst (λ n.
     ReversedBelow found c.reverse.new.self.items n) len c.reverse.ensures.by_index k d lt in
-    subst (λ rows. AreLast job.circuit tests rows) (sym c.in_ok-marked_tests.ensures.rows)
+    let numbered = c.in_ok-kept_tests.ensures.numbers
+    ∙ ap (at_marks marks) c.deref.ensures.value in
+    subst (λ rows. AreLastOf job.circuit tests rows given kept.numbers.items)
+    (sym c.in_ok-kept_tests.ensures.rows)
     (are_last job.circuit tests turned found marks c.in_ok-turned.ensures.count
-    c.in_ok-turned.ensures.rows are long back)
+    c.in_ok-turned.ensures.rows are long back given kept.numbers.items numbered)
