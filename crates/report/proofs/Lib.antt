@@ -27,4 +27,5 @@ mod FaultParts
 mod MergeRefusals
 mod WatchedRuns
 mod CountedTexts
+mod HistogramTexts
 pub mod Public

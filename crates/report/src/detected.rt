@@ -97,7 +97,7 @@ fn report_counts<R: Threads + Wait, W: Out>(
 }
 
 /// Counts for a job, where the number of workers is one of a run.
-fn counts_of<R: Threads + Wait>(
+pub(crate) fn counts_of<R: Threads + Wait>(
     rt: &R,
     alloc: Global,
     job: &Job,
