@@ -1,4 +1,4 @@
-//! Why a text call is refused.
+//! Errors of calls over files.
 
 use bench_net::BenchFault;
 use block_sim::JobFault;
@@ -9,10 +9,10 @@ use std::alloc::AllocError;
 use thiserror::Error;
 use workers::RunFault;
 
-/// Why a report or a listing was not written.
+/// An error of writing a report or a list.
 #[derive(Clone, Copy, Debug, PartialEq, Eq, Error)]
 pub enum ReportFault {
-    /// The output took nothing more: what went out is a beginning of the text.
+    /// The output took nothing more: it has a beginning of the text.
     #[error("cannot write")]
     Write,
 }
@@ -23,28 +23,28 @@ impl From<OutFailed> for ReportFault {
     }
 }
 
-/// Why a text call gave no text: the fault of the part that refused.
+/// An error of a call over files: the error of the part that failed.
 #[derive(Clone, Copy, Debug, PartialEq, Eq, Error)]
 pub enum SimFault {
-    /// The bench text is refused.
+    /// The bench file has an error.
     #[error("{0}")]
     Bench(BenchFault),
-    /// The test text is refused.
+    /// The test file has an error.
     #[error("{0}")]
     Tests(TestFault),
-    /// The order text is refused.
+    /// The order file has an error.
     #[error("{0}")]
     Order(OrderFault),
-    /// The circuit and the tests make too much work.
+    /// The circuit and the tests make too many pieces.
     #[error("{0}")]
     Job(JobFault),
-    /// The run is refused.
+    /// The run failed.
     #[error("{0}")]
     Run(RunFault),
     /// The text was not written whole.
     #[error("{0}")]
     Report(ReportFault),
-    /// Memory is refused.
+    /// Memory ran out.
     #[error("out of memory")]
     Memory,
 }

@@ -1,8 +1,8 @@
-//! From the bytes of a bench text and a test text to a job, and from a job to its verdicts.
+//! From the bytes of a bench file and a test file to a job, and from a job to its verdicts.
 //!
-//! [`job_of`] reads a circuit and tests for it, lists the faults of a model and puts them into
-//! classes. [`run_watched`] runs such a job by workers in threads, under a gate that is told of the
-//! run. [`SimFault`] says why one of these calls is refused, or one that goes on to write a text.
+//! [`job_of`] reads a circuit and tests for it, lists the faults of a model and collapses them.
+//! [`run_watched`] runs such a job by workers in threads, under a gate that learns of the run.
+//! [`SimFault`] is the error of these calls, and of calls that go on to write.
 #![tactic(auto)]
 
 mod fault;

@@ -1,4 +1,4 @@
-//! The job of texts.
+//! The job of a bench file and a test file.
 
 ghost use Rattle.std.specs.Prelude.{◌≤◌, length, IfErr, IfOk};
 ghost use Rattle.bench_net.specs.Refusal.{IsAccepted};
@@ -17,10 +17,10 @@ use std::alloc::{AllocError, Global};
 use std::sync::Wait;
 use std::thread::Threads;
 
-/// The job of a bench text and a test text under a model.
+/// Reads the job of a bench file and a test file under a model.
 ///
-/// The bench text is read before the tests, and then the number of pieces is looked at: above
-/// [`patterns::MAX_PIECES`] it is refused with [`block_sim::JobFault::TooManyPieces`].
+/// It reads the bench file before the tests. Then it checks the number of pieces: above
+/// [`patterns::MAX_PIECES`] it fails with [`block_sim::JobFault::TooManyPieces`].
 pub fn job_of(alloc: Global, model: Model, bench: &[u8], tests: &[u8]) -> Result<Job, SimFault>
     ensures job { IfOk result (IsJobOf model bench.now tests.now) }
     ensures few { IfOk result (λ job. piece_count job ≤ max_pieces) }
@@ -48,7 +48,7 @@ pub fn job_of_in_threads<R: Threads + Wait>(
     job_for_in_threads(rt, alloc, model, circuit, tests, workers)
 }
 
-/// The job of a bench text and a test text under a model, whatever the number of its pieces.
+/// Reads the job of a bench file and a test file under a model, for any number of pieces.
 pub fn job_of_any_size(
     alloc: Global,
     model: Model,
@@ -79,7 +79,7 @@ pub fn job_of_any_size_in_threads<R: Threads + Wait>(
     Ok(make_any_job_in_threads(rt, alloc, model, circuit, tests, workers)?)
 }
 
-/// The job of a circuit and of tests for it under a model, whatever the number of its pieces.
+/// Makes the job of a circuit and of tests for it under a model, for any number of pieces.
 fn make_any_job(
     alloc: Global,
     model: Model,
@@ -94,7 +94,7 @@ fn make_any_job(
     Job::of_any_size(alloc, circuit, faults, classes, tests)
 }
 
-/// The job that [`make_any_job`] makes, by threads.
+/// Makes the job as [`make_any_job`] does, in threads.
 fn make_any_job_in_threads<R: Threads + Wait>(
     rt: &R,
     alloc: Global,
@@ -111,7 +111,8 @@ fn make_any_job_in_threads<R: Threads + Wait>(
     Job::of_any_size_in_threads(rt, alloc, circuit, faults, classes, tests, workers)
 }
 
-/// The circuit of a bench text, and the tests for it of a test text. The bench text is read first.
+/// Reads the circuit of a bench file, and the tests for it of a test file. The bench file comes
+/// first.
 pub fn read_inputs(alloc: Global, bench: &[u8], tests: &[u8]) -> Result<(Circuit, Tests), SimFault>
     ensures circuit { IfOk result (λ read. IsAccepted bench.now read.0) }
     ensures tests { IfOk result (λ read. HasTests tests.now (length (sources read.0)) read.1) }
@@ -142,8 +143,8 @@ pub fn read_inputs_in_threads<R: Threads + Wait>(
     Ok((circuit, tests))
 }
 
-/// The job of a circuit and of tests for it under a model. It is refused for its number of pieces,
-/// or for want of memory.
+/// Makes the job of a circuit and of tests for it under a model. It fails only for its number of
+/// pieces, or for memory.
 pub fn job_for(alloc: Global, model: Model, circuit: Circuit, tests: Tests) -> Result<Job, SimFault>
     requires { AreTestsFor circuit tests }
     ensures job { IfOk result (IsJobFor model circuit tests) }
@@ -155,7 +156,7 @@ pub fn job_for(alloc: Global, model: Model, circuit: Circuit, tests: Tests) -> R
     Ok(Job::new(alloc, circuit, faults, classes, tests)?)
 }
 
-/// The job that [`job_for`] makes, with the same refusals, by no more threads than there are
+/// Makes the job as [`job_for`] does, with the same errors, in at most as many threads as there are
 /// workers ([`Job::new_in_threads`]).
 pub fn job_for_in_threads<R: Threads + Wait>(
     rt: &R,

@@ -1,4 +1,4 @@
-//! Runs under gates that are told of the whole run.
+//! Runs under gates that learn of the whole run.
 
 ghost use Rattle.std.specs.Prelude.{◌<◌, ◌≤◌, IfErr, IfOk, OnOk};
 ghost use Rattle.workers.specs.Refused.{ArePartsWithin, IsPartsFault};
@@ -10,12 +10,13 @@ use std::sync::Wait;
 use std::thread::Threads;
 use workers::{Gate, OpenGate, RunFault, Verdicts, run_in_parts};
 
-/// A gate that is told how much work a run has, and when that work is done.
+/// A gate that learns how much work a run has, and when that work is done.
 pub trait Watch: Gate {
-    /// The run begins: it has so many fault classes, each on so many blocks of 64 tests.
+    /// Begins the run: it has this number of fault classes, each on this number of blocks of 64
+    /// tests.
     fn starts(&self, classes: u32, blocks: u32);
 
-    /// All classes are settled. Nothing of the text is written yet.
+    /// Ends the run: all classes are settled. Nothing is written yet.
     fn ends(&self);
 
     /// Takes the verdicts of a run of all classes, before anything of the text is written. A run of

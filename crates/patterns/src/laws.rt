@@ -1,4 +1,4 @@
-//! Laws of the definitions that the contracts cite, each a function that does nothing and whose
+//! Laws of the definitions that the contracts cite. Each is a function that does nothing, and its
 //! contract is the law.
 ghost use Rattle.std.specs.Prelude.{◌≡◌, ◌↔◌, ◌⊎◌, ℕ, ◌<◌, Bool, true, List};
 ghost use Rattle.patterns.specs.Least.{Table, least, AreClear, IsLeastHit, IsFirstOfBlock};
@@ -6,13 +6,13 @@ ghost use Rattle.patterns.specs.Least.{IsFirstTest};
 ghost use Rattle.patterns.specs.Tests.{TestList, IsTestList, HasTests, IsTestRefusal, blocks};
 ghost use Rattle.patterns.specs.declared.TestFault.{TestFault};
 
-/// Over no blocks no class is hit.
+/// States that over no blocks no class is hit.
 pub fn least_of_none()
     ensures { (table : Table) (class : ℕ) → least table 0 class ≡ None }
 {}
 
-/// The least test over a table is that of the least block that is hit, and there is none exactly
-/// where all blocks are clear.
+/// States that the least test over a table is in the least block that is hit, and that there is
+/// none exactly if all blocks are clear.
 pub fn least_hit()
     ensures hit { (table : Table) (blocks class t : ℕ)
         → (least table blocks class ≡ Some t) ↔ IsLeastHit table blocks class t }
@@ -20,8 +20,8 @@ pub fn least_hit()
         → (least table blocks class ≡ None) ↔ AreClear table blocks class }
 {}
 
-/// Where the outcome of each block is the first of its tests that pass, the least test over the
-/// table is the first test that passes.
+/// States that if the outcome of each block is the first of its tests that pass, the least test
+/// over the table is the first test that passes.
 pub fn least_is_first()
     ensures { (passes : ℕ → Bool) (table : Table) (tests class : ℕ)
         → ((block : ℕ) → block < blocks tests
@@ -29,7 +29,7 @@ pub fn least_is_first()
         → IsFirstTest (λ t. passes t ≡ true) tests (least table (blocks tests) class) }
 {}
 
-/// A test text has its tests or is refused, never both, and has one list of tests or one fault.
+/// States that a test file has either one list of tests or one error.
 pub fn one_answer_of_tests()
     ensures some { (text : List ℕ) (width : ℕ)
         → ((t : TestList) × HasTests text width t)
@@ -42,7 +42,7 @@ pub fn one_answer_of_tests()
         → IsTestRefusal text width f → IsTestRefusal text width g → f ≡ g }
 {}
 
-/// The tests of a text have their width and are within the limit.
+/// States that the tests of a file have their width and are within the limit.
 pub fn accepted_in_range()
     ensures { (text : List ℕ) (width : ℕ) (t : TestList)
         → HasTests text width t → IsTestList t }

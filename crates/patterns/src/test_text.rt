@@ -17,14 +17,14 @@ use std::alloc::{AllocError, Global};
 use std::marker::Model;
 use text_lines::{Row, Rows, are_bits};
 
-/// The tests of a text. Tests, sources and blocks are numbered from 0; block b has the tests
-/// `64 * b` to `64 * b + 63`, and the last block may be short.
+/// The tests of a list. Tests, sources and blocks are numbered from 0; block b has the tests `64 *
+/// b` to `64 * b + 63`, and the last block may be short.
 #[derive(Debug, Drop)]
 pub struct Tests {
     width: u32,
     count: u32,
-    /// For each block the words of its sources. Bit k of a word is that of the block's test k, and
-    /// 0 past the last test.
+    /// For each block the words of its sources. Bit k of a word is the bit of the block's test k,
+    /// and 0 past the last test.
     words: Vec<Vec<u64>>,
 }
 
@@ -44,14 +44,14 @@ impl Model for Tests {
     ghost invariant = { λ t. AreWords t.width t.count (map (λ block. block.items) t.words.items) };
 }
 
-/// Reads a test text: a row for each test, with a `0` or a `1` for each of `width` sources.
+/// Reads a test file: a row for each test, with a `0` or a `1` for each of `width` sources.
 ///
 /// # Errors
 ///
-/// The first row at fault decides. A row past [`MAX_TESTS`] is [`TestFault::TooMany`] whatever its
-/// bytes; a row with any other byte, a blank inside too, is [`TestFault::BadByte`]; a row with
-/// another number of bytes is [`TestFault::BadWidth`]. [`TestFault::Memory`] may come in place of
-/// any answer, where memory ran out.
+/// The first row with an error decides. A row past [`MAX_TESTS`] is [`TestFault::TooMany`] whatever
+/// its bytes. A row with any other byte, also a blank inside, is [`TestFault::BadByte`]. A row with
+/// another number of bytes is [`TestFault::BadWidth`]. [`TestFault::Memory`] may come instead of
+/// any result, if memory ran out.
 pub fn read_tests(alloc: Global, text: &[u8], width: u32) -> Result<Tests, TestFault>
     requires { 1 ≤ width }
     ensures tests { IfOk result (λ t. HasTests text.now width t) }
@@ -85,7 +85,7 @@ pub(crate) fn read_rows(alloc: Global, before: Tests, rows: Rows<'_>) -> Result<
     Ok(tests)
 }
 
-/// Whether a row, given with its place among the rows, is a test of this width.
+/// Checks that a row, given with its place among the rows, is a test of this width.
 fn check_row(place: u32, row: Row<'_>, width: u32) -> Result<(), TestFault>
     ensures accepted { OnOk result (test_fault width (place, row_of row.entry) ≡ None) }
     ensures room { OnOk result (place < max_tests) }
@@ -105,8 +105,8 @@ fn check_row(place: u32, row: Row<'_>, width: u32) -> Result<(), TestFault>
     Ok(())
 }
 
-/// The text of tests, which [`read_tests`] reads as the same tests: for each a row of a `0` or a
-/// `1` for each source, and a line feed.
+/// Returns the file of tests, which [`read_tests`] reads as the same tests: for each a row of a `0`
+/// or a `1` for each source, and a line feed.
 pub fn write_tests(alloc: Global, tests: &Tests) -> Result<Vec<u8>, AllocError>
     ensures text { IfOk result (λ text. text.items ≡ test_text tests.now.tests) }
     ensures read { 1 ≤ tests.now.width
@@ -121,7 +121,7 @@ pub fn write_tests(alloc: Global, tests: &Tests) -> Result<Vec<u8>, AllocError>
 }
 
 impl Tests {
-    /// No tests, of so many sources.
+    /// Makes an empty list of tests for this number of sources.
     pub fn new(alloc: Global, width: u32) -> Self
         ensures tests { result ≡ record { width = width; tests = [] } }
         ensures list { IsTestList result }
@@ -133,16 +133,16 @@ impl Tests {
         }
     }
 
-    /// Tests that are made of words: for each block, from the first on, a word for each source, as
-    /// [`Tests::word`] gives it. Bit k of a word, from the least, is that of the block's test k,
-    /// and 0 past the last test.
+    /// Makes tests of words: for each block, from the first on, a word for each source, as
+    /// [`Tests::word`] returns it. Bit k of a word, from the least, is the bit of the block's test
+    /// k, and 0 past the last test.
     ///
     /// # Errors
     ///
-    /// More than [`MAX_TESTS`] tests are [`WordsFault::TooMany`]; another number of words than
-    /// that of the blocks times `width` is [`WordsFault::BadCount`]; a bit past the last test is
+    /// More than [`MAX_TESTS`] tests are [`WordsFault::TooMany`]. Another number of words than the
+    /// blocks times `width` is [`WordsFault::BadCount`]. A bit past the last test is
     /// [`WordsFault::IdleBits`], with the first source that has one. [`WordsFault::Memory`] may
-    /// come in place of a list of tests, where memory ran out.
+    /// come instead of a list of tests, if memory ran out.
     pub fn from_words(
         alloc: Global,
         width: u32,
@@ -175,7 +175,7 @@ impl Tests {
     /// # Errors
     ///
     /// A test past [`MAX_TESTS`] is [`PushFault::TooMany`] whatever its bits; one with another
-    /// number of bits is [`PushFault::BadWidth`]; [`PushFault::Memory`] where memory ran out. The
+    /// number of bits is [`PushFault::BadWidth`]; [`PushFault::Memory`] if memory ran out. The
     /// tests are then as they were.
     pub fn push(&mut self, alloc: Global, row: &[bool]) -> Result<(), PushFault>
         ensures pushed { OnOk result (self.new ≡ with_test self.old row.now) }
@@ -194,7 +194,7 @@ impl Tests {
         Ok(self.add(alloc, row)?)
     }
 
-    /// Adds a test of the right width, where there is room for one.
+    /// Adds a test of the right width, if there is room for one.
     fn add(&mut self, alloc: Global, row: &[bool]) -> Result<(), AllocError>
         requires room { length self.old.tests < max_tests }
         requires width { length row.now ≡ self.old.width }
@@ -257,8 +257,8 @@ impl Tests {
         Ok(())
     }
 
-    /// Adds the row of a test to a text: a `0` or a `1` for each source, and a line feed. Where
-    /// memory was refused, the text is as it was.
+    /// Adds the row of a test to a file's bytes: a `0` or a `1` for each source, and a line feed.
+    /// If memory runs out, the bytes are as they were.
     pub fn push_row(&self, test: u32, text: &mut Vec<u8>) -> Result<(), AllocError>
         requires { test < length self.now.tests }
         ensures row { OnOk result (text.new.items
@@ -272,7 +272,7 @@ impl Tests {
         Ok(())
     }
 
-    /// How many sources a test has.
+    /// Returns the number of sources of a test.
     pub fn width(&self) -> u32
         ensures width { result ≡ self.now.width }
         ensures tests { IsTestList self.now }
@@ -280,21 +280,21 @@ impl Tests {
         self.width
     }
 
-    /// How many tests there are.
+    /// Returns the number of tests.
     pub fn count(&self) -> u32
         ensures { result ≡ length self.now.tests }
     {
         self.count
     }
 
-    /// How many blocks the tests make: none where there is no test.
+    /// Returns the number of blocks: none if there is no test.
     pub fn blocks(&self) -> u32
         ensures { result ≡ blocks (length self.now.tests) }
     {
         self.count.div_ceil(BLOCK_SIZE)
     }
 
-    /// How many tests a block has: 64, or fewer in the last block.
+    /// Returns the number of tests of a block: 64, or fewer in the last block.
     pub fn size_of(&self, block: u32) -> u32
         requires { block < blocks (length self.now.tests) }
         ensures { result ≡ size_of (length self.now.tests) block }
@@ -302,7 +302,7 @@ impl Tests {
         (self.count - BLOCK_SIZE * block).min(BLOCK_SIZE)
     }
 
-    /// The bit of a test at a source.
+    /// Returns the bit of a test at a source.
     pub fn bit(&self, test: u32, source: u32) -> bool
         requires test { test < length self.now.tests }
         requires source { source < self.now.width }
@@ -312,8 +312,8 @@ impl Tests {
         (word >> (test % BLOCK_SIZE)) & 1 == 1
     }
 
-    /// The word of a block at a source: bit k, from the least, is that of the block's test k, and 0
-    /// past the last test.
+    /// Returns the word of a block at a source: bit k, from the least, is the bit of the block's
+    /// test k, and 0 past the last test.
     pub fn word(&self, block: u32, source: u32) -> u64
         requires block { block < blocks (length self.now.tests) }
         requires source { source < self.now.width }
@@ -323,7 +323,7 @@ impl Tests {
     }
 }
 
-/// Sets the bit at `lane` of the word of each source where the row has a 1.
+/// Sets the bit at `lane` of the word of each source with a 1 in the row.
 fn set_lane(words: &mut [u64], row: &[bool], lane: u32)
     requires lane { lane < 64 }
     requires sources { length words.old ≡ length row.now }
@@ -354,7 +354,7 @@ fn write_digits(text: &mut [u8], start: usize, words: &[u64], lane: u32)
     }
 }
 
-/// The bit of a word at `lane`, as a digit.
+/// Returns the bit of a word at `lane`, as a digit.
 fn digit_at(word: u64, lane: u32) -> u8
     requires { lane < 64 }
     ensures { result ≡ digit (bit_at word lane == 1) }

@@ -31,7 +31,7 @@ pub(crate) fn check_idle_bits(width: u32, count: u32, words: &[u64]) -> Result<(
     Ok(())
 }
 
-/// The rows of the blocks.
+/// Returns the rows of the blocks.
 pub(crate) fn rows_of(
     alloc: Global,
     width: u32,

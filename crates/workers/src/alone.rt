@@ -1,4 +1,4 @@
-//! The run of one worker alone over a list of classes, without a ledger.
+//! The run of one worker by itself over a list of classes, without a ledger.
 
 ghost use Rattle.std.specs.Prelude.{◌≡◌, ◌<◌, ◌≤◌, ◌+◌, ℕ, All, IfNone, IfOk, IfSome, None, Some};
 ghost use Rattle.std.specs.Prelude.{false, length, slice_get, true};
@@ -19,8 +19,8 @@ use block_sim::{Job, Listed, RegionSimulation};
 use patterns::Outcome;
 use std::alloc::{AllocError, Global};
 
-/// Where its gate stopped a worker that goes over a list: before the class at this place of the
-/// list, counted from 0, on this block.
+/// The point at which its gate stopped a worker that goes over a list: before the class at this
+/// place of the list, counted from 0, on this block.
 #[derive(Clone, Copy, Debug, PartialEq, Eq)]
 pub(crate) struct Stop {
     pub(crate) place: usize,
@@ -34,7 +34,7 @@ pub(crate) struct Waiting {
     pub(crate) block: u32,
 }
 
-/// The classes of a list, each with what its simulation starts from.
+/// Returns the classes of a list, each with the start of its simulation.
 pub(crate) fn rows_of(alloc: Global, job: &Job, classes: &[u32]) -> Result<Vec<Listed>, AllocError>
     requires { All (λ class. class < length job.now.classes.representative) classes.now }
     ensures { IfOk result (λ rows. AreRowsOf job.now classes.now rows.items) }
@@ -50,13 +50,13 @@ pub(crate) fn rows_of(alloc: Global, job: &Job, classes: &[u32]) -> Result<Vec<L
 #[derive(Clone, Copy)]
 struct Turn {
     block: u32,
-    /// The last of the blocks that are found out with it.
+    /// The last of the blocks that are simulated with it.
     last: u32,
-    /// Of how many first classes of the list that was done.
+    /// The number of first classes of the list that are done.
     found: usize,
 }
 
-/// The turn of a block, where so many first blocks are found out already.
+/// Returns the turn of a block, if this number of first blocks is done already.
 fn turn_of(job: &Job, rows: &[Listed], block: u32, known: u32) -> Turn
     requires block { block < blocks (length job.now.tests.tests) }
     requires known { known ≤ blocks (length job.now.tests.tests) }
@@ -79,7 +79,7 @@ fn turn_of(job: &Job, rows: &[Listed], block: u32, known: u32) -> Turn
 }
 
 /// Simulates the classes of a list on every block, one block after another, until the gate stops
-/// the worker. A class that an earlier block detects is left out.
+/// the worker. It skips a class that an earlier block detects.
 pub(crate) fn run_list<G: Gate>(
     job: &Job,
     rows: &[Listed],
@@ -119,10 +119,10 @@ fn passes<G: Gate>(gate: &G, worker: u32, row: Listed, turn: Turn) -> bool
     gate.pass(worker, row.class, turn.block)
 }
 
-/// Simulates on a block the classes of a list that no earlier block detects, and leaves out those
-/// whose first test is known, so that it comes to none of them again. The gate is asked for each
-/// class; what is found out with the first open class of a region is kept for the others, and
-/// for the blocks behind this one that are found out with it.
+/// Simulates on a block the classes of a list that no earlier block detects, and takes out those
+/// whose first test is known, so that it meets none of them again. It asks the gate for each class.
+/// The results of the first open class of a region are kept for the others, and for the later
+/// blocks that are simulated with this one.
 fn run_block<G: Gate>(
     job: &Job,
     rows: &[Listed],
@@ -188,8 +188,8 @@ fn run_block<G: Gate>(
     None
 }
 
-/// Finds out the region whose first open class stands at a place, unless that was done: so many
-/// first classes of the list are found out. Tells of how many that is done then.
+/// Simulates the region whose first open class is at a place, unless that is done: this number of
+/// first classes of the list is done. Returns the number of classes that are done then.
 fn found_from(
     job: &Job,
     rows: &[Listed],
@@ -220,7 +220,7 @@ fn found_from(
     simulation.find_out(job, turn.block, rows, place, firsts)
 }
 
-/// The outcome on a block of a class that this test detects first, from the block on.
+/// Returns the outcome on a block of a class that this test detects first, from the block on.
 fn outcome_on(hit: Option<u32>, block: u32) -> Outcome
     ensures here { (job : Parts) (last class : ℕ) → block ≤ last
         → IsFirstOn job (between block last) class hit
@@ -235,7 +235,7 @@ fn outcome_on(hit: Option<u32>, block: u32) -> Outcome
     }
 }
 
-/// The class at a place of a list, with what its simulation starts from.
+/// Returns the class at a place of a list, with the start of its simulation.
 fn row_at(rows: &[Listed], place: usize) -> Listed
     requires { place < length rows.now }
     ensures { slice_get rows.now place ≡ Some result }
@@ -243,8 +243,8 @@ fn row_at(rows: &[Listed], place: usize) -> Listed
     rows[place]
 }
 
-/// The lowest class of a list that isn't settled where the worker was stopped, and the block that
-/// it waits for.
+/// Returns the lowest class of a list that wasn't settled when the worker was stopped, and the
+/// block that it waits for.
 pub(crate) fn lowest_open(
     job: &Job,
     classes: &[u32],
@@ -272,7 +272,7 @@ pub(crate) fn lowest_open(
     lowest
 }
 
-/// The class at a place of a list.
+/// Returns the class at a place of a list.
 fn class_at(classes: &[u32], place: usize) -> u32
     requires { place < length classes.now }
     ensures { slice_get classes.now place ≡ Some result }
@@ -280,7 +280,7 @@ fn class_at(classes: &[u32], place: usize) -> u32
     classes[place]
 }
 
-/// The first test that is known of the class at a place.
+/// Returns the first test that is known for the class at a place.
 fn first_at(firsts: &[Option<u32>], place: usize) -> Option<u32>
     requires { place < length firsts.now }
     ensures { slice_get firsts.now place ≡ Some result }
@@ -288,7 +288,7 @@ fn first_at(firsts: &[Option<u32>], place: usize) -> Option<u32>
     firsts[place]
 }
 
-/// How many first blocks of the class at a place are done where the worker was stopped.
+/// Returns how many first blocks of the class at a place were done when the worker was stopped.
 fn done_before(stop: Stop, place: usize) -> u32
     requires { stop.block < 1024 }
     ensures { AreEarlier stop.place stop.block place result }
@@ -300,7 +300,7 @@ fn done_before(stop: Stop, place: usize) -> u32
     }
 }
 
-/// The one of the lower class.
+/// Returns the waiting class with the lower number.
 pub(crate) fn lower_of(first: Option<Waiting>, second: Option<Waiting>) -> Option<Waiting>
     ensures { IsLowerOf first second result }
 {

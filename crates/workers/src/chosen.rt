@@ -1,4 +1,4 @@
-//! The classes of a job that a run goes over.
+//! The classes of a job that a run covers.
 
 ghost use Rattle.std.specs.Prelude.{◌≡◌, ◌<◌};
 ghost use Rattle.std.specs.Prelude.{slice_index_or};
@@ -10,14 +10,14 @@ use fault_model::Classes;
 pub(crate) trait Chosen {
     ghost use Rattle.workers.specs.Chosen.{Chosen};
 
-    /// How many they are, and the job's number of each.
+    /// Their number, and the job's number of each.
     ghost chosen: { Self → Chosen };
 
-    /// How many classes they are.
+    /// Returns the number of classes.
     fn count(&self) -> u32
         ensures { result ≡ (chosen self.now).count };
 
-    /// The job's number of the class that has this one in the ledger.
+    /// Returns the job's number of the class with this number in the ledger.
     fn class_at(&self, number: u32) -> u32
         requires { number < (chosen self.now).count }
         ensures { result ≡ (chosen self.now).class_at number };
@@ -36,7 +36,7 @@ impl Chosen for Classes {
     }
 }
 
-/// The first classes of a list, so many.
+/// The first classes of a list, up to a number.
 #[derive(Clone, Copy)]
 pub(crate) struct Listed<'a> {
     pub(crate) classes: &'a [u32],
@@ -55,7 +55,7 @@ impl Chosen for Listed<'_> {
     }
 }
 
-/// The class of this number in a list, or class 0 behind its end.
+/// Returns the class of this number in a list, or class 0 after its end.
 fn class_in(classes: &[u32], number: u32) -> u32
     ensures { result ≡ slice_index_or classes.now number 0 }
 {

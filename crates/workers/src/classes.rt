@@ -24,14 +24,14 @@ use std::sync::Wait;
 use std::thread::Threads;
 
 /// Runs some classes of a job by workers in threads of their own, as [`crate::run`] runs all of
-/// them. The workers share one ledger, whose pieces are the classes of the list on each block. The
-/// gate is asked with the numbers that classes have in the job.
+/// them. The workers share one ledger, whose pieces are the classes of the list on each block. It
+/// asks the gate with the classes' numbers in the job.
 ///
-/// Gives for each class of the list, in its order, the first test that detects the faults of the
+/// Returns for each class of the list, in its order, the first test that detects the faults of the
 /// class, or none.
 ///
-/// It is refused as [`crate::run`] is, for the pieces of the list; [`RunFault::Unfinished`] names
-/// the class by its number in the job, the first in the list that isn't settled.
+/// It fails as [`crate::run`] does, for the pieces of the list; [`RunFault::Unfinished`] names the
+/// class by its number in the job, the first in the list that isn't settled.
 pub fn run_classes<G: Gate + Sync, R: Threads + Wait>(
     rt: &R,
     alloc: Global,
@@ -60,7 +60,7 @@ pub fn run_classes<G: Gate + Sync, R: Threads + Wait>(
     Ok(found)
 }
 
-/// For each class of a closed ledger the test at which it is settled, in a list that was empty.
+/// Adds for each class of a closed ledger the test at which it is settled to an empty list.
 fn class_firsts(
     closed: &Closed,
     classes: u32,

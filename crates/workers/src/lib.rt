@@ -1,17 +1,16 @@
-//! Runs of a job by workers, and the verdicts that they give.
+//! Runs of a job by workers, and their verdicts.
 //!
-//! Workers share one fault ledger: each claims a piece of work, a fault class on a block of 64
-//! tests, and drops it where an earlier block of the class is known to detect, else simulates it
-//! and reports. The verdict of a fault is the first test that detects it, or none, whatever the
-//! workers do in whatever order: that of serial fault simulation (Bushnell and Agrawal,
-//! Essentials of Electronic Testing).
+//! Workers share one fault ledger. Each claims a piece of work, a fault class on a block of 64
+//! tests. It drops the piece if an earlier block of the class is known to detect it, else it
+//! simulates the piece and reports. The verdict of a fault is the first test that detects it, or
+//! none, as in serial fault simulation (Bushnell and Agrawal, Essentials of Electronic Testing),
+//! whatever the workers do in whatever order.
 //!
-//! [`run_schedule`] is a run of one thread, which makes the moves of all workers in an order that
-//! its caller gives. [`run`] lets each worker work in a thread of its own, and [`work`] is the
-//! work of one.
-//! [`run_in_parts`] cuts the classes into parts, each of which one worker runs alone. A ledger
-//! hands out the parts. [`run_open`] does so with as many parts as serve the workers, and
-//! [`run_part`] with the classes of one part of a run that several machines share.
+//! [`run_schedule`] is a run of one thread, which makes the moves of all workers in the caller's
+//! order. [`run`] has a thread for each worker, and [`work`] is the work of one. [`run_in_parts`]
+//! cuts the classes into parts, each of which one worker simulates by itself. A ledger hands out
+//! the parts. [`run_open`] does so with as many parts as serve the workers, and [`run_part`] with
+//! the classes of one part of a run that several machines share.
 #![tactic(auto)]
 
 mod alone;
@@ -54,30 +53,29 @@ pub use threads::run;
 pub use verdicts::Verdicts;
 pub use worker::{End, Gate, OpenGate, work};
 
-/// Why a run gave no verdicts.
+/// An error of a run.
 #[derive(Clone, Copy, Debug, PartialEq, Eq, Error)]
 pub enum RunFault {
-    /// There are to be no workers.
+    /// The number of workers is 0.
     #[error("no workers")]
     NoWorkers,
-    /// There are to be more than 64 workers.
+    /// The number of workers is above 64.
     #[error("more than 64 workers")]
     TooManyWorkers,
-    /// The move of this index, counted from 0, is of a worker that isn't one of the run's.
+    /// The move of this index, counted from 0, names a worker that the run doesn't have.
     #[error("move {0}: no such worker")]
     NoSuchMove(u64),
-    /// The classes that are to be run at a time have more pieces than
-    /// [`patterns::MAX_PIECES`].
+    /// The classes that run at one time have more pieces than [`patterns::MAX_PIECES`].
     #[error("more than 16777216 pieces")]
     TooManyPieces,
-    /// Memory was refused.
+    /// Memory ran out.
     #[error("out of memory")]
     Memory,
-    /// The start of a thread was refused.
+    /// A thread didn't start.
     #[error("thread refused")]
     Threads,
-    /// The run ended before all classes were settled: the lowest that isn't, and the block that
-    /// it waits for.
+    /// The run ended before all classes were settled: the lowest unsettled class, and the block
+    /// that it waits for.
     #[error("unfinished at class {class} block {block}")]
     Unfinished { class: u32, block: u32 },
 }
@@ -104,7 +102,7 @@ impl<T: Drop> From<AllocFailed<T>> for RunFault {
     }
 }
 
-/// Refuses a number of workers out of range.
+/// Checks that the number of workers is in range.
 pub(crate) fn check_workers(workers: u32) -> Result<(), RunFault>
     ensures in_range { OnOk result ((0 < workers) × (workers ≤ 64)) }
     ensures refused { IfErr result (IsWorkersFault workers) }
@@ -116,7 +114,7 @@ pub(crate) fn check_workers(workers: u32) -> Result<(), RunFault>
     }
 }
 
-/// Refuses so many classes of a job where they have more pieces than a ledger takes.
+/// Checks that this number of classes of a job has no more pieces than a ledger takes.
 pub(crate) fn check_pieces(job: &Job, classes: u32) -> Result<(), RunFault>
     ensures few { OnOk result (classes * blocks (length job.now.tests.tests) ≤ max_pieces) }
     ensures refused { IfErr result (λ fault. (fault ≡ RunFault.TooManyPieces)
@@ -130,7 +128,7 @@ pub(crate) fn check_pieces(job: &Job, classes: u32) -> Result<(), RunFault>
     }
 }
 
-/// Refuses a job with more pieces than a ledger takes.
+/// Checks that a job has no more pieces than a ledger takes.
 pub(crate) fn check_job(job: &Job) -> Result<(), RunFault>
     ensures few { OnOk result (piece_count job.now ≤ max_pieces) }
     ensures refused { IfErr result (λ fault. (fault ≡ RunFault.TooManyPieces)

@@ -1,4 +1,4 @@
-//! Runs of one thread over any lists of classes, with room that is kept from one run to the next.
+//! Runs of one thread over any lists of classes, with room that stays from one run to the next.
 
 ghost use Rattle.std.specs.Prelude.{◌≡◌, ◌<◌, ◌≤◌, All, IfOk, false, filter, length, map};
 ghost use Rattle.std.specs.Prelude.{slice_index_or};
@@ -17,12 +17,12 @@ use block_sim::{Job, RegionSimulation};
 use std::alloc::{AllocError, Global};
 use std::marker::Model;
 
-/// What runs lists of classes of a job in the thread of its caller, one list after another. It
-/// shares nothing: several threads have one each.
+/// A runner of lists of classes of a job in the thread of its caller, one list after another.
+/// Runners share nothing: each of several threads has its own.
 ///
-/// It keeps room for the simulation of regions, and an order of all classes in which those of one
-/// region stand next to each other. Both depend on the circuit and the classes of the job, and not
-/// on its tests.
+/// It keeps room for the simulation of regions, and an order of all classes in which the classes of
+/// a region are adjacent. Both depend only on the circuit and the classes of the job, and not on
+/// its tests.
 #[derive(Drop)]
 pub struct ListRunner {
     simulation: RegionSimulation,
@@ -38,8 +38,8 @@ impl Model for ListRunner {
 }
 
 impl ListRunner {
-    /// Room for the runs of a job. It takes a word and a few numbers for each signal, and a few
-    /// numbers for each class.
+    /// Makes room for the runs of a job. It takes a word and a few numbers for each signal, and a
+    /// few numbers for each class.
     pub fn new(alloc: Global, job: &Job) -> Result<ListRunner, AllocError>
         ensures { IfOk result (λ runner. ServesLists runner job.now) }
     {
@@ -48,9 +48,9 @@ impl ListRunner {
         Ok(ListRunner { simulation, order })
     }
 
-    /// For each class of a list the first test that detects its faults, or none where no test does.
-    /// The list may have any order, and name a class more than once. Each class is simulated once,
-    /// together with the others of its region that are in the list.
+    /// Returns for each class of a list the first test that detects its faults, or none if no test
+    /// does. The list may have any order, and name a class more than once. Each class is simulated
+    /// once, together with the others of its region that are in the list.
     ///
     /// Beside the simulation it takes time for each class of the job, whatever the list has.
     pub fn first_tests(
@@ -75,7 +75,8 @@ impl ListRunner {
         Ok(firsts)
     }
 
-    /// The verdicts on all faults of a job: for each the first test that detects it, or none.
+    /// Returns the verdicts for all faults of a job: for each the first test that detects it, or
+    /// none.
     pub fn verdicts(&mut self, alloc: Global, job: &Job) -> Result<Verdicts, AllocError>
         requires { ServesLists self.old job.now }
         ensures firsts { IfOk result (λ verdicts. AreFirsts job.now.list.model job.now.circuit
@@ -92,7 +93,7 @@ impl ListRunner {
     }
 }
 
-/// Marks the classes of a list, among so many.
+/// Marks the classes of a list, among this number of classes.
 fn mark(alloc: Global, count: u32, classes: &[u32]) -> Result<Vec<bool>, AllocError>
     requires { All (λ class. class < count) classes.now }
     ensures { IfOk result (λ marks.
@@ -105,7 +106,7 @@ fn mark(alloc: Global, count: u32, classes: &[u32]) -> Result<Vec<bool>, AllocEr
     Ok(marks)
 }
 
-/// Whether a class is marked.
+/// Returns whether a class is marked.
 fn is_marked(marks: &[bool], class: u32) -> bool
     ensures { result ≡ slice_index_or marks.now class false }
 {
@@ -115,7 +116,7 @@ fn is_marked(marks: &[bool], class: u32) -> bool
     }
 }
 
-/// The classes of an order that are marked.
+/// Returns the marked classes of an order.
 fn marked(alloc: Global, order: &[u32], marks: &[bool]) -> Result<Vec<u32>, AllocError>
     ensures { IfOk result (λ listed. listed.items
         ≡ filter (λ class. slice_index_or marks.now class false) order.now) }
@@ -127,8 +128,8 @@ fn marked(alloc: Global, order: &[u32], marks: &[bool]) -> Result<Vec<u32>, Allo
         .collect(alloc)
 }
 
-/// For each class of a list the first test that detects its faults, or none where no test does.
-/// Those of a region that stand next to each other are simulated at once.
+/// Returns for each class of a list the first test that detects its faults, or none if no test
+/// does. Adjacent classes of a region are simulated together.
 fn run_alone(
     alloc: Global,
     job: &Job,
@@ -153,7 +154,7 @@ fn run_alone(
     Ok(firsts)
 }
 
-/// The first test of each class of a list, by the verdicts on all classes.
+/// Returns the first test of each class of a list, from the verdicts of all classes.
 fn firsts_in(
     alloc: Global,
     by_class: &[PartVerdict],

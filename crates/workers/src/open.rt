@@ -1,4 +1,4 @@
-//! Runs whose workers nothing stops, in as many parts as serve them.
+//! Runs with an open gate, in as many parts as serve the workers.
 
 ghost use Rattle.std.specs.Prelude.{◌<◌, ◌≤◌, ⊤, IfErr, IfOk, OnOk};
 ghost use Rattle.fault_ledger.specs.Seats.{ClosedFace};
@@ -17,9 +17,9 @@ use std::alloc::Global;
 use std::sync::Wait;
 use std::thread::Threads;
 
-/// Runs all classes of a job in [`parts_for`] so many workers, by [`run_in_parts`] with an open
-/// gate. The verdicts are those of [`crate::run`], and it is refused as that is, but that a job may
-/// have more than [`patterns::MAX_PIECES`] pieces where no part has.
+/// Runs all classes of a job in [`parts_for`] this number of workers, by [`run_in_parts`] with an
+/// open gate. It returns the verdicts of [`crate::run`] and fails as that does, but the job may
+/// have more than [`patterns::MAX_PIECES`] pieces if no part has.
 pub fn run_open<R: Threads + Wait>(
     rt: &R,
     alloc: Global,

@@ -1,4 +1,4 @@
-//! The places of a list whose classes may be open: behind each place the next one.
+//! The places of a list whose classes may be open: for each place the next one.
 
 ghost use Rattle.std.specs.Prelude.{◌≡◌, ◌+◌, ◌<◌, ℕ, All, IfOk, None, Some, length, slice_get};
 ghost use Rattle.std.specs.Prelude.{slice_set};
@@ -6,7 +6,7 @@ ghost use Rattle.workers.specs.OpenPlaces.{AreNextOpen};
 
 use std::alloc::{AllocError, Global};
 
-/// The next place of each, where no first test is known yet.
+/// Returns the next place of each, before any first test is known.
 pub(crate) fn all_open(alloc: Global, firsts: &[Option<u32>]) -> Result<Vec<usize>, AllocError>
     ensures { IfOk result (λ next. AreNextOpen firsts.now next.items) }
 {
@@ -17,7 +17,7 @@ pub(crate) fn all_open(alloc: Global, firsts: &[Option<u32>]) -> Result<Vec<usiz
     Ok(next)
 }
 
-/// The next place whose class may be open.
+/// Returns the next place whose class may be open.
 #[inline(always)]
 pub(crate) fn next_open(next: &[usize], place: usize) -> usize
     requires { place < length next.now }
@@ -26,8 +26,7 @@ pub(crate) fn next_open(next: &[usize], place: usize) -> usize
     next[place]
 }
 
-/// Leaves a place out, the next one of a place before it. Gives the next one of that which is left
-/// out.
+/// Takes out a place, the next one of a place before it. Returns the place after it.
 #[inline(always)]
 pub(crate) fn leave_out(next: &mut [usize], before: usize, place: usize) -> usize
     requires before { before < length next.old }

@@ -1,31 +1,32 @@
-//! The pace of a worker, who rests where pieces are smaller than what claims cost.
+//! The pace of a worker, which rests if pieces are smaller than the cost of claims.
 
 ghost use Rattle.std.specs.Prelude.{◌≡◌, ◌≤◌};
 
 use std::hint::spin_loop;
 
-/// What a claim and a change of its piece cost where other workers claim too, in evaluations of a
-/// gate: each moves a line of memory from another processor.
+/// The cost of a claim and a change of its piece if other workers claim too, in evaluations of a
+/// gate: each moves a cache line from another processor.
 const CLAIM: u64 = 8;
 
 /// A worker rests when it owes this number of evaluations.
 const LIMIT: u64 = 128;
 
-/// What a rest takes off what a worker owes.
+/// The debt that a rest pays.
 const RESTED: u64 = 32;
 
-/// How many pauses worker 1 rests, some 50 microseconds. Worker 2 rests twice as long, and so on.
+/// The number of pauses of a rest of worker 1, about 50 microseconds. Worker 2 rests twice as long,
+/// and so on.
 const PAUSES: u32 = 1_000;
 
-/// No worker rests longer than so many times worker 1 does.
+/// The longest rest, as a multiple of worker 1's.
 const LONGEST: u32 = 8;
 
 /// The pace of a worker.
 ///
-/// Where most pieces are dropped, or take few evaluations, several workers are slower than one,
-/// since each waits for what the others have just claimed and changed. So a worker owes the price
-/// of each claim since which others claimed too, and pays with the evaluations that it makes. Where
-/// it owes much it rests, and most of the time one worker claims alone. Worker 0 never rests.
+/// If most pieces are dropped, or take few evaluations, several workers are slower than one,
+/// because each waits for what the others have just claimed and changed. So a worker owes the price
+/// of each claim between two of which others claimed, and pays with its evaluations. If it owes
+/// much, it rests, and most of the time only one worker claims. Worker 0 never rests.
 #[derive(Drop)]
 pub(crate) struct Pace {
     // The rest of this worker, in pauses.
@@ -39,7 +40,7 @@ pub(crate) struct Pace {
 }
 
 impl Pace {
-    /// The pace of a worker that has not claimed, at a ledger of so many classes.
+    /// Makes the pace of a worker that has not claimed, at a ledger of this number of classes.
     pub(crate) fn of(worker: u32, classes: u32, evaluations: u64) -> Pace
         ensures first { worker ≡ 0 → result.pauses ≡ 0 }
     {
@@ -52,8 +53,8 @@ impl Pace {
         }
     }
 
-    /// Takes account of a finished piece and of all evaluations that the worker has made, and rests
-    /// where the worker owes much.
+    /// Accounts for a finished piece and all evaluations that the worker has made, and rests if the
+    /// worker owes much.
     pub(crate) fn after_piece(&mut self, class: u32, block: u32, evaluations: u64)
         ensures rest { self.new.pauses ≡ self.old.pauses }
     {
@@ -63,7 +64,7 @@ impl Pace {
         let made = evaluations.wrapping_sub(self.evaluations);
         self.evaluations = evaluations;
         let price = if is_alone { 0 } else { CLAIM };
-        // Where no other worker claims, what is owed is forgotten little by little.
+        // If no other worker claims, the debt shrinks little by little.
         let paid = made.saturating_add(u64::from(is_alone));
         self.owed = self.owed.saturating_add(price).saturating_sub(paid);
         if self.owed >= LIMIT {
@@ -73,7 +74,7 @@ impl Pace {
     }
 }
 
-/// Lets a processor pause so many times, and counts them.
+/// Lets a processor pause this number of times, and counts the pauses.
 fn rest(pauses: u32) -> u32
     requires { pauses ≤ 8000 }
     ensures { result ≡ pauses }

@@ -31,18 +31,18 @@ use std::alloc::{AllocError, Global};
 use std::sync::Wait;
 use std::thread::Threads;
 
-/// What a run over a part of the classes says of a fault.
+/// The verdict of a run over a part of the classes for a fault.
 #[derive(Clone, Copy, Debug, PartialEq, Eq)]
 pub enum PartVerdict {
-    /// The first test that detects the fault, counted from 0, or none where no test does.
+    /// The first test that detects the fault, counted from 0, or none if no test does.
     First(Option<u32>),
-    /// The fault is of another part.
+    /// The fault is in another part.
     OtherPart,
 }
 
-/// The part of a class, counted from 0, of so many parts: what the number of its region's stem
-/// ([`Job::stem_of_class`]) leaves, divided by the number of parts. So classes of one region are of
-/// one part.
+/// Returns the part of a class, counted from 0, for this number of parts: the number of its
+/// region's stem ([`Job::stem_of_class`]) modulo the number of parts. So the classes of one region
+/// are in one part.
 pub fn part_of(job: &Job, class: u32, parts: u32) -> u32
     requires class { class < length job.now.classes.representative }
     requires parts { 0 < parts }
@@ -52,13 +52,13 @@ pub fn part_of(job: &Job, class: u32, parts: u32) -> u32
     job.stem_of_class(class) % parts
 }
 
-/// The law of the parts: each class is in exactly one.
+/// States the law of the parts: each class is in exactly one.
 pub fn in_one_part()
     ensures { (job : Parts) (parts class : ℕ) → BelongTogether job → 0 < parts
         → class < length job.classes.representative → IsInOnePart job parts class }
 {}
 
-/// The verdict on each class, by its number, from the first tests of the classes of a list.
+/// Returns the verdict of each class, by its number, from the first tests of the classes of a list.
 pub(crate) fn by_class(
     alloc: Global,
     count: u32,
@@ -77,7 +77,7 @@ pub(crate) fn by_class(
     Ok(verdicts)
 }
 
-/// The verdict on each fault, which is that on its class.
+/// Returns the verdict of each fault, which is the verdict of its class.
 fn of_faults(
     alloc: Global,
     job: &Job,
@@ -96,7 +96,7 @@ fn of_faults(
     Ok(verdicts)
 }
 
-/// The verdict on a class, by the verdicts on all classes.
+/// Returns the verdict of a class, from the verdicts of all classes.
 pub(crate) fn verdict_on(by_class: &[PartVerdict], class: u32) -> PartVerdict
     ensures { result ≡ slice_index_or by_class.now class PartVerdict.OtherPart }
 {
@@ -106,7 +106,7 @@ pub(crate) fn verdict_on(by_class: &[PartVerdict], class: u32) -> PartVerdict
     }
 }
 
-/// The first test of each fault, which is that of its class.
+/// Returns the first test of each fault, which is the first test of its class.
 pub(crate) fn firsts_of_faults(
     alloc: Global,
     job: &Job,
@@ -125,7 +125,7 @@ pub(crate) fn firsts_of_faults(
     Ok(firsts)
 }
 
-/// The first test in a verdict; none in one of another part.
+/// Returns the first test in a verdict; none if the fault is in another part.
 pub(crate) fn first_in(verdict: PartVerdict) -> Option<u32>
     ensures { result ≡ first_in verdict }
 {
@@ -135,13 +135,13 @@ pub(crate) fn first_in(verdict: PartVerdict) -> Option<u32>
     }
 }
 
-/// Runs the classes of a part, counted from 0, of so many parts, as [`run_in_parts`] runs all: in
-/// stretches, as many as serve the workers. Gives for each fault of the list, before collapsing,
-/// the first test that detects it, or none, where its class is of the part, and else that it is of
+/// Runs the classes of a part, counted from 0, of this number of parts, as [`run_in_parts`] runs
+/// all: in stretches, as many as serve the workers. Returns for each fault of the uncollapsed list
+/// the first test that detects it, or none, if its class is in the part, and else that it is in
 /// another part.
 ///
-/// It is refused as [`run_in_parts`] is, but that it is the part that may have more than
-/// [`patterns::MAX_PIECES`] pieces, and not a stretch of it.
+/// It fails as [`run_in_parts`] does, but the limit of [`patterns::MAX_PIECES`] pieces applies to
+/// the part, and not to its stretches.
 pub fn run_part<G: Gate + Sync, R: Threads + Wait>(
     rt: &R,
     alloc: Global,
@@ -174,27 +174,26 @@ pub fn run_part<G: Gate + Sync, R: Threads + Wait>(
     Ok(verdicts)
 }
 
-/// Runs all classes of a job in parts, by workers in threads of their own, numbered from 0, of
-/// which no more are started than there are parts. A worker claims a part at a ledger that all
-/// share, which has a piece for each part with a class. It runs the part alone, reports it, and
-/// goes on to the next. It simulates the part's classes block after block, and leaves out a class
-/// that an earlier block detects. The verdicts are the first tests, for every number of parts and
-/// of workers, whatever the workers do in whatever order. The skipped pieces are those behind the
-/// first hits.
+/// Runs all classes of a job in parts, by workers in threads of their own, numbered from 0, at most
+/// one for each part. A worker claims a part at a ledger that all share, which has a piece for each
+/// part with a class. It simulates the part by itself, reports it, and goes on to the next. It
+/// simulates the part's classes block after block, and skips a class that an earlier block detects.
+/// The verdicts are the first tests, for every number of parts and of workers, whatever the workers
+/// do in whatever order. The skipped pieces are the pieces after the first hits.
 ///
 /// A part is here a stretch of the list of all classes, region by region in the order of the
-/// visits: what a worker reads for one region is then near to what it reads for the next. With n
-/// classes a stretch has n divided by the number of parts, rounded up; the last ones have fewer, or
-/// none. The parts of [`run_part`] are told by stems in place of that, which a part text names, so
-/// that other machines come to the same ones.
+/// visits: the data that a worker reads for one region are then near to the data for the next. With
+/// n classes a stretch has n divided by the number of parts, rounded up; the last ones have fewer,
+/// or none. The parts of [`run_part`] instead depend on the stems, by a rule that a part file
+/// names, so that other machines make the same parts.
 ///
-/// It is refused with [`RunFault::NoWorkers`], with [`RunFault::TooManyWorkers`] above 64 workers,
-/// with [`RunFault::TooManyPieces`] where a stretch has more than [`patterns::MAX_PIECES`] pieces,
-/// and with [`RunFault::Memory`] or [`RunFault::Threads`] where memory or the start of a thread was
-/// refused; the threads that were started are joined first. A worker that
-/// the gate stops ends, and where it stops all of them the parts that none began are left. Where
-/// not all classes are settled it is [`RunFault::Unfinished`]: it names the lowest class, by the
-/// job's number, of all that aren't settled, and the block that it waits for.
+/// It fails with [`RunFault::NoWorkers`], with [`RunFault::TooManyWorkers`] above 64 workers, and
+/// with [`RunFault::TooManyPieces`] if a stretch has more than [`patterns::MAX_PIECES`] pieces. It
+/// fails with [`RunFault::Memory`] or [`RunFault::Threads`] if memory runs out or a thread doesn't
+/// start; the threads that were started are joined first. A worker that the gate stops ends, and if
+/// it stops all of them, some parts may never begin. If not all classes are settled, it fails with
+/// [`RunFault::Unfinished`]: that names the lowest unsettled class, by the job's number, and the
+/// block that it waits for.
 pub fn run_in_parts<G: Gate + Sync, R: Threads + Wait>(
     rt: &R,
     alloc: Global,
@@ -222,7 +221,7 @@ pub fn run_in_parts<G: Gate + Sync, R: Threads + Wait>(
     Ok(verdicts)
 }
 
-/// What a run in parts gives: the verdicts, and the closed ledger that handed out the parts.
+/// The result of a run in parts: the verdicts, and the closed ledger that handed out the parts.
 #[derive(Drop)]
 pub struct LedgerRun {
     /// The verdicts.
@@ -232,11 +231,11 @@ pub struct LedgerRun {
     pub ledger: Closed,
 }
 
-/// Runs all classes of a job as [`run_in_parts`] does, and gives the closed ledger of the parts
+/// Runs all classes of a job as [`run_in_parts`] does, and returns the closed ledger of the parts
 /// beside the verdicts. The ledger shows a finished history, in which each report stands for a part
 /// whose classes have these first tests.
 ///
-/// It is refused as [`run_in_parts`] is.
+/// It fails as [`run_in_parts`] does.
 pub fn run_over_ledger<G: Gate + Sync, R: Threads + Wait>(
     rt: &R,
     alloc: Global,
@@ -271,7 +270,7 @@ pub fn run_over_ledger<G: Gate + Sync, R: Threads + Wait>(
     Ok(LedgerRun { verdicts, ledger })
 }
 
-/// The number of pieces behind the first hits of all classes.
+/// Returns the number of pieces after the first hits of all classes.
 pub(crate) fn skipped_behind(by_class: &[PartVerdict], blocks: u32) -> u64
     requires { length by_class.now < 2 ^ 32 }
     ensures { result ≡ pieces_behind blocks (map first_in by_class.now) }
@@ -284,7 +283,7 @@ pub(crate) fn skipped_behind(by_class: &[PartVerdict], blocks: u32) -> u64
     skipped
 }
 
-/// The number of blocks behind that of a first hit, none where no test detects.
+/// Returns the number of blocks after the block of a first hit, none if no test detects.
 fn behind(verdict: PartVerdict, blocks: u32) -> u32
     ensures { result ≡ behind blocks (first_in verdict) }
 {
@@ -294,7 +293,7 @@ fn behind(verdict: PartVerdict, blocks: u32) -> u32
     }
 }
 
-/// Puts what a worker gives back at the places of its parts.
+/// Puts the results of a worker at the places of its parts.
 fn put_by_part(table: Vec<Option<Done>>, dones: Vec<Done>) -> Vec<Option<Done>>
     ensures { ArePut table.items dones.items result.items }
 {
@@ -308,7 +307,7 @@ fn put_by_part(table: Vec<Option<Done>>, dones: Vec<Done>) -> Vec<Option<Done>>
     table
 }
 
-/// What all workers give back, by part.
+/// Returns the results of all workers, by part.
 fn table_of(
     alloc: Global,
     parts: u32,
@@ -323,7 +322,7 @@ fn table_of(
     Ok(table)
 }
 
-/// Puts together the first tests of the classes of all stretches.
+/// Joins the first tests of the classes of all stretches.
 fn joined(
     alloc: Global,
     job: &Job,
@@ -346,8 +345,8 @@ fn joined(
     Ok(firsts)
 }
 
-/// The lowest class of a stretch that isn't settled, by what stands at its place in the table. An
-/// empty place is that of a stretch that no worker began.
+/// Returns the lowest unsettled class of a stretch, from its entry in the table. An empty entry is
+/// a stretch that no worker began.
 fn waiting_in(
     alloc: Global,
     job: &Job,
@@ -365,7 +364,7 @@ fn waiting_in(
     }
 }
 
-/// The lowest class of all stretches that isn't settled.
+/// Returns the lowest unsettled class of all stretches.
 fn lowest_waiting(
     alloc: Global,
     job: &Job,
@@ -387,14 +386,14 @@ fn lowest_waiting(
     Ok(lowest)
 }
 
-/// The seats of workers and what each of them found.
+/// The seats of workers and the results of each.
 #[derive(Drop)]
 struct Returned {
     seats: Vec<Seat>,
     dones: Vec<Vec<Done>>,
 }
 
-/// Sets the seats that came back apart from what their workers found.
+/// Separates the seats that came back from the results of their workers.
 fn set_apart(alloc: Global, back: Vec<Result<Served, AllocError>>) -> Result<Returned, AllocError>
     ensures { IfOk result (λ returned.
         AreApart back.items returned.seats.items returned.dones.items) }
@@ -409,14 +408,14 @@ fn set_apart(alloc: Global, back: Vec<Result<Served, AllocError>>) -> Result<Ret
     Ok(Returned { seats, dones })
 }
 
-/// A closed ledger of stretches, and what each of its workers found.
+/// A closed ledger of stretches, and the results of each of its workers.
 #[derive(Drop)]
 struct Handed {
     ledger: Closed,
     dones: Vec<Vec<Done>>,
 }
 
-/// Closes a ledger with what its workers gave back.
+/// Closes a ledger with what its workers returned.
 fn close_over(
     alloc: Global,
     ledger: SharedLedger,
@@ -437,8 +436,8 @@ fn close_over(
     }
 }
 
-/// A new shared ledger of so many stretches, and the seats of its workers. A job has no more
-/// classes than a ledger takes pieces, so it is refused for want of memory alone.
+/// Makes a shared ledger of this number of stretches, and the seats of its workers. A job has no
+/// more classes than a ledger takes pieces, so it fails only for memory.
 fn ledger_of(
     alloc: Global,
     stretches: u32,
@@ -457,8 +456,8 @@ fn ledger_of(
     }
 }
 
-/// Lets workers run the stretches that they claim at a shared ledger, in threads of their own, and
-/// gives the closed ledger and what each of them found.
+/// Lets workers simulate the stretches that they claim at a shared ledger, in threads of their own,
+/// and returns the closed ledger and the results of each.
 fn hand_out<G: Gate + Sync, R: Threads + Wait>(
     rt: &R,
     alloc: Global,
@@ -485,15 +484,14 @@ fn hand_out<G: Gate + Sync, R: Threads + Wait>(
     Ok(handed)
 }
 
-/// The first tests of classes that were run in stretches, and the closed ledger of these.
+/// The first tests of classes that ran in stretches, and the closed ledger of these.
 #[derive(Drop)]
 struct Gathered {
     firsts: Vec<Option<u32>>,
     ledger: Closed,
 }
 
-/// Runs all stretches, each by one worker alone. The closed ledger tells whether all classes are
-/// settled.
+/// Runs all stretches, each by one worker. The closed ledger shows whether all classes are settled.
 fn gather<G: Gate + Sync, R: Threads + Wait>(
     rt: &R,
     alloc: Global,

@@ -10,10 +10,8 @@ use std::alloc::{AllocError, Global};
 
 /// A class of a job, with the visit to its region and the number of the region's stem. It is
 /// ordered by the visit and the stem, then by its own number.
-///
-/// The visit is the stem's place in the lists of the simulation: what that reads of one stem is the
-/// gates that lie ahead of it, and those of stems that stand near lie near, so they are in the
-/// caches still.
+/// The visit is the stem's place in the lists of the simulation: for a stem it reads the gates that
+/// lie ahead of it. The gates of near stems are near, so they are still in the caches.
 #[derive(Clone, Copy, Debug, PartialEq, Eq, PartialOrd, Ord)]
 pub(crate) struct Ranked {
     visit: u32,
@@ -21,7 +19,7 @@ pub(crate) struct Ranked {
     class: u32,
 }
 
-/// All classes of a job, region by region, as these are visited.
+/// Returns all classes of a job, region by region, in the order of the visits.
 pub(crate) fn all_classes(alloc: Global, job: &Job) -> Result<Vec<u32>, AllocError>
     ensures { IfOk result (λ classes. AreAllByRegion job.now classes.items) }
 {
@@ -30,7 +28,7 @@ pub(crate) fn all_classes(alloc: Global, job: &Job) -> Result<Vec<u32>, AllocErr
     Ok(classes)
 }
 
-/// The classes of a part, counted from 0, of so many parts that are told by the stems of regions.
+/// Returns the classes of a part, counted from 0, for this number of parts by the stems of regions.
 pub(crate) fn part_classes(
     alloc: Global,
     job: &Job,
@@ -45,7 +43,7 @@ pub(crate) fn part_classes(
     Ok(classes)
 }
 
-/// The numbers of those classes whose stems leave the number of a part, divided by that of parts.
+/// Returns the numbers of the classes whose stems, modulo the number of parts, are the part.
 fn of_part(alloc: Global, ranked: &[Ranked], part: u32, parts: u32) -> Result<Vec<u32>, AllocError>
     requires { 0 < parts }
     ensures { IfOk result (λ classes. classes.items
@@ -58,7 +56,7 @@ fn of_part(alloc: Global, ranked: &[Ranked], part: u32, parts: u32) -> Result<Ve
         .collect(alloc)
 }
 
-/// All classes of a job in their order. Counting puts them there, and the sort sees to it.
+/// Returns all classes of a job in their order. Counting makes the order, and the sort ensures it.
 fn ranked_classes(alloc: Global, job: &Job) -> Result<Vec<Ranked>, AllocError>
     ensures { IfOk result (λ ranked. AreRanked job.now ranked.items) }
 {
@@ -74,7 +72,7 @@ fn ranked_classes(alloc: Global, job: &Job) -> Result<Vec<Ranked>, AllocError>
     Ok(ranked)
 }
 
-/// All classes of a job by their own numbers.
+/// Returns all classes of a job by their own numbers.
 fn numbered_classes(alloc: Global, job: &Job) -> Result<Vec<Ranked>, AllocError>
     ensures { IfOk result (λ ranked. (visits : List ℕ) × AreNumbered job.now visits
         (length job.now.classes.representative) ranked.items) }

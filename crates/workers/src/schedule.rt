@@ -22,9 +22,9 @@ use block_sim::{Job, Simulation};
 use fault_ledger::{Claim, Event, Ledger};
 use std::alloc::{AllocError, Global};
 
-/// A move of a worker: it claims where it holds nothing, else it drops its piece where it can,
-/// else it simulates it and reports. Gives the event of the ledger, or none where there is
-/// nothing left to claim.
+/// Makes a move of a worker: it claims if it holds nothing, else it drops its piece if it can, else
+/// it simulates the piece and reports. Returns the event of the ledger, or none if there is nothing
+/// left to claim.
 fn step(job: &Job, ledger: &mut Ledger, simulation: &mut Simulation, worker: u32) -> Option<Event>
     requires shape { IsShapeOf job.now ledger.old.shape }
     requires worker { worker < ledger.old.shape.workers }
@@ -57,7 +57,7 @@ fn step(job: &Job, ledger: &mut Ledger, simulation: &mut Simulation, worker: u32
     }
 }
 
-/// What moves in order did.
+/// The effect of moves in order.
 #[derive(Clone, Copy, Debug, PartialEq, Eq)]
 struct Played {
     /// The number of pieces that were dropped.
@@ -66,7 +66,7 @@ struct Played {
     changed: bool,
 }
 
-/// The moves of these workers, in order.
+/// Makes the moves of these workers, in order.
 fn play(job: &Job, ledger: &mut Ledger, simulation: &mut Simulation, moves: &[u32]) -> Played
     requires shape { IsShapeOf job.now ledger.old.shape }
     requires few { job_pieces job.now ≤ max_pieces }
@@ -98,8 +98,8 @@ fn play(job: &Job, ledger: &mut Ledger, simulation: &mut Simulation, moves: &[u3
     Played { skipped, changed }
 }
 
-/// The moves of all workers in turn, until none has anything left to do. Gives the number of
-/// pieces that were dropped.
+/// Makes the moves of all workers in turn, until none has anything left to do. Returns the number
+/// of pieces that were dropped.
 fn take_turns(job: &Job, ledger: &mut Ledger, simulation: &mut Simulation, everyone: &[u32]) -> u32
     requires shape { IsShapeOf job.now ledger.old.shape }
     requires few { job_pieces job.now ≤ max_pieces }
@@ -127,7 +127,7 @@ fn take_turns(job: &Job, ledger: &mut Ledger, simulation: &mut Simulation, every
     }
 }
 
-/// Refuses moves of a worker that isn't one of the run's.
+/// Checks that the run has the workers of all moves.
 fn check_moves(workers: u32, moves: &[u32]) -> Result<(), RunFault>
     ensures in_range { OnOk result (All (λ worker. worker < workers) moves.now) }
     ensures refused { IfErr result (λ fault. (index : ℕ) × (fault ≡ RunFault.NoSuchMove index)
@@ -139,16 +139,16 @@ fn check_moves(workers: u32, moves: &[u32]) -> Result<(), RunFault>
     }
 }
 
-/// Runs a job by moves of its workers, numbered from 0, in one thread: a move of a worker that
-/// holds nothing claims a piece, and one of a worker that holds a piece drops it where an earlier
-/// block of its class detects, else simulates it and reports. These moves come first, and then
-/// all workers move in turn until nothing is left to claim. The verdicts are the first tests
-/// whatever the moves.
+/// Runs a job by moves of its workers, numbered from 0, in one thread. By a move a worker that
+/// holds nothing claims a piece. A worker that holds a piece drops it if an earlier block of its
+/// class detects, else it simulates the piece and reports. The given moves come first, and then all
+/// workers move in turn until nothing is left to claim. The verdicts are the first tests whatever
+/// the moves.
 ///
-/// It is refused, in this order, with [`RunFault::NoWorkers`], with [`RunFault::TooManyWorkers`]
-/// above 64 workers, with [`RunFault::NoSuchMove`] and the least index of a move of a worker that
-/// isn't below the number of workers, before any move is made, with [`RunFault::TooManyPieces`]
-/// above [`patterns::MAX_PIECES`] pieces, which a job of [`Job::new`] hasn't, and with
+/// It fails, in this order, with [`RunFault::NoWorkers`], with [`RunFault::TooManyWorkers`] above
+/// 64 workers, with [`RunFault::NoSuchMove`] and the least index of a move of a worker that isn't
+/// below the number of workers, before any move is made, with [`RunFault::TooManyPieces`] above
+/// [`patterns::MAX_PIECES`] pieces, which a job of [`Job::new`] doesn't have, and with
 /// [`RunFault::Memory`]. Beside the ledger, a simulation and the verdicts it takes a word for each
 /// worker.
 pub fn run_schedule(
@@ -179,7 +179,7 @@ pub fn run_schedule(
     Ok(verdicts)
 }
 
-/// The numbers of the workers, from 0 on.
+/// Returns the numbers of the workers, from 0 on.
 fn workers_in_order(alloc: Global, workers: u32) -> Result<Vec<u32>, AllocError>
     ensures { IfOk result (λ everyone. everyone.items ≡ below workers) }
 {
@@ -190,8 +190,8 @@ fn workers_in_order(alloc: Global, workers: u32) -> Result<Vec<u32>, AllocError>
     Ok(everyone)
 }
 
-/// A new ledger of a job that has no more pieces than a ledger takes, so that it is refused for
-/// want of memory alone.
+/// Makes a ledger of a job that has no more pieces than a ledger takes, so it fails only for
+/// memory.
 fn open_ledger(alloc: Global, job: &Job, workers: u32) -> Result<Ledger, RunFault>
     requires workers { (0 < workers) × (workers ≤ 64) }
     requires few { job_pieces job.now ≤ max_pieces }

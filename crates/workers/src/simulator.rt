@@ -1,4 +1,4 @@
-//! What finds out the outcomes of pieces.
+//! Simulators of pieces.
 
 ghost use Rattle.std.specs.Prelude.{◌≡◌, ◌<◌, ◌≤◌, length};
 ghost use Rattle.patterns.specs.Tests.{blocks};
@@ -9,14 +9,14 @@ ghost use Rattle.block_sim.specs.Simulation.{Serves};
 use block_sim::{Job, Simulation, Workspace, first_hit};
 use patterns::Outcome;
 
-/// What tells the true outcome of each piece of a job that it serves.
+/// A simulator, which returns the true outcome of each piece of a job that it serves.
 pub(crate) trait Simulator {
     ghost use Rattle.block_sim.specs.Parts.{Parts};
 
     /// It serves the pieces of this job.
     ghost serves: { Self → Parts → Type 0 };
 
-    /// The outcome of a class on a block.
+    /// Returns the outcome of a class on a block.
     fn outcome_of(&mut self, job: &Job, class: u32, block: u32) -> Outcome
         requires serves { serves self.old job.now }
         requires class { class < length job.now.classes.representative }
@@ -25,7 +25,7 @@ pub(crate) trait Simulator {
             job.now.tests.tests class block result }
         ensures serves { serves self.new job.now };
 
-    /// How often it evaluated a gate on a word so far.
+    /// Returns how often it has evaluated a gate on a word.
     fn evaluations(&self) -> u64;
 }
 
@@ -42,7 +42,7 @@ impl Simulator for Workspace {
     }
 }
 
-/// The classes of a fan-out-free region together.
+/// The classes of a fanout-free region together.
 impl Simulator for Simulation {
     ghost serves = { λ simulation job. Serves simulation job };
 

@@ -9,15 +9,15 @@ ghost use Rattle.workers.specs.Rank.{IsCutOf};
 use crate::MAX_WORKERS;
 use block_sim::Job;
 
-/// How many parts there are for each of several workers. Fewer parts end less evenly: on a circuit
-/// of 5,000 gates with 16,384 tests four workers took 0.18 s with one part each, 0.16 with two and
+/// The number of parts for each of several workers. Fewer parts end less evenly: on a circuit of
+/// 5,000 gates with 16,384 tests four workers took 0.18 s with one part each, 0.16 with two and
 /// 0.15 with four. Each part goes over the fault-free words of all tests once more: one worker took
 /// 0.42 s there for one part, 0.45 for 16 and 0.50 for 64.
 const PARTS_OF_A_WORKER: u32 = 4;
 
-/// The number of stretches in which so many workers run so many classes: one worker runs them in
-/// one, and several in some times more than they are, so that all end at about one time. No more
-/// than there are classes.
+/// Returns the number of stretches for this number of classes and workers: one for one worker, and
+/// for several a few times their number, so that all end at about the same time, but no more than
+/// there are classes.
 pub(crate) fn stretches_for(classes: u32, workers: u32) -> u32
     ensures count { result ≡ stretches_for classes workers }
     ensures some { 0 < result }
@@ -30,9 +30,9 @@ pub(crate) fn stretches_for(classes: u32, workers: u32) -> u32
     }
 }
 
-/// The number of parts in which so many workers run a job if the caller names none: one part for
-/// one worker, and else some times more parts than workers. So each worker gets a thread of its
-/// own, if there are as many classes.
+/// Returns the number of parts for a job and this number of workers if the caller names none: one
+/// for one worker, and else a few times more parts than workers. So each worker gets a thread of
+/// its own, if there are as many classes.
 pub fn parts_for(job: &Job, workers: u32) -> u32
     ensures count { result ≡ parts_for job.now workers }
     ensures some { 0 < result }
@@ -46,14 +46,14 @@ pub fn parts_for(job: &Job, workers: u32) -> u32
 pub(crate) struct Cut {
     /// The numbers of the classes.
     pub(crate) classes: Vec<u32>,
-    /// How many stretches there are.
+    /// The number of stretches.
     pub(crate) parts: u32,
-    /// How many classes a stretch has.
+    /// The number of classes of a stretch.
     pub(crate) size: u32,
 }
 
 impl Cut {
-    /// Cuts classes of a job into so many stretches.
+    /// Cuts classes of a job into this number of stretches.
     pub(crate) fn new(job: &Job, classes: Vec<u32>, parts: u32) -> Cut
         requires parts { 0 < parts }
         requires few { length classes.items ≤ length job.now.classes.representative }
@@ -71,7 +71,7 @@ impl Cut {
         }
     }
 
-    /// The classes of a stretch, counted from 0.
+    /// Returns the classes of a stretch, counted from 0.
     pub(crate) fn stretch(&self, part: u32) -> &[u32]
         ensures { result.now ≡ stretch self.now.size self.now.classes.items part }
     {
@@ -82,7 +82,7 @@ impl Cut {
     }
 }
 
-/// How many of the stretches have a class: the first ones.
+/// Returns how many of the stretches have a class: the first ones.
 pub(crate) fn filled(job: &Job, cut: &Cut) -> u32
     requires { IsCutOf job.now cut.now.parts cut.now.size cut.now.classes.items }
     ensures count { result ≡ stretch_count cut.now.size cut.now.classes.items }
@@ -92,7 +92,7 @@ pub(crate) fn filled(job: &Job, cut: &Cut) -> u32
     count_in(job, cut.classes.as_slice()).div_ceil(size)
 }
 
-/// How many classes a list has, which has no more than the job.
+/// Returns the number of classes of a list, which has no more than the job.
 pub(crate) fn count_in(job: &Job, classes: &[u32]) -> u32
     requires { length classes.now ≤ length job.now.classes.representative }
     ensures count { result ≡ length classes.now }

@@ -1,4 +1,4 @@
-//! Parts that workers take, each of which one worker runs alone.
+//! Parts that workers claim, each of which one worker simulates by itself.
 
 ghost use Rattle.std.specs.Prelude.{◌≡◌, ◌⊎◌, ◌<◌, ℕ, All, IfErr, IfNone, IfOk, IfSome, None, Some};
 ghost use Rattle.std.specs.Prelude.{length, vec_len};
@@ -28,18 +28,18 @@ use std::sync::Wait;
 use std::thread;
 use std::thread::{Promise, Threads};
 
-/// What a worker found in a part.
+/// The result of a worker for a part.
 #[derive(Drop)]
 pub(crate) struct Done {
     /// The part, counted from 0.
     pub(crate) part: u32,
     /// The worker that ran it, counted from 0.
     pub(crate) worker: u32,
-    /// The first test of each class of the part, or none, as far as the worker came.
+    /// The first test of each class of the part, or none, as far as the worker got.
     pub(crate) firsts: Vec<Option<u32>>,
-    /// Where the gate stopped the worker, if it did.
+    /// The point at which the gate stopped the worker, if it did.
     pub(crate) stop: Option<Stop>,
-    /// The lowest class that isn't settled, if the gate stopped the worker.
+    /// The lowest unsettled class, if the gate stopped the worker.
     pub(crate) waiting: Option<Waiting>,
 }
 
@@ -51,7 +51,7 @@ pub(crate) struct Member {
 }
 
 impl Member {
-    /// The worker of a number.
+    /// Makes the worker of a number.
     pub(crate) fn new(alloc: Global, job: &Job, number: u32) -> Result<Member, AllocError>
         ensures number { IfOk result (λ member. member.number ≡ number) }
         ensures serves { IfOk result (λ member. ServesRegions member.simulation job.now) }
@@ -61,7 +61,7 @@ impl Member {
     }
 }
 
-/// Lets a worker run a part alone.
+/// Lets a worker simulate a part by itself.
 pub(crate) fn run_alone<G: Gate>(
     alloc: Global,
     job: &Job,
@@ -101,7 +101,7 @@ pub(crate) fn run_alone<G: Gate>(
     })
 }
 
-/// No first test of so many classes.
+/// Returns no first test for each of this number of classes.
 pub(crate) fn no_firsts(alloc: Global, count: usize) -> Result<Vec<Option<u32>>, AllocError>
     ensures count { IfOk result (λ firsts. vec_len firsts ≡ count) }
     ensures none { IfOk result (λ firsts. All (λ first. first ≡ None) firsts.items) }
@@ -113,8 +113,8 @@ pub(crate) fn no_firsts(alloc: Global, count: usize) -> Result<Vec<Option<u32>>,
     Ok(firsts)
 }
 
-/// The lowest class of a stretch that no worker began, which waits for block 0. None if the stretch
-/// has no class.
+/// Returns the lowest class of a stretch that no worker began, which waits for block 0; none if the
+/// stretch has no class.
 pub(crate) fn not_begun(
     alloc: Global,
     job: &Job,
@@ -135,14 +135,14 @@ pub(crate) fn not_begun(
     Ok(lowest_open(job, own, stop, firsts.as_slice()))
 }
 
-/// What a worker gives back: its seat, and what it found in the stretches that it claimed.
+/// What a worker returns: its seat, and its results for the stretches that it claimed.
 #[derive(Drop)]
 pub(crate) struct Served {
     pub(crate) seat: Seat,
     pub(crate) dones: Vec<Done>,
 }
 
-/// Claims the next stretch for a seat that holds none; none where all are claimed.
+/// Claims the next stretch for a seat that holds none; none if all are claimed.
 fn claim_next(ledger: &SharedLedger, seat: &mut Seat) -> Option<u32>
     requires place { seat.old.place ≡ ledger.now }
     requires stretches { ledger.now.shape.tests ≡ 64 }
@@ -178,7 +178,8 @@ fn report_done(ledger: &SharedLedger, seat: &mut Seat)
     };
 }
 
-/// Lets a worker run the stretch that its seat holds, and report it where the gate didn't stop it.
+/// Lets a worker simulate the stretch that its seat holds, and report it unless the gate stopped
+/// it.
 fn run_held<G: Gate>(
     alloc: Global,
     job: &Job,
@@ -207,7 +208,7 @@ fn run_held<G: Gate>(
     Ok(done)
 }
 
-/// Lets a worker claim stretches and run them, until all are claimed or the gate stops it.
+/// Lets a worker claim and simulate stretches, until all are claimed or the gate stops it.
 fn serve_seat<G: Gate>(
     alloc: Global,
     job: &Job,
@@ -238,7 +239,7 @@ fn serve_seat<G: Gate>(
     }
 }
 
-/// The work of one thread.
+/// Does the work of one thread.
 fn serve<G: Gate>(
     alloc: Global,
     job: &Job,
@@ -259,8 +260,8 @@ fn serve<G: Gate>(
     Ok(Served { seat, dones })
 }
 
-/// What the thread of a worker borrows: the seat that it gives back is its worker's, and it gives
-/// back what it found in each stretch that it claimed.
+/// The data that the thread of a worker borrows. It returns its worker's seat, and its results for
+/// each stretch that it claimed.
 #[derive(Drop)]
 struct Taker<G> {
     job: Snapshot<Job>,
@@ -279,7 +280,7 @@ impl<G: Gate> Promise<Result<Served, AllocError>> for Taker<G> {
         (G.passing p.gate.value) (G.stops p.gate.value) served.seat served.dones.items) };
 }
 
-/// Lets each seat's worker take stretches in a thread of its own.
+/// Lets each seat's worker claim stretches in a thread of its own.
 pub(crate) fn take_parts<G: Gate + Sync, R: Threads + Wait>(
     rt: &R,
     alloc: Global,
@@ -339,7 +340,7 @@ pub(crate) fn take_parts<G: Gate + Sync, R: Threads + Wait>(
     )
 }
 
-/// A place for each part, which is empty.
+/// Returns an empty place for each part.
 pub(crate) fn empty_table(alloc: Global, parts: u32) -> Result<Vec<Option<Done>>, AllocError>
     ensures count { IfOk result (λ table. vec_len table ≡ parts) }
     ensures none { IfOk result (λ table. All (λ at. IfSome at (λ _. ⊥)) table.items) }

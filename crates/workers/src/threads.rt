@@ -24,14 +24,14 @@ use std::sync::Wait;
 use std::thread;
 use std::thread::{Promise, Threads};
 
-/// What a worker takes into its thread.
+/// The data that a worker takes into its thread.
 #[derive(Drop)]
 struct Worker {
     seat: Seat,
     simulation: Simulation,
 }
 
-/// What the thread of a worker borrows: the seat that it gives back is its worker's, and has
+/// The data that the thread of a worker borrows. The seat that it returns is its worker's, and has
 /// reported the truth.
 #[derive(Drop)]
 struct Kept<G, C> {
@@ -50,7 +50,7 @@ impl<G: Gate, C: Chosen> Promise<Seat> for Kept<G, C> {
         (G.passing p.gate.value) (G.stops p.gate.value) r };
 }
 
-/// The work of one thread.
+/// Does the work of one thread.
 fn serve<G: Gate, C: Chosen>(
     job: &Job,
     chosen: &C,
@@ -73,7 +73,7 @@ fn serve<G: Gate, C: Chosen>(
     seat
 }
 
-/// Lets each worker work in a thread of its own, and gives the seats back.
+/// Lets each worker work in a thread of its own, and returns the seats.
 fn in_threads<G: Gate + Sync, C: Chosen + Sync, R: Threads + Wait>(
     rt: &R,
     alloc: Global,
@@ -135,7 +135,7 @@ fn in_threads<G: Gate + Sync, C: Chosen + Sync, R: Threads + Wait>(
     )
 }
 
-/// A worker for each seat, with room of its own.
+/// Makes a worker for each seat, with room of its own.
 fn workers_of(alloc: Global, job: &Job, seats: Vec<Seat>) -> Result<Vec<Worker>, AllocError>
     ensures seats { IfOk result (λ workers. map (λ w. w.seat) workers.items ≡ seats.items) }
     ensures fits { IfOk result (λ workers. All (λ w. Serves w.simulation job.now) workers.items) }
@@ -148,8 +148,8 @@ fn workers_of(alloc: Global, job: &Job, seats: Vec<Seat>) -> Result<Vec<Worker>,
     Ok(workers)
 }
 
-/// A new shared ledger of chosen classes of a job, and the seats of its workers. They have no more
-/// pieces than a ledger takes, so it is refused for want of memory alone.
+/// Makes a shared ledger of chosen classes of a job, and the seats of its workers. They have no
+/// more pieces than a ledger takes, so it fails only for memory.
 fn share_ledger<C: Chosen>(
     alloc: Global,
     job: &Job,
@@ -172,21 +172,20 @@ fn share_ledger<C: Chosen>(
     }
 }
 
-/// Runs a job by workers in threads of their own, numbered from 0, which share one ledger without
-/// a lock: each claims a piece, asks the gate whether it may go on, drops the piece where an
-/// earlier block of its class detects, else simulates it and reports. The verdicts are the first
-/// tests, whatever the workers do in whatever order.
+/// Runs a job by workers in threads of their own, numbered from 0, which share one ledger without a
+/// lock. Each claims a piece, asks the gate whether it may go on, drops the piece if an earlier
+/// block of its class detects, else simulates it and reports. The verdicts are the first tests,
+/// whatever the workers do in whatever order.
 ///
-/// It is refused, in this order, with [`RunFault::NoWorkers`], with [`RunFault::TooManyWorkers`]
-/// above 64 workers, with [`RunFault::TooManyPieces`] above [`patterns::MAX_PIECES`] pieces, which
-/// a job of [`Job::new`] hasn't, and with [`RunFault::Memory`] or [`RunFault::Threads`] where
-/// memory or the start of a thread was refused; the threads that were started are joined first.
-/// Where the gate stopped workers and not all classes are settled it is [`RunFault::Unfinished`].
-/// The job is unchanged, and can be run again.
+/// It fails, in this order, with [`RunFault::NoWorkers`], with [`RunFault::TooManyWorkers`] above
+/// 64 workers, with [`RunFault::TooManyPieces`] above [`patterns::MAX_PIECES`] pieces, which a job
+/// of [`Job::new`] doesn't have, and with [`RunFault::Memory`] or [`RunFault::Threads`] if memory
+/// runs out or a thread doesn't start; the threads that were started are joined first. If the gate
+/// stopped workers and not all classes are settled, it fails with [`RunFault::Unfinished`]. The job
+/// is unchanged, and can run again.
 ///
-/// The ledger, a simulation for each worker and the room of the verdicts are there before the
-/// first claim, and the workers take no memory.
-/// They rest between pieces as [`crate::work`] does.
+/// The ledger, a simulation for each worker and the room of the verdicts are there before the first
+/// claim, and the workers take no memory. They rest between pieces as [`crate::work`] does.
 pub fn run<G: Gate + Sync, R: Threads + Wait>(
     rt: &R,
     alloc: Global,
@@ -210,7 +209,7 @@ pub fn run<G: Gate + Sync, R: Threads + Wait>(
     Ok(verdicts)
 }
 
-/// The run of [`run`] over chosen classes.
+/// Runs chosen classes as [`run`] runs all.
 pub(crate) fn run_over<G: Gate + Sync, C: Chosen + Sync, R: Threads + Wait>(
     rt: &R,
     alloc: Global,

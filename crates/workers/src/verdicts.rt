@@ -33,7 +33,7 @@ impl Model for Verdicts {
 }
 
 impl Verdicts {
-    /// The verdicts of faults in the order of their list.
+    /// Makes the verdicts of faults in the order of their list.
     pub(crate) fn of(firsts: Vec<Option<u32>>, skipped: u64) -> Verdicts
         requires { length firsts.items < 2 ^ 32 }
         ensures firsts { result.firsts ≡ firsts.items }
@@ -47,7 +47,8 @@ impl Verdicts {
         }
     }
 
-    /// The first test that detects a fault, or none where no test does. It takes constant time.
+    /// Returns the first test that detects a fault, or none if no test does. It takes constant
+    /// time.
     pub fn first(&self, fault: u32) -> Option<u32>
         requires { fault < length self.now.firsts }
         ensures { slice_get self.now.firsts fault ≡ Some result }
@@ -55,7 +56,7 @@ impl Verdicts {
         self.firsts[fault as usize]
     }
 
-    /// The number of faults that a test detects. It takes constant time.
+    /// Returns the number of faults that a test detects. It takes constant time.
     pub fn detected(&self) -> u32
         ensures { result ≡ detected_count self.now.firsts }
     {
@@ -63,15 +64,15 @@ impl Verdicts {
         self.detected
     }
 
-    /// The number of faults, before collapsing.
+    /// Returns the number of faults of the uncollapsed list.
     pub fn total(&self) -> u32
         ensures { result ≡ length self.now.firsts }
     {
         self.firsts.len() as u32
     }
 
-    /// The number of pieces of work that were dropped, since an earlier block of their class
-    /// detects.
+    /// Returns the number of pieces of work that were dropped because an earlier block of their
+    /// class detects.
     pub fn skipped(&self) -> u64
         ensures { result ≡ self.now.skipped }
     {
@@ -79,7 +80,7 @@ impl Verdicts {
     }
 }
 
-/// A ledger that tells the status of each class.
+/// A ledger that gives the status of each class.
 pub(crate) trait Statuses {
     ghost use Rattle.fault_ledger.specs.declared.Shape.{Shape};
     ghost use Rattle.fault_ledger.specs.History.{History};
@@ -87,10 +88,10 @@ pub(crate) trait Statuses {
     /// The numbers of the ledger.
     ghost shape_of: { Self → Shape };
 
-    /// The ledger shows what a history says of each piece.
+    /// The ledger shows the state of each piece in a history.
     ghost Shows: { Self → History → Type 0 };
 
-    /// Whether a class is settled, and at which test, else the block that it waits for.
+    /// Returns at which test a class is settled, else the block that it waits for.
     fn status_of(&self, class: u32) -> Status
         requires { class < (shape_of self.now).classes }
         ensures { (h : History) → IsLegal (shape_of self.now) h → Shows self.now h
@@ -123,7 +124,7 @@ impl Statuses for Closed {
     }
 }
 
-/// The verdict of each fault, which is that of its class, in a list that was empty.
+/// Adds the verdict of each fault, which is the verdict of its class, to an empty list.
 pub(crate) fn verdicts_of<L: Statuses>(
     job: &Job,
     ledger: &L,

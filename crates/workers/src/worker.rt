@@ -16,7 +16,7 @@ use crate::simulator::Simulator;
 use block_sim::{Job, Workspace};
 use fault_ledger::{Claim, Seat, SharedLedger, Status};
 
-/// How a worker's work ends.
+/// The end of a worker's work.
 #[derive(Clone, Copy, Debug, PartialEq, Eq)]
 pub enum End {
     /// All pieces were claimed.
@@ -27,18 +27,18 @@ pub enum End {
     Stopped,
 }
 
-/// What a worker asks before it begins a piece that it has claimed.
+/// A gate: a worker asks it before it begins a piece that it has claimed.
 pub trait Gate {
     ghost use Rattle.workers.specs.Stops.{Stops};
 
-    /// Where it holds, [`Gate::pass`] lets every piece pass.
+    /// If it holds, [`Gate::pass`] lets every piece pass.
     ghost passing: { Self → Type 0 };
 
-    /// Of which worker, class and block [`Gate::pass`] may stop the worker, and of which it surely
-    /// does.
+    /// The workers, classes and blocks for which [`Gate::pass`] may stop the worker, and for which
+    /// it surely does.
     ghost stops: { Self → Stops };
 
-    /// Whether the worker may go on with the piece.
+    /// Returns whether the worker may go on with the piece.
     fn pass(&self, worker: u32, class: u32, block: u32) -> bool
         ensures passing { passing self.now → result ≡ true }
         ensures stopped { result ≡ false → (stops self.now).may worker class block }
@@ -61,7 +61,7 @@ impl Gate for OpenGate {
     }
 }
 
-/// Drops the piece that the seat holds where an earlier block of its class was a hit, and tells
+/// Drops the piece that the seat holds if an earlier block of its class was a hit, and returns
 /// whether it did.
 fn drop_held(ledger: &SharedLedger, seat: &mut Seat) -> bool
     requires place { seat.old.place ≡ ledger.now }
@@ -110,7 +110,8 @@ fn finish_piece<C: Chosen, K: Simulator>(
     true
 }
 
-/// The lowest class from this one on that the seat doesn't see settled, or the number of classes.
+/// Returns the lowest class from this one on that the seat doesn't see settled, or the number of
+/// classes.
 fn lowest_waiting(ledger: &SharedLedger, seat: &mut Seat, classes: u32, from: u32) -> u32
     requires place { seat.old.place ≡ ledger.now }
     requires sitter { IsSitter seat.old }
@@ -129,12 +130,12 @@ fn lowest_waiting(ledger: &SharedLedger, seat: &mut Seat, classes: u32, from: u3
     classes
 }
 
-/// One worker of a run: claims pieces until all are claimed, the gate stops it, or every class is
-/// settled.
+/// Works as one worker of a run: claims pieces until all are claimed, the gate stops it, or every
+/// class is settled.
 ///
-/// Where others claim too and pieces take little work, a worker rests between two pieces, and holds
-/// none meanwhile: it spins for 1,000 pauses of the processor times its number, at most 8,000, some
-/// 400 microseconds. Worker 0 never rests.
+/// If others claim too and pieces take little work, a worker rests between two pieces, and holds
+/// none meanwhile: it spins for 1,000 pauses of the processor times its number, at most 8,000,
+/// about 400 microseconds. Worker 0 never rests.
 pub fn work<G: Gate>(
     job: &Job,
     ledger: &SharedLedger,
@@ -154,7 +155,7 @@ pub fn work<G: Gate>(
     work_over(job, job.classes(), ledger, workspace, seat, gate)
 }
 
-/// The work of [`work`] at a ledger of chosen classes.
+/// Works as [`work`] does at a ledger of chosen classes.
 pub(crate) fn work_over<G: Gate, C: Chosen, K: Simulator>(
     job: &Job,
     chosen: &C,
