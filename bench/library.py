@@ -30,6 +30,7 @@ import lzma
 import os
 import random
 import re
+import resource
 import shutil
 import subprocess
 import sys
@@ -253,12 +254,21 @@ def generators(program):
         for name, words in (("mult16", ["mult", "16"]), ("s38417", SHAPE)):
             bench = written(folder, f"{name}.bench", generated(*words))
             for language, line in lines.items():
-                took, done = seconds(lambda: subprocess.run(
-                    [*line, bench], stdout=subprocess.PIPE, stderr=subprocess.PIPE, check=True,
-                    env=os.environ | paths, text=True,
-                ))
+                was = resource.getrusage(resource.RUSAGE_CHILDREN)
+                took, done = seconds(
+                    lambda: subprocess.run(
+                        [*line, bench],
+                        stdout=subprocess.PIPE,
+                        stderr=subprocess.PIPE,
+                        check=True,
+                        env=os.environ | paths,
+                        text=True,
+                    )
+                )
+                now = resource.getrusage(resource.RUSAGE_CHILDREN)
+                busy = now.ru_utime - was.ru_utime + now.ru_stime - was.ru_stime
                 said = (done.stderr.strip().splitlines() or [""])[-1]
-                print(f"{name} {language:20} {took:7.2f} s  {said}")
+                print(f"{name} {language:20} {took:7.2f} s, {busy:7.2f} s busy  {said}")
     return 0
 
 

@@ -109,8 +109,23 @@ def _address(numbers: Any) -> int:
     return numbers.ctypes.data if numpy is not None else numbers.buffer_info()[0]
 
 
-# Runs of whole regions into which all classes are cut, and shares for each thread of a simulation.
-RUNS, SHARES = 256, 4
+# Runs of whole regions into which all classes are cut. Of each 16 runs 11 go to a large share, one
+# for each thread, and the others to small shares, so many for each thread.
+RUNS, SMALL = 256, 3
+
+
+def _share_of_run(workers: int) -> list[int]:
+    """The share of each run. The large shares, which threads take first, have the lowest
+    numbers."""
+    large, small, shares = 0, 0, []
+    for run in range(RUNS):
+        if run % 16 < 11:
+            shares.append(large % workers)
+            large += 1
+        else:
+            shares.append(workers + small % (SMALL * workers))
+            small += 1
+    return shares
 
 
 def _runs_of(stems: Any) -> Any:
@@ -165,8 +180,8 @@ class Job:
     """A circuit, its faults in classes, and tests.
 
     A job is also a context manager, which closes it. A call on a closed job raises `ValueError`,
-    and a number out of range `IndexError`. Threads that call one job wait for each other; `share` makes
-    another one for another thread.
+    and a number out of range `IndexError`. Threads that call one job wait for each other; `share`
+    makes another one for another thread.
 
     sources, signals, faults, classes, tests, blocks: how many of each the job has.
     """
@@ -182,7 +197,7 @@ class Job:
     def _start(self) -> None:
         self._handle, self._lock = FsJob(), threading.Lock()
         self._helpers: list[Job] = []
-        # What depends on the circuit alone: all classes, their runs, and their shares by number.
+        # What depends on the circuit alone: all classes, their runs, and their shares by threads.
         self._whole: Any = None
         self._cuts: dict[int, list[Any]] = {}
         self._run_of: Any = None
@@ -240,8 +255,8 @@ class Job:
         (tests, sources), as a list or a numpy array; or, with `count`, words: for each block of 64
         tests one for each source, in one list, with bit k for test 64 * block + k.
 
-        keep_last: the job's last test stays, as test 0 before the new ones, which are rows or words.
-        So under `Model.TRANSITION` the pair of it and the first new test isn't lost.
+        keep_last: the job's last test stays, as test 0 before the new ones, which are rows or
+        words. So under `Model.TRANSITION` the pair of it and the first new test isn't lost.
 
         Raises `Error` if a text or words are wrong, `IndexError` if rows have another width,
         `ValueError` if they have another bit, and `RuntimeError` if `share` made another job that
@@ -374,7 +389,7 @@ class Job:
         if workers == 1:
             self._simulate(asked, found)
             return found
-        shares = deque(self._cut(None if classes is None else asked, SHARES * workers))
+        shares = deque(self._cut(None if classes is None else asked, workers))
         jobs: list[Job] = []
         try:
             for _ in range(workers - 1):
@@ -416,28 +431,30 @@ class Job:
                 for at, first in zip(places, firsts):
                     found[at] = first
 
-    def _cut(self, asked: Any, count: int) -> list[Any]:
+    def _cut(self, asked: Any, workers: int) -> list[Any]:
         """The shares of a list of classes, or of all. Those of all are kept."""
         if asked is not None:
-            return self._shares(asked, count)
-        if count not in self._cuts:
-            self._cuts[count] = self._shares(self._all(), count)
-        return self._cuts[count]
+            return self._shares(asked, workers)
+        if workers not in self._cuts:
+            self._cuts[workers] = self._shares(self._all(), workers)
+        return self._cuts[workers]
 
-    def _shares(self, asked: Any, count: int) -> list[Any]:
-        """The places of a list of classes in at most so many shares, each with whole regions. Each
-        share has regions from all over the circuit, so they take about the same time."""
-        runs = self._runs()
+    def _shares(self, asked: Any, workers: int) -> list[Any]:
+        """The places of a list of classes in shares of whole regions, a large one and small ones
+        for each thread. A share has regions from all over the circuit, so that large shares take
+        about the same time; the small ones make up for what they differ in."""
+        runs, share_of_run = self._runs(), _share_of_run(workers)
+        count = (1 + SMALL) * workers
         if numpy is not None:
             if len(asked) and int(asked.max()) >= self.classes:
                 raise IndexError("a class is out of range")
-            share_of = (numpy.arange(RUNS) % count).astype(numpy.uint16)[runs[asked]]
+            share_of = numpy.array(share_of_run, numpy.uint16)[runs[asked]]
             places = numpy.argsort(share_of, kind="stable")
             ends = numpy.cumsum(numpy.bincount(share_of, minlength=count))
             parts = numpy.split(places, ends[:-1])
         else:
             parts = [array("I") for _ in range(count)]
-            take = [parts[run % count].append for run in range(RUNS)]
+            take = [parts[share].append for share in share_of_run]
             try:
                 for at, class_ in enumerate(asked):
                     take[runs[class_]](at)
