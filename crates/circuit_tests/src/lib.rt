@@ -18,3 +18,5 @@ mod made;
 mod moves;
 #[cfg(test)]
 mod rows;
+#[cfg(test)]
+mod threads;

@@ -1,0 +1,120 @@
+//! Test files of a few megabytes, which threads read.
+
+use crate::checks::check;
+use patterns::{TestFault, Tests, read_tests_in_threads};
+use std::alloc::{AllocError, Global};
+use std::sync::Wait;
+use std::thread::Threads;
+
+/// The number of sources.
+const WIDTH: u32 = 47;
+
+/// The number of workers that read.
+const WORKERS: u32 = 4;
+
+/// A test file: a number of rows, a comment after some of them, and a last line. Then its error.
+struct Case {
+    name: &'static str,
+    rows: u32,
+    comment_behind: u32,
+    last: &'static str,
+    refused: Option<TestFault>,
+}
+
+static CASES: [Case; 5] = [
+    Case {
+        name: "even_lines",
+        rows: 65_536,
+        comment_behind: 0,
+        last: "",
+        refused: None,
+    },
+    Case {
+        name: "comment_among_the_rows",
+        rows: 65_000,
+        comment_behind: 30_001,
+        last: "# end",
+        refused: None,
+    },
+    Case {
+        name: "bad_byte_in_the_last_row",
+        rows: 60_000,
+        comment_behind: 50_000,
+        last: "2",
+        refused: Some(TestFault::BadByte(60_002)),
+    },
+    Case {
+        name: "wrong_width_in_the_last_row",
+        rows: 65_535,
+        comment_behind: 0,
+        last: "1",
+        refused: Some(TestFault::BadWidth(65_537)),
+    },
+    Case {
+        name: "row_past_the_limit",
+        rows: 65_536,
+        comment_behind: 0,
+        last: "2",
+        refused: Some(TestFault::TooMany),
+    },
+];
+
+/// The bit of a test at a source: one bit of the test's number.
+fn bit(test: u32, source: u32) -> bool {
+    (test >> (source % 17)) & 1 == 1
+}
+
+/// Adds the row of a test to a text.
+fn push_row(text: &mut Vec<u8>, test: u32) -> Result<(), AllocError> {
+    for source in 0..WIDTH {
+        text.push(if bit(test, source) { b'1' } else { b'0' })?;
+    }
+    text.push(b'\n')?;
+    Ok(())
+}
+
+/// The bytes of a case.
+fn text_of(alloc: Global, case: &Case) -> Result<Vec<u8>, AllocError> {
+    let mut text = Vec::new(alloc);
+    for test in 0..case.rows {
+        if test == case.comment_behind {
+            text.extend_from_slice(b"# a comment\n")?;
+        }
+        push_row(&mut text, test)?;
+    }
+    text.extend_from_slice(case.last.as_bytes())?;
+    Ok(text)
+}
+
+/// Returns whether tests have the bits of their numbers.
+fn have_bits(tests: &Tests, count: u32) -> bool {
+    if tests.count() != count || tests.width() != WIDTH {
+        return false;
+    }
+    for test in 0..tests.count() {
+        for source in [0, 5, WIDTH - 1] {
+            if tests.bit(test, source) != bit(test, source) {
+                return false;
+            }
+        }
+    }
+    true
+}
+
+/// Returns whether threads read a case as they should.
+fn is_read<R: Threads + Wait>(rt: &R, alloc: Global, case: &Case) -> Result<bool, AllocError> {
+    let text = text_of(alloc, case)?;
+    Ok(
+        match read_tests_in_threads(rt, alloc, text.as_slice(), WIDTH, WORKERS) {
+            Ok(tests) => case.refused.is_none() && have_bits(&tests, case.rows),
+            Err(fault) => case.refused == Some(fault),
+        },
+    )
+}
+
+#[test]
+fn threads_read_long_texts(rt: HostRuntime) {
+    for case in &CASES {
+        check(&rt, is_read(&rt, rt.alloc(), case) == Ok(true), case.name);
+    }
+}
