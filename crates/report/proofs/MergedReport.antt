@@ -7,11 +7,13 @@ use Rattle.std.proofs.lemmas.Option.{get_or_from_slice_get, slice_get-get_or, sl
 use Rattle.std.proofs.lemmas.Option.{slice_get_within}
 use Rattle.bench_net.specs.Statement.{Statement}
 use Rattle.bench_net.specs.Refusal.{IsAccepted}
+use Rattle.bench_net.specs.Scan.{sources}
 use Rattle.fault_model.specs.declared.Model.{Model}
 use Rattle.fault_model.specs.declared.Model.TheVariants.{StuckAt, Transition, TransitionPairs}
 use Rattle.fault_model.specs.Fault.{Fault, faults}
 use Rattle.fault_model.specs.Collapse.{AreClassesOf, Collapsed}
 use Rattle.fault_model.specs.Solution.{Test}
+use Rattle.patterns.specs.Tests.{HasTests, TestList}
 use Rattle.block_sim.specs.First.{IsFirst}
 use Rattle.block_sim.specs.Parts.{Parts}
 use Rattle.workers.specs.declared.parts.PartVerdict.{PartVerdict}
@@ -19,6 +21,7 @@ use Rattle.workers.specs.declared.parts.PartVerdict.TheVariants.{First, OtherPar
 use Rattle.workers.specs.Part.{ArePartVerdicts}
 use Rattle.workers.specs.Verdict.{AreFirsts}
 use Rattle.report.specs.declared.contents.Lines.{Lines}
+use Rattle.report.specs.declared.contents.Lines.TheVariants.{Omitted}
 use Rattle.jobs.specs.Jobs.{IsJobOf}
 use Rattle.report.specs.EndToEnd.{IsReportOf}
 use Rattle.report.specs.Merging.{AreOfOneRun, IsFirstMerged, IsJoined, IsMerged, IsWholeRun}
@@ -287,4 +290,20 @@ class_report_of_merge one run first others merged lines c classes of all is acce
       subst (λ x. AreClassesOf run.model x classes) same are,
       whole.2,
       ap (λ l. l ++ class_coverage_line classes merged.firsts) whole.3,
+    )
+
+-- its first tests are those of the circuit that the run's bench text is read as
+pub firsts_of_merge : OneCircuit → (run : PartedRun) (first : List ℕ) (others : List (List ℕ))
+    (merged : MergedRun) (c : List Statement) → IsSomePartOf run first
+    → All (IsSomePartToldFrom run) others → IsMergeOf first others merged
+    → IsAccepted run.bench c → (tests : TestList) × HasTests run.tests (length (sources c)) tests
+    × AreFirsts run.model c tests.tests merged.firsts
+firsts_of_merge one run first others merged c of all is accepted =
+    let whole = merge_of_run one run first others merged Omitted of all is in
+    let job = whole.0 in
+    let job_is : IsJobOf run.model run.bench run.tests job = whole.1 in
+    let same : job.circuit ≡ c = one run.bench job.circuit c job_is.0 accepted in (
+      job.tests,
+      subst (λ x. HasTests run.tests (length (sources x)) job.tests) same job_is.1,
+      subst (λ x. AreFirsts run.model x job.tests.tests merged.firsts) same whole.2,
     )

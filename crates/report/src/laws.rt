@@ -1,15 +1,17 @@
 //! The laws of part texts, of their merge and its report, and of the coverage of classes.
 
 ghost use Rattle.std.specs.Prelude.{◌≡◌, ◌<◌, ◌^◌, ◌∷◌, ◌++◌, ℕ, All, List, Option, Some, false};
-ghost use Rattle.std.specs.Prelude.{map, true};
+ghost use Rattle.std.specs.Prelude.{length, map, true};
 ghost use Rattle.std.specs.Prelude.{slice_get};
 ghost use Rattle.bench_net.specs.Statement.{Statement};
 ghost use Rattle.bench_net.specs.Circuit.{IsCircuit};
 ghost use Rattle.bench_net.specs.Refusal.{IsAccepted};
+ghost use Rattle.bench_net.specs.Scan.{sources};
 ghost use Rattle.fault_model.specs.declared.Model.{Model};
 ghost use Rattle.fault_model.specs.Fault.{Fault, faults};
 ghost use Rattle.fault_model.specs.Collapse.{AreClassesOf, Collapsed, IsClassOf};
 ghost use Rattle.fault_model.specs.Solution.{Test};
+ghost use Rattle.patterns.specs.Tests.{HasTests, TestList};
 ghost use Rattle.block_sim.specs.First.{IsFirst};
 ghost use Rattle.block_sim.specs.Parts.{Parts};
 ghost use Rattle.workers.specs.declared.parts.PartVerdict.{PartVerdict};
@@ -95,6 +97,18 @@ pub fn merged_class_report()
         → IsReportOf run.model run.bench run.tests (record { lines = lines; classes = true })
         (report_text merged.faults merged.firsts lines
         ++ class_coverage_line classes merged.firsts) }
+{
+    one_answer();
+}
+
+/// The first tests of such a merge are those of the faults of the run's circuit under the run's
+/// tests.
+pub fn merged_firsts()
+    ensures { (run : PartedRun) (first : List ℕ) (others : List (List ℕ)) (merged : MergedRun)
+        (c : List Statement) → IsSomePartOf run first → All (IsSomePartToldFrom run) others
+        → IsMergeOf first others merged → IsAccepted run.bench c
+        → (tests : TestList) × HasTests run.tests (length (sources c)) tests
+        × AreFirsts run.model c tests.tests merged.firsts }
 {
     one_answer();
 }

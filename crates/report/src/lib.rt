@@ -39,7 +39,7 @@ pub use jobs::{ReportFault, SimFault, Split, Watch, job_of, job_of_in_threads};
 pub use joining::MergeFault;
 pub use launched::pairs_text_in;
 pub use laws::{
-    class_firsts_are, merged_class_report, merged_report, no_refusal_of_merge,
+    class_firsts_are, merged_class_report, merged_firsts, merged_report, no_refusal_of_merge,
     no_refusal_of_part_text, one_part_text, one_report, part_text_is_read,
 };
 pub use merge::Merge;

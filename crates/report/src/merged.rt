@@ -1,6 +1,6 @@
 //! What the texts of all parts of a run say.
 
-ghost use Rattle.std.specs.Prelude.{◌≡◌, ◌<◌, ◌^◌, length};
+ghost use Rattle.std.specs.Prelude.{◌≡◌, ◌<◌, ◌^◌, Some, length, slice_get};
 
 /// The faults of a whole run by their names, and the first test that detects each, or none.
 #[derive(Drop)]
@@ -39,6 +39,15 @@ impl<'a> Merged<'a> {
         ensures { result ≡ length (run_of self.now).firsts }
     {
         self.firsts.len() as u32
+    }
+
+    /// Returns the first test that detects a fault, or none if no test does. Faults are numbered
+    /// from 0 in the order of their list, and tests from 0.
+    pub fn first(&self, fault: u32) -> Option<u32>
+        requires { fault < length (run_of self.now).firsts }
+        ensures { slice_get (run_of self.now).firsts fault ≡ Some result }
+    {
+        self.firsts[fault as usize]
     }
 
     /// The names of the faults.

@@ -15,6 +15,7 @@ use Rattle.block_sim.specs.Parts.{Parts}
 use Rattle.workers.specs.Verdict.{AreFirsts, detected_count}
 use Rattle.report.specs.declared.contents.Lines.{Lines}
 use Rattle.report.specs.declared.contents.Lines.TheVariants.{All, Omitted, Undetected}
+use Rattle.report.specs.Merging.{run_of}
 use Rattle.report.specs.Report.{percentage}
 use Rattle.tables.specs.declared.column.Column.{Column}
 use Rattle.tables.specs.declared.column.Column.TheVariants as column
@@ -156,5 +157,6 @@ IsClassTableOfCircuit m c format bytes = (classes : Collapsed) × AreClassesOf m
 -- what the program keeps of what is told
 abbrev pub column_in : Column → Told
 column_in (column.First verdicts lines) = first_column verdicts.now.firsts lines
+column_in (column.Merged merged lines) = first_column (run_of merged.now).firsts lines
 column_in (column.Class classes) =
     class_column classes.now.class_of (length classes.now.representative)

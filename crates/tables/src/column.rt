@@ -4,7 +4,7 @@ ghost use Rattle.std.specs.Prelude.{◌≡◌, ◌<◌, Some, length, slice_get}
 ghost use Rattle.tables.specs.Tables.{column_in, has_row};
 
 use fault_model::Classes;
-use report::Lines;
+use report::{Lines, Merged};
 use workers::Verdicts;
 
 /// What is told of each fault.
@@ -13,6 +13,11 @@ pub(crate) enum Column<'a> {
     /// The first test that detects it, and of which faults.
     First {
         verdicts: &'a Verdicts,
+        lines: Lines,
+    },
+    /// The same of a merged run.
+    Merged {
+        merged: &'a Merged<'a>,
         lines: Lines,
     },
     /// Its class.
@@ -25,7 +30,7 @@ impl Column<'_> {
         ensures { result.now ≡ (column_in self.now).name }
     {
         match self {
-            Column::First { .. } => "first",
+            Column::First { .. } | Column::Merged { .. } => "first",
             Column::Class(_) => "class",
         }
     }
@@ -37,6 +42,7 @@ impl Column<'_> {
     {
         match self {
             Column::First { verdicts, .. } => verdicts.first(fault),
+            Column::Merged { merged, .. } => merged.first(fault),
             Column::Class(classes) => Some(classes.class_of(fault)),
         }
     }
@@ -49,8 +55,12 @@ impl Column<'_> {
             Column::First {
                 lines: Lines::Undetected,
                 ..
+            }
+            | Column::Merged {
+                lines: Lines::Undetected,
+                ..
             } => value.is_none(),
-            Column::First { .. } | Column::Class(_) => true,
+            Column::First { .. } | Column::Merged { .. } | Column::Class(_) => true,
         }
     }
 }

@@ -208,6 +208,7 @@ fn put_sums<W: Out>(column: &Column<'_>, faults: u32, out: &mut W) -> Result<(),
 {
     match *column {
         Column::First { verdicts, .. } => put_coverage(verdicts.detected(), faults, out),
+        Column::Merged { merged, .. } => put_coverage(merged.detected(), faults, out),
         Column::Class(classes) => put_counts(faults, classes.count(), out),
     }
 }

@@ -5,8 +5,12 @@
 mod column;
 mod csv_table;
 mod json_table;
+mod laws;
+mod merged;
 mod number;
 mod row;
 mod table;
 
+pub use laws::merged_table;
+pub use merged::write_merged_table;
 pub use table::{Format, faults_table_in, run_table_in, run_table_watched};

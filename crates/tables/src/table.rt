@@ -36,7 +36,7 @@ pub enum Format {
 
 /// Writes a table of faults. Its text is made first, so an output gets a table or a beginning of
 /// one, or nothing where memory is refused.
-fn write_table<W: Out>(
+pub(crate) fn write_table<W: Out>(
     alloc: Global,
     circuit: &Circuit,
     list: &Faults,

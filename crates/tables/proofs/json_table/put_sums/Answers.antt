@@ -14,3 +14,8 @@ returns-in-Class g c =
     let own : c.args.faults ≡ length c.in-Class.classes.now.class_of =
     many ∙ length-map c.in-Class.classes.now.class_of Some in
     rw (c.in-Class.is, ← c.count.ensures, ← own) c.put_counts.ensures
+
+pub returns-in-Merged : goal.returns-in-Merged
+returns-in-Merged g c =
+    let many = rw (c.in-Merged.is) at c.requires.count in
+    rw (c.in-Merged.is, ← c.detected-in-Merged.ensures, ← many) c.put_coverage-in-Merged.ensures

@@ -1,0 +1,26 @@
+//! The law of the tables of merged runs.
+
+ghost use Rattle.std.specs.Prelude.{All, List, ℕ};
+ghost use Rattle.bench_net.specs.Refusal.{IsAccepted};
+ghost use Rattle.bench_net.specs.Statement.{Statement};
+ghost use Rattle.fault_model.specs.Fault.{faults};
+ghost use Rattle.report.specs.Merging.{MergedRun};
+ghost use Rattle.report.specs.WholeMerge.{IsMergeOf, IsSomePartOf, IsSomePartToldFrom, PartedRun};
+ghost use Rattle.report.specs.declared.contents.Lines.{Lines};
+ghost use Rattle.tables.specs.declared.table.Format.{Format};
+ghost use Rattle.tables.specs.Tables.{IsFirstTableOf, first_column, table_text};
+
+use report::merged_firsts;
+
+/// A merge of the part files of a run gives the table of the run, over the faults of its circuit.
+/// The conditions are those of [`report::merged_report`].
+pub fn merged_table()
+    ensures { (run : PartedRun) (first : List ℕ) (others : List (List ℕ)) (merged : MergedRun)
+        (lines : Lines) (format : Format) (c : List Statement) → IsSomePartOf run first
+        → All (IsSomePartToldFrom run) others → IsMergeOf first others merged
+        → IsAccepted run.bench c
+        → IsFirstTableOf run.model run.bench run.tests lines format
+        (table_text format c (faults run.model c) (first_column merged.firsts lines)) }
+{
+    merged_firsts();
+}
