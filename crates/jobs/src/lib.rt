@@ -16,4 +16,4 @@ pub use texts::{
     job_for, job_for_in_threads, job_of, job_of_any_size, job_of_any_size_in_threads,
     job_of_in_threads, read_inputs, read_inputs_in_threads,
 };
-pub use watch::{Watch, run_watched};
+pub use watch::{ReasonCounts, Watch, run_watched};

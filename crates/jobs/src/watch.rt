@@ -10,6 +10,18 @@ use std::sync::Wait;
 use std::thread::Threads;
 use workers::{Gate, OpenGate, RunFault, Verdicts, run_in_parts};
 
+/// The number of undetected faults of a run for each reason (the reasons are those of the crate
+/// `undetected`).
+#[derive(Clone, Copy, Debug, PartialEq, Eq)]
+pub struct ReasonCounts {
+    /// No observer is reached from the line of these faults.
+    pub no_path: usize,
+    /// No test activates these.
+    pub not_activated: usize,
+    /// Some test activates each of these, and none detects it.
+    pub not_observed: usize,
+}
+
 /// A gate that learns how much work a run has, and when that work is done.
 pub trait Watch: Gate {
     /// Begins the run: it has this number of fault classes, each on this number of blocks of 64
@@ -25,6 +37,10 @@ pub trait Watch: Gate {
         requires { AreFirsts _job.now.list.model _job.now.circuit _job.now.tests.tests
             _verdicts.now.firsts }
     {}
+
+    /// Takes how many of the undetected faults have each reason, before anything of the text is
+    /// written. Only a run that tells the reasons has them.
+    fn explains(&self, _counts: ReasonCounts) {}
 }
 
 impl Watch for OpenGate {

@@ -9,6 +9,7 @@
 
 mod compacted;
 mod contents;
+mod counts;
 mod curve;
 mod cut;
 mod detected;
@@ -31,11 +32,12 @@ mod whole;
 
 pub use compacted::{KeptCount, KeptForm, compact_text_in, compact_text_with};
 pub use contents::{Contents, Lines};
+pub use counts::{RunCounts, count_run};
 pub use curve::{CurvePoint, curve_of, curve_text_in, curve_text_watched, write_curve};
 pub use detected::{detections_text_in, detections_text_of_any_size, write_detections};
 pub use ending::write_merged;
 pub use histogram::{histogram_of, histogram_text_in};
-pub use jobs::{ReportFault, SimFault, Split, Watch, job_of, job_of_in_threads};
+pub use jobs::{ReasonCounts, ReportFault, SimFault, Split, Watch, job_of, job_of_in_threads};
 pub use joining::MergeFault;
 pub use launched::pairs_text_in;
 pub use laws::{
@@ -46,9 +48,9 @@ pub use merge::Merge;
 pub use merged::Merged;
 pub use merged_classes::write_merged_with_classes;
 pub use output::{Formatted, Out, OutFailed, Plain};
-pub use part::{part_text_in, part_text_watched, sum_of};
+pub use part::{model_name, part_text_in, part_text_watched, sum_of};
 pub use part_reader::{PartFault, PartHeader, PartText, read_part};
-pub use reasoned::{reasons_text_watched, write_reasons};
+pub use reasoned::{reason_counts, reasons_text_watched, write_reasons};
 pub use report::{detected_classes, write_fault, write_listing, write_report, write_report_with};
 pub use responses::responses_text_in;
 pub use text::{

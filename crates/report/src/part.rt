@@ -96,7 +96,7 @@ pub fn part_text_watched<R: Threads + Wait, G: Watch + Sync, W: Out>(
     let head = Head {
         part,
         parts,
-        model: name_of(model),
+        model: model_name(model),
         rule: RULE,
         bench: bench_sum.as_str(),
         tests: test_sum.as_str(),
@@ -115,8 +115,8 @@ struct Head<'a> {
     tests: &'a str,
 }
 
-/// The name of a model.
-fn name_of(model: Model) -> &'static str
+/// Returns the name of a model, as a part text and the command line have it.
+pub fn model_name(model: Model) -> &'static str
     ensures { result.now ≡ model_name model }
 {
     match model {

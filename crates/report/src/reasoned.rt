@@ -8,6 +8,7 @@ ghost use Rattle.block_sim.specs.Parts.{BelongTogether};
 ghost use Rattle.jobs.specs.Splits.{HasSomePart};
 ghost use Rattle.output.specs.Output.{Writes};
 ghost use Rattle.workers.specs.Refused.{ArePartsWithin, IsPartsFault};
+ghost use Rattle.report.specs.Counts.{reason_counts_of};
 ghost use Rattle.report.specs.EndToEnd.{IsJobTextFault, IsWatchedFault, IsWithin, WritesOneOf};
 ghost use Rattle.report.specs.Reasons.{IsReasonReportOf, IsReasonReportOfJob, has_reason};
 ghost use Rattle.report.specs.Reasons.{reason_line, reason_report, reason_text, reasons_line};
@@ -18,7 +19,7 @@ use bench_net::Circuit;
 use block_sim::Job;
 use fault_model::{Faults, Model};
 use itoa::Buffer;
-use jobs::{ReportFault, SimFault, Split, Watch, run_watched, split_job_of};
+use jobs::{ReasonCounts, ReportFault, SimFault, Split, Watch, run_watched, split_job_of};
 use output::{Out, OutFailed, put_pieces};
 use std::alloc::Global;
 use std::sync::Wait;
@@ -78,6 +79,7 @@ fn report_reasons<R: Threads + Wait, G: Watch + Sync, W: Out>(
 {
     let verdicts = run_watched(rt, alloc, job, parts, workers, gate)?;
     let reasons = reasons(alloc, job, &verdicts)?;
+    gate.explains(reason_counts(&reasons));
     write_reasons(job, &verdicts, reasons.as_slice(), classes, out)?;
     Ok(())
 }
@@ -176,4 +178,15 @@ fn count_of(reasons: &[Option<Reason>], reason: Reason) -> usize
     ensures { result ≡ count_by (has_reason reason) reasons.now }
 {
     reasons.iter().filter(|own| **own == Some(reason)).count()
+}
+
+/// Counts the faults of each reason.
+pub fn reason_counts(reasons: &[Option<Reason>]) -> ReasonCounts
+    ensures { result ≡ reason_counts_of reasons.now }
+{
+    ReasonCounts {
+        no_path: count_of(reasons, Reason::NoPath),
+        not_activated: count_of(reasons, Reason::NotActivated),
+        not_observed: count_of(reasons, Reason::NotObserved),
+    }
 }

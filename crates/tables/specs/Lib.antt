@@ -1,4 +1,5 @@
 pub mod Records
 pub mod Refusals
 pub mod Rows
+pub mod Summaries
 pub mod Tables

@@ -122,7 +122,7 @@ fn add_object<'a>(
 }
 
 /// Adds pieces of text, one after another.
-fn add_pieces(rows: &mut Vec<u8>, pieces: &[&str]) -> Result<(), AllocError>
+pub(crate) fn add_pieces(rows: &mut Vec<u8>, pieces: &[&str]) -> Result<(), AllocError>
     ensures { OnOk result (rows.new.items
         ≡ rows.old.items ++ flat_map (λ piece. piece.now) pieces.now) }
 {
@@ -214,7 +214,7 @@ fn put_sums<W: Out>(column: &Column<'_>, faults: u32, out: &mut W) -> Result<(),
 }
 
 /// How many hundredths of a percent a part is of a whole, cut off.
-fn hundredths(part: u32, whole: u32) -> u64
+pub(crate) fn hundredths(part: u32, whole: u32) -> u64
     requires { 0 < whole }
     ensures { result ≡ 10000 * part / whole }
 {

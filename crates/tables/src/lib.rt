@@ -1,5 +1,5 @@
-//! Lists of faults as tables for other tools: as comma-separated values (RFC 4180), and as JSON
-//! (RFC 8259).
+//! Lists of faults as tables for other tools, as comma-separated values (RFC 4180) and as JSON
+//! (RFC 8259), and the summary of a run.
 #![tactic(auto)]
 
 mod column;
@@ -9,8 +9,10 @@ mod laws;
 mod merged;
 mod number;
 mod row;
+mod summary;
 mod table;
 
 pub use laws::merged_table;
 pub use merged::write_merged_table;
+pub use summary::{Summary, summary_text};
 pub use table::{Format, faults_table_in, run_table_in, run_table_watched};

@@ -10,7 +10,7 @@ pub returns-clause-written : goal.returns-clause-written
 returns-clause-written g c =
     let job = c.in_ok-job.job in
     let wrote = rw (
-      c.name_of.ensures,
+      c.model_name.ensures,
       c.as_str.ensures.value,
       c.as_str-2.ensures.value,
       c.in_ok-bench_sum.ensures,

@@ -1,0 +1,29 @@
+-- A run in numbers.
+use Rattle.std.specs.Prelude.{ℕ, List, Option, length}
+use Rattle.fault_model.specs.Collapse.{Collapsed}
+use Rattle.fault_model.specs.Solution.{Test}
+use Rattle.jobs.specs.declared.watch.ReasonCounts.{ReasonCounts}
+use Rattle.undetected.specs.declared.Reason.{Reason}
+use Rattle.undetected.specs.declared.Reason.TheVariants.{NoPath, NotActivated, NotObserved}
+use Rattle.workers.specs.Verdict.{detected_count}
+use Rattle.report.specs.declared.counts.RunCounts.{RunCounts}
+use Rattle.report.specs.Reasons.{reason_count}
+use Rattle.report.specs.Report.{class_firsts}
+
+-- how many tests, faults and classes there are, and how many faults and classes a test detects
+abbrev pub counts_of : List Test → Collapsed → List (Option ℕ) → RunCounts
+counts_of tests classes firsts = record {
+  tests = length tests;
+  faults = length firsts;
+  detected = detected_count firsts;
+  classes = length classes.representative;
+  detected_classes = detected_count (class_firsts classes firsts);
+}
+
+-- how many faults have each reason
+abbrev pub reason_counts_of : List (Option Reason) → ReasonCounts
+reason_counts_of reasons = record {
+  no_path = reason_count NoPath reasons;
+  not_activated = reason_count NotActivated reasons;
+  not_observed = reason_count NotObserved reasons;
+}

@@ -1,0 +1,55 @@
+-- The bytes of the summary of a run.
+use Rattle.std.specs.Prelude.{ℕ, ◌+◌, ◌-◌, ◌/◌, ◌%◌, max, Bool, true, false, List, [], ◌∷◌, ◌++◌}
+use Rattle.std.specs.Prelude.{Option, Some, None, codes, decimal}
+use Rattle.jobs.specs.declared.watch.ReasonCounts.{ReasonCounts}
+use Rattle.report.specs.declared.counts.RunCounts.{RunCounts}
+use Rattle.report.specs.PartText.{model_name, sum_text}
+use Rattle.report.specs.Report.{percentage}
+use Rattle.tables.specs.declared.summary.Summary.{Summary}
+
+abbrev pub truth_text : Bool → List ℕ
+truth_text true = codes "true"
+truth_text false = codes "false"
+
+-- the first members: the version of the program, whether it was proved, the model, the sums of both
+-- texts, and the number of tests, each given as text
+abbrev pub inputs_of : List ℕ → List ℕ → List ℕ → List ℕ → List ℕ → List ℕ → List ℕ
+inputs_of version proved model bench tests count =
+    codes "{\n\"version\":\"" ++ (version ++ (codes "\",\n\"proved\":" ++ (proved
+    ++ (codes ",\n\"model\":\"" ++ (model ++ (codes "\",\n\"bench_sha256\":\"" ++ (bench
+    ++ (codes "\",\n\"tests_sha256\":\"" ++ (tests ++ (codes "\",\n\"tests\":" ++ count))))))))))
+
+-- so many, of which some are detected; the percentage is cut off, and that of none is 0
+abbrev pub found_text : ℕ → ℕ → List ℕ
+found_text detected total = codes "{\"total\":" ++ (decimal total ++ (codes ",\"detected\":"
+    ++ (decimal detected ++ (codes ",\"undetected\":" ++ (decimal (total - detected)
+    ++ (codes ",\"percent\":" ++ (percentage detected (max total 1) ++ codes "}")))))))
+
+-- the faults and the classes
+abbrev pub counts_text : RunCounts → List ℕ
+counts_text counts = (codes ",\n\"faults\":" ++ found_text counts.detected counts.faults)
+    ++ (codes ",\n\"classes\":" ++ found_text counts.detected_classes counts.classes)
+
+-- the reasons, where the run tells them
+abbrev pub reasons_text : Option ReasonCounts → List ℕ
+reasons_text None = codes ",\n\"reasons\":null"
+reasons_text (Some counts) = codes ",\n\"reasons\":{\"no_path\":" ++ (decimal counts.no_path
+    ++ (codes ",\"not_activated\":" ++ (decimal counts.not_activated
+    ++ (codes ",\"not_observed\":" ++ (decimal counts.not_observed ++ codes "}")))))
+
+-- a number of milliseconds as seconds with three decimals, or the word for none
+abbrev pub seconds_text : Option ℕ → List ℕ
+seconds_text None = codes "null"
+seconds_text (Some n) = decimal (n / 1000) ++ (codes "." ++ (48 + n % 1000 / 100)
+    ∷ (48 + n % 1000 / 10 % 10) ∷ (48 + n % 1000 % 10) ∷ [])
+
+-- the workers, the time, and the end
+abbrev pub effort_text : ℕ → Option ℕ → List ℕ
+effort_text workers milliseconds = codes ",\n\"workers\":" ++ (decimal workers
+    ++ (codes ",\n\"seconds\":" ++ (seconds_text milliseconds ++ codes "\n}\n")))
+
+-- the summary of a run as a JSON object, a member a line
+abbrev pub summary_text : Summary → List ℕ
+summary_text s = inputs_of s.version.now (truth_text s.proved) (model_name s.model)
+    (sum_text s.bench.now) (sum_text s.tests.now) (decimal s.counts.tests)
+    ++ (counts_text s.counts ++ (reasons_text s.reasons ++ effort_text s.workers s.milliseconds))

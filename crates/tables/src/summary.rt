@@ -1,0 +1,192 @@
+//! The summary of a run as JSON (RFC 8259).
+
+ghost use Rattle.std.specs.Prelude.{◌≡◌, ◌++◌, IfOk, OnOk};
+ghost use Rattle.tables.specs.Summaries.{counts_text, effort_text, found_text, inputs_of};
+ghost use Rattle.tables.specs.Summaries.{reasons_text, seconds_text, summary_text, truth_text};
+
+use crate::json_table::{add_pieces, hundredths};
+use fault_model::Model;
+use itoa::Buffer;
+use report::{ReasonCounts, RunCounts, model_name, sum_of};
+use std::alloc::{AllocError, Global};
+
+/// The contents of the summary of a run.
+#[derive(Clone, Copy)]
+pub struct Summary<'a> {
+    /// The version of the program.
+    pub version: &'a str,
+    /// Whether the program was proved.
+    pub proved: bool,
+    pub model: Model,
+    /// The bytes of the bench file, of which the summary has the SHA-256.
+    pub bench: &'a [u8],
+    /// The bytes of the test file, of which the summary has the SHA-256.
+    pub tests: &'a [u8],
+    pub counts: RunCounts,
+    /// How many undetected faults have each reason, if the run writes reasons.
+    pub reasons: Option<ReasonCounts>,
+    pub workers: u32,
+    /// How long the run took, if there is a clock.
+    pub milliseconds: Option<u64>,
+}
+
+/// Returns the summary of a run as a JSON object, a member a line.
+pub fn summary_text(alloc: Global, summary: &Summary<'_>) -> Result<Vec<u8>, AllocError>
+    ensures { IfOk result (λ text. text.items ≡ summary_text summary.now) }
+{
+    let bench = sum_of(alloc, summary.bench)?;
+    let tests = sum_of(alloc, summary.tests)?;
+    let mut text = Vec::new(alloc);
+    let mut number = Buffer::new();
+    add_inputs(
+        &mut text,
+        summary.version,
+        truth_text(summary.proved),
+        model_name(summary.model),
+        bench.as_str(),
+        tests.as_str(),
+        number.format(summary.counts.tests),
+    )?;
+    add_counts(&mut text, summary.counts)?;
+    add_reasons(&mut text, summary.reasons)?;
+    add_effort(&mut text, summary.workers, summary.milliseconds)?;
+    Ok(text)
+}
+
+/// The word of a truth value.
+fn truth_text(is_true: bool) -> &'static str
+    ensures { result.now ≡ truth_text is_true }
+{
+    if is_true { "true" } else { "false" }
+}
+
+/// Adds what was run: the version of the program, whether it was proved, the name of the model, the
+/// sums of both texts and the number of tests.
+fn add_inputs<'a>(
+    text: &mut Vec<u8>,
+    version: &'a str,
+    proved: &'a str,
+    model: &'a str,
+    bench: &'a str,
+    tests: &'a str,
+    count: &'a str,
+) -> Result<(), AllocError>
+    ensures { OnOk result (text.new.items ≡ text.old.items
+        ++ inputs_of version.now proved.now model.now bench.now tests.now count.now) }
+{
+    let pieces = [
+        "{\n\"version\":\"",
+        version,
+        "\",\n\"proved\":",
+        proved,
+        ",\n\"model\":\"",
+        model,
+        "\",\n\"bench_sha256\":\"",
+        bench,
+        "\",\n\"tests_sha256\":\"",
+        tests,
+        "\",\n\"tests\":",
+        count,
+    ];
+    add_pieces(text, &pieces)
+}
+
+/// Adds how many faults and classes there are, and how many of them a test detects.
+fn add_counts(text: &mut Vec<u8>, counts: RunCounts) -> Result<(), AllocError>
+    ensures { OnOk result (text.new.items ≡ text.old.items ++ counts_text counts) }
+{
+    add_found(text, ",\n\"faults\":", counts.detected, counts.faults)?;
+    add_found(
+        text,
+        ",\n\"classes\":",
+        counts.detected_classes,
+        counts.classes,
+    )
+}
+
+/// Adds a member for a number of faults or classes and the number of them that a test detects. The
+/// percentage is cut off.
+fn add_found(text: &mut Vec<u8>, member: &str, detected: u32, total: u32) -> Result<(), AllocError>
+    ensures { OnOk result (text.new.items
+        ≡ text.old.items ++ (member.now ++ found_text detected total)) }
+{
+    let hundredths = hundredths(detected, total.max(1));
+    let decimals = hundredths % 100;
+    let mut all = Buffer::new();
+    let mut found = Buffer::new();
+    let mut missed = Buffer::new();
+    let mut whole = Buffer::new();
+    let mut tens = Buffer::new();
+    let mut ones = Buffer::new();
+    let pieces = [
+        member,
+        "{\"total\":",
+        all.format(total),
+        ",\"detected\":",
+        found.format(detected),
+        ",\"undetected\":",
+        missed.format(total.saturating_sub(detected)),
+        ",\"percent\":",
+        whole.format(hundredths / 100),
+        ".",
+        tens.format(decimals / 10),
+        ones.format(decimals % 10),
+        "}",
+    ];
+    add_pieces(text, &pieces)
+}
+
+/// Adds how many undetected faults have each reason, or `null` if the run writes no reasons.
+fn add_reasons(text: &mut Vec<u8>, reasons: Option<ReasonCounts>) -> Result<(), AllocError>
+    ensures { OnOk result (text.new.items ≡ text.old.items ++ reasons_text reasons) }
+{
+    let Some(counts) = reasons else {
+        return add_pieces(text, &[",\n\"reasons\":null"]);
+    };
+    let mut no_path = Buffer::new();
+    let mut not_activated = Buffer::new();
+    let mut not_observed = Buffer::new();
+    let pieces = [
+        ",\n\"reasons\":{\"no_path\":",
+        no_path.format(counts.no_path),
+        ",\"not_activated\":",
+        not_activated.format(counts.not_activated),
+        ",\"not_observed\":",
+        not_observed.format(counts.not_observed),
+        "}",
+    ];
+    add_pieces(text, &pieces)
+}
+
+/// Adds how many workers ran for how long, and the end of the object.
+fn add_effort(text: &mut Vec<u8>, workers: u32, milliseconds: Option<u64>) -> Result<(), AllocError>
+    ensures { OnOk result (text.new.items ≡ text.old.items ++ effort_text workers milliseconds) }
+{
+    let mut number = Buffer::new();
+    let pieces = [",\n\"workers\":", number.format(workers), ",\n\"seconds\":"];
+    add_pieces(text, &pieces)?;
+    add_seconds(text, milliseconds)?;
+    add_pieces(text, &["\n}\n"])
+}
+
+/// Adds a time in seconds with three decimals, or `null` if it is not known.
+fn add_seconds(text: &mut Vec<u8>, milliseconds: Option<u64>) -> Result<(), AllocError>
+    ensures { OnOk result (text.new.items ≡ text.old.items ++ seconds_text milliseconds) }
+{
+    let Some(milliseconds) = milliseconds else {
+        return add_pieces(text, &["null"]);
+    };
+    let decimals = milliseconds % 1000;
+    let mut whole = Buffer::new();
+    let mut tenths = Buffer::new();
+    let mut hundredths = Buffer::new();
+    let mut thousandths = Buffer::new();
+    let pieces = [
+        whole.format(milliseconds / 1000),
+        ".",
+        tenths.format(decimals / 100),
+        hundredths.format(decimals / 10 % 10),
+        thousandths.format(decimals % 10),
+    ];
+    add_pieces(text, &pieces)
+}
