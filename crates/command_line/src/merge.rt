@@ -1,11 +1,12 @@
 //! The command `merge`.
 
 use crate::command::{read_file, read_lines, read_option};
+use crate::format::read_format;
 use crate::options::model_named;
 use crate::source::Source;
 use crate::status::{Fault, NO_MEMORY, UNWRITTEN, merge_fault, part_fault};
 use crate::threshold::{check_threshold, read_threshold};
-use bench_net::read_bench;
+use bench_net::{Circuit, read_bench};
 use clap::ArgMatches;
 use fault_model::{Classes, Model, collapse, list_faults_in};
 use report::{
@@ -14,6 +15,37 @@ use report::{
 };
 use std::alloc::{AllocError, Global};
 use std::str::from_utf8;
+use tables::{Format, write_merged_table};
+
+/// What `merge` writes.
+#[derive(Clone, Copy)]
+enum Outcome {
+    /// The report.
+    Report,
+    /// The report with the coverage of the classes.
+    Classes,
+    /// A table.
+    Table(Format),
+}
+
+/// Why `--format` cannot be used without a circuit.
+const NO_CIRCUIT: &str = "give --bench FILE, too: the circuit of the run";
+
+/// Why `--bench` cannot be used without an option that needs it.
+const NO_USE: &str = "give it with --classes, --format csv or --format json";
+
+/// Reads from the command line what to write.
+fn read_outcome<'a>(matches: &ArgMatches<'a>) -> Result<Outcome, Fault<'a>> {
+    let has_circuit = matches.get_str("bench").is_some();
+    let classes = matches.get_flag("classes");
+    match read_format(matches)? {
+        Some(format) if has_circuit => Ok(Outcome::Table(format)),
+        Some(_) => Err(Fault::Unfit("--format", NO_CIRCUIT)),
+        None if classes => Ok(Outcome::Classes),
+        None if has_circuit => Err(Fault::Unfit("--bench", NO_USE)),
+        None => Ok(Outcome::Report),
+    }
+}
 
 /// `merge`: reads one file after another. The names of the faults stay in the first text, and each
 /// other text is let go once its verdicts are taken over. It writes nothing before all is known.
@@ -30,15 +62,22 @@ pub(crate) fn do_merge<'a, S: Source, W: Out>(
         return Err(Fault::Misused("FILE"));
     };
     let lines = read_lines(matches)?;
+    let outcome = read_outcome(matches)?;
     let threshold = read_threshold(matches)?;
     let text = read_file(alloc, first, files)?;
     let merged = merge_files(alloc, first, &text, others, files)?;
-    if matches.get_flag("classes") {
-        let bench = read_option(alloc, matches, "bench", files)?;
-        let classes = classes_for(alloc, matches, first, &text, &bench)?;
-        write_classes(&merged, &classes, lines, out)?;
-    } else {
-        write_faults(&merged, lines, out)?;
+    match outcome {
+        Outcome::Report => write_faults(&merged, lines, out)?,
+        Outcome::Classes => {
+            let bench = read_option(alloc, matches, "bench", files)?;
+            let model = model_for(alloc, matches, first, &text, &bench)?;
+            write_classes(alloc, model, &bench, &merged, lines, out)?;
+        }
+        Outcome::Table(format) => {
+            let bench = read_option(alloc, matches, "bench", files)?;
+            let model = model_for(alloc, matches, first, &text, &bench)?;
+            write_table(alloc, model, &bench, first, &merged, lines, format, out)?;
+        }
     }
     check_threshold(threshold, merged.detected(), merged.total())
 }
@@ -65,15 +104,15 @@ fn merge_files<'a, 't, S: Source>(
     merge.end(alloc).map_err(merge_fault)
 }
 
-/// The classes of the faults in part texts, of which this is one, by the circuit that `--bench`
-/// names. A circuit of another run is refused.
-fn classes_for<'a>(
+/// Returns the model of the run that a part file is of, and checks that the bench file of `--bench`
+/// is the run's. `path` and `text` are the part file's path and its bytes.
+fn model_for<'a>(
     alloc: Global,
     matches: &ArgMatches<'a>,
     path: &'a str,
     text: &[u8],
     bench: &[u8],
-) -> Result<Classes, Fault<'a>> {
+) -> Result<Model, Fault<'a>> {
     let part = match read_part(alloc, text) {
         Ok(part) => part,
         Err(fault) => return Err(part_fault(path, MergeFault::Part(fault))),
@@ -82,7 +121,7 @@ fn classes_for<'a>(
         return Err(Fault::Part(path, MergeFault::OtherModel));
     };
     match is_of_bench(alloc, &part.header, bench) {
-        Ok(true) => read_classes(alloc, model, bench),
+        Ok(true) => Ok(model),
         Ok(false) => {
             let path = matches.get_str("bench").unwrap_or(path);
             Err(Fault::Part(path, MergeFault::OtherInputs))
@@ -102,12 +141,17 @@ fn is_of_bench(alloc: Global, header: &PartHeader<'_>, bench: &[u8]) -> Result<b
     Ok(sum.as_bytes() == header.bench)
 }
 
+/// Reads the circuit of a bench file.
+fn read_circuit<'a>(alloc: Global, bench: &[u8]) -> Result<Circuit, Fault<'a>> {
+    match read_bench(alloc, bench) {
+        Ok(circuit) => Ok(circuit),
+        Err(fault) => Err(Fault::Sim(SimFault::Bench(fault))),
+    }
+}
+
 /// The classes of the faults of a bench text under a model.
 fn read_classes<'a>(alloc: Global, model: Model, bench: &[u8]) -> Result<Classes, Fault<'a>> {
-    let circuit = match read_bench(alloc, bench) {
-        Ok(circuit) => circuit,
-        Err(fault) => return Err(Fault::Sim(SimFault::Bench(fault))),
-    };
+    let circuit = read_circuit(alloc, bench)?;
     let Ok(list) = list_faults_in(alloc, &circuit, model) else {
         return Err(NO_MEMORY);
     };
@@ -131,16 +175,48 @@ fn write_faults<'a, W: Out>(
 
 /// Writes the report with the coverage of the classes, of which each circuit has some.
 fn write_classes<'a, W: Out>(
+    alloc: Global,
+    model: Model,
+    bench: &[u8],
     merged: &Merged<'_>,
-    classes: &Classes,
     lines: Lines,
     out: &mut W,
 ) -> Result<(), Fault<'a>> {
+    let classes = read_classes(alloc, model, bench)?;
     if classes.count() == 0 {
         return write_faults(merged, lines, out);
     }
-    match write_merged_with_classes(merged, classes, lines, out) {
+    match write_merged_with_classes(merged, &classes, lines, out) {
         Ok(()) => Ok(()),
         Err(ReportFault::Write) => Err(UNWRITTEN),
+    }
+}
+
+/// Writes the table of a merged run of a bench file under a model.
+///
+/// If the part file at `path` has another number of faults than the circuit, the error names the
+/// first line that one of both lacks.
+fn write_table<'a, W: Out>(
+    alloc: Global,
+    model: Model,
+    bench: &[u8],
+    path: &'a str,
+    merged: &Merged<'_>,
+    lines: Lines,
+    format: Format,
+    out: &mut W,
+) -> Result<(), Fault<'a>> {
+    let circuit = read_circuit(alloc, bench)?;
+    let Ok(list) = list_faults_in(alloc, &circuit, model) else {
+        return Err(NO_MEMORY);
+    };
+    let total = merged.total();
+    if total != list.count() {
+        let line = u64::from(total.min(list.count())) + 2;
+        return Err(Fault::Part(path, MergeFault::Differs(line)));
+    }
+    match write_merged_table(alloc, merged, &circuit, &list, lines, format, out) {
+        Ok(()) => Ok(()),
+        Err(fault) => Err(Fault::Sim(fault)),
     }
 }

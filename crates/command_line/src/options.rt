@@ -137,6 +137,8 @@ enum Choice {
     /// The coverage of the classes of merged part texts, and the circuit that it wants.
     MergeClasses,
     MergeBench,
+    /// The format of merged part texts.
+    MergeFormat,
     FailUnder,
     /// The same of a run that may be of one part, or count detections.
     RunFailUnder,
@@ -201,10 +203,11 @@ static SCHEDULE_CHOICES: [Choice; 8] = [
 static FAULTS_CHOICES: [Choice; 3] = [Choice::Bench, Choice::Model, Choice::Format];
 
 /// The options of `merge`.
-static MERGE_CHOICES: [Choice; 6] = [
+static MERGE_CHOICES: [Choice; 7] = [
     Choice::List,
     Choice::Undetected,
     Choice::MergeClasses,
+    Choice::MergeFormat,
     Choice::MergeBench,
     Choice::FailUnder,
     Choice::PartTexts,
@@ -606,10 +609,9 @@ fn pairs_flag<'a>(alloc: Global) -> Arg<'a> {
 }
 
 /// The option `--bench FILE` of `merge`.
-fn merge_bench_option<'a>(alloc: Global) -> Result<Arg<'a>, AllocError> {
-    file_option(alloc, "bench", 'b', "The circuit of the run, for --classes")
-        .required(false)
-        .requires_arg("classes")
+fn merge_bench_option<'a>(alloc: Global) -> Arg<'a> {
+    let help = "The circuit of the run, for --classes and --format";
+    file_option(alloc, "bench", 'b', help).required(false)
 }
 
 /// The formats of a list.
@@ -635,6 +637,13 @@ fn run_format_option<'a>(alloc: Global) -> Result<Arg<'a>, AllocError> {
         .help(RUN_FORMAT_HELP)
         .conflicts_with("part")?
         .conflicts_with("detections")?
+        .conflicts_with("classes")
+}
+
+/// The option `--format FORMAT` of `merge`.
+fn merge_format_option<'a>(alloc: Global) -> Result<Arg<'a>, AllocError> {
+    format_option(alloc)
+        .help(RUN_FORMAT_HELP)
         .conflicts_with("classes")
 }
 
@@ -710,7 +719,8 @@ fn option<'a>(alloc: Global, choice: Choice, setting: Setting<'a>) -> Result<Arg
         Choice::RunFormat => run_format_option(alloc)?,
         Choice::Format => format_option(alloc),
         Choice::MergeClasses => classes_flag(alloc).requires_arg("bench")?,
-        Choice::MergeBench => merge_bench_option(alloc)?,
+        Choice::MergeBench => merge_bench_option(alloc),
+        Choice::MergeFormat => merge_format_option(alloc)?,
         Choice::FailUnder => fail_under_option(alloc),
         Choice::RunFailUnder => run_fail_under_option(alloc)?,
         Choice::Progress => progress_flag(alloc),
