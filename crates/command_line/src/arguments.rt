@@ -9,14 +9,14 @@ use report::{Out, Plain};
 use std::alloc::{AllocError, Global};
 use std::env;
 use std::io::{BufWriter, ErrorKind, Write};
-use std::rt::{Env, Files as HasFiles};
+use std::rt::{Clock, Env, Files as HasFiles};
 use std::sync::Wait;
 use std::thread::Threads;
 
 /// Does what the arguments of the process ask for, as [`run_words`] does, on the files of the
 /// system, and answers the status. The output has a buffer, which is flushed at the end.
 pub fn run_arguments<
-    R: Env + HasFiles + AllocGlobal + Threads + Wait,
+    R: Env + HasFiles + Clock + AllocGlobal + Threads + Wait,
     W: Write + Drop,
     E: Out + Send,
 >(rt: &R, out: W, err: &mut E) -> u8
@@ -42,7 +42,7 @@ fn read_arguments<R: Env + AllocGlobal>(rt: &R) -> Result<Vec<String>, Fault<'st
 }
 
 /// Does what arguments ask for on the files of the system.
-fn run_on_files<R: HasFiles + AllocGlobal + Threads + Wait, W: Write + Drop, E: Out + Send>(
+fn run_on_files<R: HasFiles + Clock + AllocGlobal + Threads + Wait, W: Write + Drop, E: Out + Send>(
     rt: &R,
     arguments: &[String],
     out: W,
@@ -62,12 +62,12 @@ fn words_of<'a>(alloc: Global, arguments: &'a [String]) -> Result<Vec<&'a str>, 
 }
 
 /// Does what words ask for on the files of the system, with a buffer before the output.
-fn run_with_buffer<'a, R: HasFiles + AllocGlobal + Threads + Wait, W: Write + Drop, E: Out + Send>(
-    rt: &R,
-    words: &'a [&'a str],
-    out: W,
-    err: &mut E,
-) -> u8
+fn run_with_buffer<
+    'a,
+    R: HasFiles + Clock + AllocGlobal + Threads + Wait,
+    W: Write + Drop,
+    E: Out + Send,
+>(rt: &R, words: &'a [&'a str], out: W, err: &mut E) -> u8
     ensures { result ≤ 4 }
 {
     let Ok(buffered) = BufWriter::new(rt.alloc(), out) else {

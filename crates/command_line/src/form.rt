@@ -8,18 +8,19 @@ use crate::pieces::run_fault;
 use crate::progress::Progress;
 use crate::source::Source;
 use crate::status::Fault;
-use crate::tally::{Quiet, Tally};
-use crate::threshold::{check_threshold, read_threshold};
+use crate::summary::{Request, read_request, version_and_proof};
+use crate::tally::{Found, Quiet, Tally};
+use crate::threshold::{Threshold, check_threshold, read_threshold};
 use clap::ArgMatches;
 use fault_model::Model;
 use report::{
-    Contents, Lines, Out, SimFault, Split, Watch, curve_text_watched, part_text_watched,
-    reasons_text_watched, simulate_text_watched,
+    Contents, Lines, Out, ReasonCounts, RunCounts, SimFault, Split, Watch, curve_text_watched,
+    part_text_watched, reasons_text_watched, simulate_text_watched,
 };
 use std::alloc::Global;
 use std::sync::Wait;
 use std::thread::Threads;
-use tables::{Format, run_table_watched};
+use tables::{Format, Summary, run_table_watched};
 
 /// What is made of a run.
 #[derive(Clone, Copy)]
@@ -82,6 +83,7 @@ pub(crate) fn write_form<'a, R: Threads + Wait, S: Source, W: Out, E: Out + Send
 {
     let model = read_model(matches)?;
     let threshold = read_threshold(matches)?;
+    let summary = read_request(matches, files)?;
     let bench = read_option(alloc, matches, "bench", files)?;
     let tests = read_option(alloc, matches, "tests", files)?;
     let workers = read_crew(matches, &bench, &tests)?;
@@ -98,13 +100,59 @@ pub(crate) fn write_form<'a, R: Threads + Wait, S: Source, W: Out, E: Out + Send
         write_text(rt, alloc, inputs, form, &Quiet::new(&tally), out)
     };
     match done {
-        Ok(()) => match tally.coverage() {
-            Some(found) => check_threshold(threshold, found.detected, found.faults),
-            None => Ok(()),
-        },
+        Ok(()) => end_run(alloc, summary, threshold, inputs, tally.found(), files),
         Err(fault) if form.is_whole() => Err(run_fault(alloc, fault, model, &bench, &tests)),
         Err(fault) => Err(Fault::Sim(fault)),
     }
+}
+
+/// Ends a run that found so much and whose text is written: writes the summary, if one is asked
+/// for, and compares the coverage with the threshold. A run of one part has neither.
+fn end_run<'a, S: Source>(
+    alloc: Global,
+    summary: Option<Request<'a>>,
+    threshold: Option<Threshold<'a>>,
+    inputs: Inputs<'_>,
+    found: Found,
+    files: &mut S,
+) -> Result<(), Fault<'a>> {
+    let Some(counts) = found.counts else {
+        return Ok(());
+    };
+    if let Some(request) = summary {
+        write_summary(alloc, request, inputs, counts, found.reasons, files)?;
+    }
+    check_threshold(threshold, counts.detected, counts.faults)
+}
+
+/// Writes the summary of a run.
+fn write_summary<'a, S: Source>(
+    alloc: Global,
+    request: Request<'a>,
+    inputs: Inputs<'_>,
+    counts: RunCounts,
+    reasons: Option<ReasonCounts>,
+    files: &mut S,
+) -> Result<(), Fault<'a>> {
+    let (version, proved) = version_and_proof();
+    let Inputs {
+        model,
+        bench,
+        tests,
+        workers,
+    } = inputs;
+    let summary = Summary {
+        version,
+        proved,
+        model,
+        bench,
+        tests,
+        counts,
+        reasons,
+        workers,
+        milliseconds: request.milliseconds(files),
+    };
+    request.write(alloc, &summary, files)
 }
 
 /// Runs and writes the text, and draws how far the run is.

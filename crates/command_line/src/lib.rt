@@ -22,11 +22,12 @@ mod run;
 mod source;
 mod split;
 mod status;
+mod summary;
 mod tally;
 mod threshold;
 
 pub use arguments::run_arguments;
 pub use command::run_words;
 pub use options::{MODELS, VERSION, model_named};
-pub use source::{Files, Source, SourceFault, Stream};
+pub use source::{Files, Source, SourceFault, Stream, WriteFault};
 pub use status::status_of;

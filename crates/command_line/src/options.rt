@@ -142,6 +142,7 @@ enum Choice {
     FailUnder,
     /// The same of a run that may be of one part, or count detections.
     RunFailUnder,
+    Summary,
     PartTexts,
 }
 
@@ -149,7 +150,7 @@ enum Choice {
 static CHECK_CHOICES: [Choice; 3] = [Choice::Bench, Choice::TestsIfAny, Choice::Model];
 
 /// The options of `run`.
-static RUN_CHOICES: [Choice; 14] = [
+static RUN_CHOICES: [Choice; 15] = [
     Choice::Bench,
     Choice::Tests,
     Choice::Model,
@@ -163,6 +164,7 @@ static RUN_CHOICES: [Choice; 14] = [
     Choice::Classes,
     Choice::RunFormat,
     Choice::RunFailUnder,
+    Choice::Summary,
     Choice::RunProgress,
 ];
 
@@ -662,6 +664,16 @@ fn run_fail_under_option<'a>(alloc: Global) -> Result<Arg<'a>, AllocError> {
         .conflicts_with("detections")
 }
 
+/// The option `--summary FILE`.
+fn summary_option<'a>(alloc: Global) -> Result<Arg<'a>, AllocError> {
+    Arg::new(alloc, "summary")
+        .long("summary")
+        .value_name("FILE")
+        .help("Write a summary of the run to FILE, as JSON")
+        .conflicts_with("part")?
+        .conflicts_with("detections")
+}
+
 /// The flag `--progress`.
 fn progress_flag<'a>(alloc: Global) -> Arg<'a> {
     Arg::new(alloc, "progress")
@@ -723,6 +735,7 @@ fn option<'a>(alloc: Global, choice: Choice, setting: Setting<'a>) -> Result<Arg
         Choice::MergeFormat => merge_format_option(alloc)?,
         Choice::FailUnder => fail_under_option(alloc),
         Choice::RunFailUnder => run_fail_under_option(alloc)?,
+        Choice::Summary => summary_option(alloc)?,
         Choice::Progress => progress_flag(alloc),
         Choice::RunProgress => run_progress_flag(alloc)?,
         Choice::PartTexts => part_texts(alloc),

@@ -2,7 +2,7 @@
 
 use crate::tally::Tally;
 use block_sim::Job;
-use report::{Formatted, Gate, Out, Verdicts, Watch};
+use report::{Formatted, Gate, Out, ReasonCounts, Verdicts, Watch};
 use std::alloc::{AllocError, Global};
 use std::fmt::Write;
 use std::sync::Mutex;
@@ -271,5 +271,9 @@ impl<E: Out> Watch for Progress<'_, E> {
 
     fn finds(&self, job: &Job, verdicts: &Verdicts) {
         self.tally.note(job, verdicts);
+    }
+
+    fn explains(&self, counts: ReasonCounts) {
+        self.tally.note_reasons(counts);
     }
 }

@@ -14,6 +14,10 @@ pub enum SourceFault {
     Memory,
 }
 
+/// A file could not be written.
+#[derive(Clone, Copy, Debug, PartialEq, Eq)]
+pub struct WriteFault;
+
 /// What a stream is known by: its device, and its number there.
 #[derive(Clone, Copy, Debug, PartialEq, Eq)]
 pub struct Stream {
@@ -21,13 +25,23 @@ pub struct Stream {
     pub number: u64,
 }
 
-/// Something that gives the text at a path, whole.
+/// What the program sees of the system: the text at a path, whole; files that it writes; a clock.
 pub trait Source {
     /// The bytes at a path.
     fn read(&mut self, alloc: Global, path: &str) -> Result<Vec<u8>, SourceFault>;
 
     /// The stream at a path, where what is there gives its bytes once alone and can be told.
     fn stream(&self, _path: &str) -> Option<Stream> {
+        None
+    }
+
+    /// Writes a text to the file at a path, in place of what is there.
+    fn write(&mut self, _path: &str, _text: &[u8]) -> Result<(), WriteFault> {
+        Err(WriteFault)
+    }
+
+    /// The milliseconds since some moment that stays the same, if there is a clock.
+    fn milliseconds(&self) -> Option<u64> {
         None
     }
 }
@@ -48,14 +62,14 @@ pub struct Files<'a, R> {
     rt: &'a R,
 }
 
-impl<'a, R: rt::Files + AllocGlobal> Files<'a, R> {
+impl<'a, R: rt::Files + rt::Clock + AllocGlobal> Files<'a, R> {
     /// The files that a runtime reaches.
     pub fn new(rt: &'a R) -> Self {
         Files { rt }
     }
 }
 
-impl<R: rt::Files + AllocGlobal> Source for Files<'_, R> {
+impl<R: rt::Files + rt::Clock + AllocGlobal> Source for Files<'_, R> {
     fn read(&mut self, _alloc: Global, path: &str) -> Result<Vec<u8>, SourceFault> {
         fs::read(self.rt, system_path(path)).map_err(|error| match error.kind() {
             ErrorKind::OutOfMemory => SourceFault::Memory,
@@ -75,5 +89,15 @@ impl<R: rt::Files + AllocGlobal> Source for Files<'_, R> {
         } else {
             None
         }
+    }
+
+    fn write(&mut self, path: &str, text: &[u8]) -> Result<(), WriteFault> {
+        fs::write(self.rt, path, text).map_err(|_| WriteFault)
+    }
+
+    fn milliseconds(&self) -> Option<u64> {
+        let time = self.rt.monotonic().ok()?;
+        let whole = time.as_secs().saturating_mul(1000);
+        Some(whole.saturating_add(u64::from(time.subsec_millis())))
     }
 }

@@ -35,6 +35,8 @@ pub(crate) enum Fault<'a> {
     Unfit(&'a str, &'static str),
     /// The file at a path is refused.
     Unreadable(&'a str),
+    /// The file at a path cannot be written.
+    Unwritten(&'a str),
     /// A text is refused, or the work on it, or the output.
     Sim(SimFault),
     /// A run has too many pieces, by so much.
@@ -83,6 +85,7 @@ pub(crate) fn answer_fault<E: Out>(fault: &Fault<'_>, err: &mut E) -> u8
             writeln!(text, "faultsim: cannot use {option}\n    {reason}")
         }
         Fault::Unreadable(path) => writeln!(text, "faultsim: cannot read {path}"),
+        Fault::Unwritten(path) => writeln!(text, "faultsim: cannot write {path}"),
         Fault::Sim(fault) => writeln!(text, "faultsim: {fault}"),
         Fault::TooManyPieces(fault, excess) => { writeln!(text, "faultsim: {fault}\n    {excess}") }
         Fault::Part(path, fault) => writeln!(text, "faultsim: {path}: {fault}"),
@@ -91,7 +94,7 @@ pub(crate) fn answer_fault<E: Out>(fault: &Fault<'_>, err: &mut E) -> u8
     };
     match fault {
         Fault::NoText | Fault::Misused(_) | Fault::Unfit(..) => MISUSED,
-        Fault::Unreadable(_) => FAILED,
+        Fault::Unreadable(_) | Fault::Unwritten(_) => FAILED,
         Fault::Sim(fault) | Fault::TooManyPieces(fault, _) => status_of(fault),
         Fault::Part(..) | Fault::Merge(_) => REFUSED,
         Fault::Missed(_) => MISSED,

@@ -1,55 +1,60 @@
-//! What a run finds, by the verdicts that its gate is told.
+//! What a run finds, as its gate is told.
+
+ghost use Rattle.workers.specs.Verdict.{AreFirsts};
 
 use block_sim::Job;
-use report::{Gate, Verdicts, Watch, detected_classes};
+use report::{Gate, ReasonCounts, RunCounts, Verdicts, Watch, count_run};
 use std::sync::Mutex;
 
-/// How many faults and classes there are, and how many of them a test detects.
+/// What a run has told its gate.
 #[derive(Clone, Copy, Debug, PartialEq, Eq)]
-pub(crate) struct Coverage {
-    pub(crate) tests: u32,
-    pub(crate) faults: u32,
-    pub(crate) detected: u32,
-    pub(crate) classes: u32,
-    pub(crate) detected_classes: u32,
+pub(crate) struct Found {
+    pub(crate) counts: Option<RunCounts>,
+    pub(crate) reasons: Option<ReasonCounts>,
 }
 
-/// The coverage of a run, once it is known.
+/// What a run finds, once it is known.
 #[derive(Drop)]
 pub(crate) struct Tally {
-    found: Mutex<Option<Coverage>>,
+    found: Mutex<Found>,
 }
 
 impl Tally {
     pub(crate) fn new() -> Tally {
         Tally {
-            found: Mutex::new(None),
+            found: Mutex::new(Found {
+                counts: None,
+                reasons: None,
+            }),
         }
     }
 
     /// Takes note of the verdicts on a job.
-    pub(crate) fn note(&self, job: &Job, verdicts: &Verdicts) {
-        let classes = job.classes();
-        let coverage = Coverage {
-            tests: job.tests().count(),
-            faults: verdicts.total(),
-            detected: verdicts.detected(),
-            classes: classes.count(),
-            detected_classes: detected_classes(classes, verdicts),
-        };
+    pub(crate) fn note(&self, job: &Job, verdicts: &Verdicts)
+        requires { AreFirsts job.now.list.model job.now.circuit job.now.tests.tests
+            verdicts.now.firsts }
+    {
+        let counts = count_run(job, verdicts);
         if let Some(mut found) = self.found.try_lock() {
-            *found = Some(coverage);
+            found.counts = Some(counts);
         }
     }
 
-    /// The coverage, where a run told it.
-    pub(crate) fn coverage(self) -> Option<Coverage> {
+    /// Takes note of how many faults have each reason.
+    pub(crate) fn note_reasons(&self, reasons: ReasonCounts) {
+        if let Some(mut found) = self.found.try_lock() {
+            found.reasons = Some(reasons);
+        }
+    }
+
+    /// What a run told.
+    pub(crate) fn found(self) -> Found {
         let Tally { found } = self;
         found.into_inner()
     }
 }
 
-/// A gate that lets every piece pass, and takes note of the verdicts.
+/// A gate that lets every piece pass, and takes note of what the run finds.
 #[derive(Clone, Copy)]
 pub(crate) struct Quiet<'t> {
     tally: &'t Tally,
@@ -78,5 +83,9 @@ impl Watch for Quiet<'_> {
 
     fn finds(&self, job: &Job, verdicts: &Verdicts) {
         self.tally.note(job, verdicts);
+    }
+
+    fn explains(&self, counts: ReasonCounts) {
+        self.tally.note_reasons(counts);
     }
 }

@@ -8,9 +8,10 @@ use std::alloc::{Allocator, Global};
 use std::env::FillError;
 use std::fs::{Metadata, OpenOptions};
 use std::io::{self, ErrorKind, Write};
-use std::rt::{Env, Files};
+use std::rt::{Clock, Env, Files};
 use std::sync::Wait;
 use std::thread::Threads;
+use std::time::Duration;
 
 /// A process with the words of a line as its arguments, in which each call on files is refused.
 #[derive(Drop)]
@@ -95,6 +96,16 @@ impl<R: Files> Files for Process<'_, R> {
     }
 
     fn remove_dir_all<B: Allocator>(&self, _alloc: B, _path: &str) -> io::Result<()> {
+        Err(self.refusal.into())
+    }
+}
+
+impl<R> Clock for Process<'_, R> {
+    fn monotonic(&self) -> io::Result<Duration> {
+        Err(self.refusal.into())
+    }
+
+    fn since_1970(&self) -> io::Result<Duration> {
         Err(self.refusal.into())
     }
 }

@@ -8,13 +8,13 @@ use report::Out;
 use std::alloc::{AllocError, Global};
 use std::env;
 use std::io::ErrorKind;
-use std::rt::{Env, Files as HasFiles};
+use std::rt::{Clock, Env, Files as HasFiles};
 use std::sync::Wait;
 use std::thread::Threads;
 
 /// Does what the arguments of the process ask for, as [`run_words`] does, on the files of the
 /// system, and answers the status.
-pub fn run_arguments<R: Env + HasFiles + AllocGlobal + Threads + Wait, W: Out, E: Out>(
+pub fn run_arguments<R: Env + HasFiles + Clock + AllocGlobal + Threads + Wait, W: Out, E: Out>(
     rt: &R,
     out: &mut W,
     err: &mut E,
@@ -41,7 +41,7 @@ fn read_arguments<R: Env + AllocGlobal>(rt: &R) -> Result<Vec<String>, Fault<'st
 }
 
 /// Does what arguments ask for on the files of the system.
-fn run_on_files<R: HasFiles + AllocGlobal + Threads + Wait, W: Out, E: Out>(
+fn run_on_files<R: HasFiles + Clock + AllocGlobal + Threads + Wait, W: Out, E: Out>(
     rt: &R,
     arguments: &[String],
     out: &mut W,

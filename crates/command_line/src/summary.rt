@@ -1,0 +1,80 @@
+//! The option `--summary FILE`: what a run found, in numbers, for scripts.
+
+use crate::options::VERSION;
+use crate::source::{Source, WriteFault, is_standard_input};
+use crate::status::{Fault, NO_MEMORY};
+use clap::ArgMatches;
+use std::alloc::{AllocError, Global};
+use tables::{Summary, summary_text};
+
+/// What the version ends in if the program is not proved.
+const UNPROVED: &str = " (unproved)";
+
+/// Why the summary cannot go to a path.
+const NO_FILE: &str = "give a file that is no input";
+
+/// A summary that the command line asks for.
+#[derive(Clone, Copy)]
+pub(crate) struct Request<'a> {
+    path: &'a str,
+    /// When the command began, in milliseconds, if there is a clock.
+    began: Option<u64>,
+}
+
+/// The summary that the command line asks for, if it asks for one.
+pub(crate) fn read_request<'a, S: Source>(
+    matches: &ArgMatches<'a>,
+    files: &S,
+) -> Result<Option<Request<'a>>, Fault<'a>> {
+    let Some(path) = matches.get_str("summary") else {
+        return Ok(None);
+    };
+    if is_standard_input(path) || is_input(matches, path) {
+        return Err(Fault::Unfit("--summary", NO_FILE));
+    }
+    let began = files.milliseconds();
+    Ok(Some(Request { path, began }))
+}
+
+/// Whether the command line names this path for a file that is read.
+fn is_input(matches: &ArgMatches<'_>, path: &str) -> bool {
+    for option in ["bench", "tests"] {
+        if matches.get_str(option).is_some_and(|input| input == path) {
+            return true;
+        }
+    }
+    false
+}
+
+/// The version of the program, and whether it is proved.
+pub(crate) fn version_and_proof() -> (&'static str, bool) {
+    match VERSION.strip_suffix(UNPROVED) {
+        Some(version) => (version, false),
+        None => (VERSION, true),
+    }
+}
+
+impl<'a> Request<'a> {
+    /// The milliseconds since the command began, if there is a clock.
+    pub(crate) fn milliseconds<S: Source>(self, files: &S) -> Option<u64> {
+        let began = self.began?;
+        Some(files.milliseconds()?.saturating_sub(began))
+    }
+
+    /// Writes the summary to the file.
+    pub(crate) fn write<S: Source>(
+        self,
+        alloc: Global,
+        summary: &Summary<'_>,
+        files: &mut S,
+    ) -> Result<(), Fault<'a>> {
+        let text = match summary_text(alloc, summary) {
+            Ok(text) => text,
+            Err(AllocError) => return Err(NO_MEMORY),
+        };
+        match files.write(self.path, &text) {
+            Ok(()) => Ok(()),
+            Err(WriteFault) => Err(Fault::Unwritten(self.path)),
+        }
+    }
+}
