@@ -117,7 +117,7 @@ fn do_task<'a, R: Threads + Wait, S: Source, W: Out, E: Out + Send>(
         Some(Task::Check) => do_check(alloc, options, files, out, err),
         Some(Task::Run) => do_run_or_detections(rt, alloc, options, files, out, err),
         Some(Task::Curve) => do_curve(rt, alloc, options, files, out, err),
-        Some(Task::Compact) => do_compact(rt, alloc, options, files, out),
+        Some(Task::Compact) => do_compact(rt, alloc, options, files, out, err),
         Some(Task::Responses) => do_responses(alloc, options, files, out),
         Some(Task::Schedule) => do_schedule(alloc, options, files, out),
         Some(Task::Faults) => do_faults(alloc, options, files, out),

@@ -1,4 +1,4 @@
-//! The option `--detections` of the command `run`.
+//! The options `--detections` and `--histogram` of the command `run`.
 
 use crate::command::{read_model, read_option, read_workers};
 use crate::pieces::run_fault;
@@ -6,7 +6,7 @@ use crate::source::Source;
 use crate::split::read_split;
 use crate::status::Fault;
 use clap::ArgMatches;
-use report::{Out, Split, detections_text_in, detections_text_of_any_size};
+use report::{Out, Split, detections_text_in, detections_text_of_any_size, histogram_text_in};
 use std::alloc::Global;
 use std::sync::Wait;
 use std::thread::Threads;
@@ -27,6 +27,11 @@ pub(crate) fn do_detections<'a, R: Threads + Wait, S: Source, W: Out>(
     let bench = read_option(alloc, matches, "bench", files)?;
     let tests = read_option(alloc, matches, "tests", files)?;
     let done = match read_split(matches)? {
+        split if matches.get_flag("histogram") => {
+            histogram_text_in(
+                rt, alloc, model, &bench, &tests, split, most, workers, list, out,
+            )
+        }
         Split::Whole => {
             detections_text_in(rt, alloc, model, &bench, &tests, most, workers, list, out)
         }

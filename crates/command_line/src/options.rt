@@ -122,11 +122,13 @@ enum Choice {
     Parts,
     Part,
     Detections,
+    Histogram,
     List,
     Undetected,
     Why,
     Classes,
     Pairs,
+    Numbers,
     /// The format of a run's list.
     RunFormat,
     Progress,
@@ -158,6 +160,7 @@ static RUN_CHOICES: [Choice; 15] = [
     Choice::Parts,
     Choice::Part,
     Choice::Detections,
+    Choice::Histogram,
     Choice::List,
     Choice::Undetected,
     Choice::Why,
@@ -179,11 +182,13 @@ static CURVE_CHOICES: [Choice; 6] = [
 ];
 
 /// The options of `compact`.
-static COMPACT_CHOICES: [Choice; 4] = [
+static COMPACT_CHOICES: [Choice; 6] = [
     Choice::Bench,
     Choice::Tests,
     Choice::Model,
     Choice::Workers,
+    Choice::Parts,
+    Choice::Numbers,
 ];
 
 /// The options of `responses`.
@@ -390,6 +395,17 @@ the last to the first, it keeps each one that detects a fault which no later one
 detects. Under transition faults there is only the first step, and each kept test
 keeps the test before it.
 
+How many tests are kept goes to standard error:
+
+    3 of 4 tests kept
+
+With --numbers it writes the numbers of the kept tests, from 0, in place of the
+tests:
+
+    1
+    2
+    3
+
 Each FILE is read whole. One FILE can be -, the standard input.";
 
 /// The end of the long help of `responses`.
@@ -559,6 +575,15 @@ fn detections_option<'a>(alloc: Global) -> Result<Arg<'a>, AllocError> {
         .conflicts_with("classes")
 }
 
+/// The flag `--histogram`.
+fn histogram_flag<'a>(alloc: Global) -> Result<Arg<'a>, AllocError> {
+    Arg::new(alloc, "histogram")
+        .long("histogram")
+        .action(ArgAction::SetTrue)
+        .help("With --detections, also write how many faults have each count")
+        .requires_arg("detections")
+}
+
 /// Returns the help of the option `--workers N`.
 pub(crate) fn workers_help(alloc: Global) -> Result<String, AllocError> {
     format!(in alloc; "The number of workers that share the run, 1 to {MAX_WORKERS}")
@@ -608,6 +633,14 @@ fn pairs_flag<'a>(alloc: Global) -> Arg<'a> {
         .long("pairs")
         .action(ArgAction::SetTrue)
         .help("Write each test and its capture test: launch-on-capture pairs")
+}
+
+/// The flag `--numbers` of `compact`.
+fn numbers_flag<'a>(alloc: Global) -> Arg<'a> {
+    Arg::new(alloc, "numbers")
+        .long("numbers")
+        .action(ArgAction::SetTrue)
+        .help("Write the numbers of the kept tests in place of the tests")
 }
 
 /// The option `--bench FILE` of `merge`.
@@ -723,11 +756,13 @@ fn option<'a>(alloc: Global, choice: Choice, setting: Setting<'a>) -> Result<Arg
         Choice::Parts => parts_option(alloc, setting.auto),
         Choice::Part => part_option(alloc),
         Choice::Detections => detections_option(alloc)?,
+        Choice::Histogram => histogram_flag(alloc)?,
         Choice::List => list_flag(alloc),
         Choice::Undetected => undetected_flag(alloc)?,
         Choice::Why => why_flag(alloc)?,
         Choice::Classes => classes_flag(alloc),
         Choice::Pairs => pairs_flag(alloc),
+        Choice::Numbers => numbers_flag(alloc),
         Choice::RunFormat => run_format_option(alloc)?,
         Choice::Format => format_option(alloc),
         Choice::MergeClasses => classes_flag(alloc).requires_arg("bench")?,
