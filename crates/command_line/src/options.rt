@@ -152,7 +152,7 @@ enum Choice {
 static CHECK_CHOICES: [Choice; 3] = [Choice::Bench, Choice::TestsIfAny, Choice::Model];
 
 /// The options of `run`.
-static RUN_CHOICES: [Choice; 15] = [
+static RUN_CHOICES: [Choice; 16] = [
     Choice::Bench,
     Choice::Tests,
     Choice::Model,
