@@ -13,8 +13,8 @@ use std::rt::{Clock, Env, Files as HasFiles};
 use std::sync::Wait;
 use std::thread::Threads;
 
-/// Does what the arguments of the process ask for, as [`run_words`] does, on the files of the
-/// system, and answers the status. The output has a buffer, which is flushed at the end.
+/// Runs the arguments of the process, as [`run_words`] does, on the files of the system, and
+/// returns the status. The output has a buffer, which is flushed at the end.
 pub fn run_arguments<
     R: Env + HasFiles + Clock + AllocGlobal + Threads + Wait,
     W: Write + Drop,
@@ -28,7 +28,7 @@ pub fn run_arguments<
     }
 }
 
-/// The arguments of the process.
+/// Returns the arguments of the process.
 fn read_arguments<R: Env + AllocGlobal>(rt: &R) -> Result<Vec<String>, Fault<'static>> {
     let arguments = match env::args(rt) {
         Ok(arguments) => arguments,
@@ -56,7 +56,7 @@ fn run_on_files<R: HasFiles + Clock + AllocGlobal + Threads + Wait, W: Write + D
     }
 }
 
-/// The words of arguments.
+/// Returns the words of arguments.
 fn words_of<'a>(alloc: Global, arguments: &'a [String]) -> Result<Vec<&'a str>, AllocError> {
     arguments.iter().map(|word| word.as_str()).collect(alloc)
 }

@@ -10,8 +10,8 @@ use report::{Formatted, Out, SimFault};
 use std::alloc::{AllocError, Global};
 use std::fmt::Write;
 
-/// `check`: the files are read before either text is looked at. The faults of a refused text go to
-/// standard error, before the refusal that `run` tells.
+/// Runs `check`. It reads the files before it checks either. The errors of a file go to standard
+/// error, before the error that `run` prints.
 pub(crate) fn do_check<'a, S: Source, W: Out, E: Out>(
     alloc: Global,
     matches: &ArgMatches<'a>,
@@ -32,7 +32,7 @@ pub(crate) fn do_check<'a, S: Source, W: Out, E: Out>(
     }
 }
 
-/// Tells what was found.
+/// Prints the result.
 fn tell_answer<'a, W: Out, E: Out>(
     matches: &ArgMatches<'a>,
     answer: &Answer<'_>,
@@ -52,7 +52,7 @@ fn tell_answer<'a, W: Out, E: Out>(
     }
 }
 
-/// Tells the faults of the text in the file that an option names, and gives the refusal.
+/// Prints the errors of the file that an option names, and returns the first.
 fn tell_findings<'a, E: Out>(
     matches: &ArgMatches<'a>,
     option: &str,
@@ -69,7 +69,7 @@ fn tell_findings<'a, E: Out>(
     }
 }
 
-/// Tells by how much the tests are too many for one run, and gives the refusal.
+/// Prints the excess of tests that are too many for one run, and returns the error.
 fn tell_excess<'a, E: Out>(matches: &ArgMatches<'a>, excess: &Excess, err: &mut E) -> Fault<'a> {
     let fault = JobFault::TooManyPieces;
     if let Some(path) = matches.get_str("tests") {

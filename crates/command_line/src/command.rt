@@ -1,4 +1,4 @@
-//! Commands: what the words ask for is done.
+//! The commands of the program.
 
 ghost use Rattle.std.specs.Prelude.{◌≤◌};
 
@@ -66,7 +66,7 @@ fn run_with_help<'a, R: Threads + Wait, S: Source, W: Out, E: Out + Send>(
     }
 }
 
-/// Does what a command line asks for.
+/// Runs a command line.
 fn run_matched<'a, R: Threads + Wait, S: Source, W: Out, E: Out + Send>(
     rt: &R,
     alloc: Global,
@@ -83,7 +83,7 @@ fn run_matched<'a, R: Threads + Wait, S: Source, W: Out, E: Out + Send>(
     }
 }
 
-/// Answers a command line that asks for help, or is refused.
+/// Prints help, or the error of a command line.
 fn answer_error<W: Out, E: Out>(error: &Error, out: &mut W, err: &mut E) -> u8
     ensures { result ≤ 4 }
 {
@@ -100,7 +100,7 @@ fn answer_error<W: Out, E: Out>(error: &Error, out: &mut W, err: &mut E) -> u8
     DONE
 }
 
-/// Does what the subcommand names.
+/// Runs the subcommand.
 fn do_task<'a, R: Threads + Wait, S: Source, W: Out, E: Out + Send>(
     rt: &R,
     alloc: Global,
@@ -126,7 +126,7 @@ fn do_task<'a, R: Threads + Wait, S: Source, W: Out, E: Out + Send>(
     }
 }
 
-/// The files that the command line names.
+/// Returns the files that the command line names.
 fn named_files<'a>(alloc: Global, matches: &ArgMatches<'a>) -> Result<Vec<&'a str>, AllocError> {
     let mut paths = Vec::new(alloc);
     for option in ["bench", "tests", "order"] {
@@ -142,7 +142,8 @@ fn named_files<'a>(alloc: Global, matches: &ArgMatches<'a>) -> Result<Vec<&'a st
     Ok(paths)
 }
 
-/// Refuses a command line that names one stream for two files: it would be empty for the second.
+/// Checks that the command line doesn't name one stream for two files: it would be empty for the
+/// second.
 fn check_streams<'a, S: Source>(
     alloc: Global,
     matches: &ArgMatches<'a>,
@@ -170,7 +171,7 @@ fn check_streams<'a, S: Source>(
     Ok(())
 }
 
-/// The model that the command line names.
+/// Returns the model that the command line names.
 pub(crate) fn read_model<'a>(matches: &ArgMatches<'a>) -> Result<Model, Fault<'a>> {
     match matches.get_str("model").and_then(model_named) {
         Some(model) => Ok(model),
@@ -214,7 +215,7 @@ pub(crate) fn read_lines<'a>(matches: &ArgMatches<'a>) -> Result<Lines, Fault<'a
     }
 }
 
-/// The number of workers that the command line names.
+/// Returns the number of workers that the command line names.
 pub(crate) fn read_workers<'a>(matches: &ArgMatches<'a>) -> Result<u32, Fault<'a>> {
     match matches.get_one::<u32>("workers") {
         Some(workers) => Ok(workers),
@@ -222,7 +223,7 @@ pub(crate) fn read_workers<'a>(matches: &ArgMatches<'a>) -> Result<u32, Fault<'a
     }
 }
 
-/// What the command line asks for of a report.
+/// Returns the contents of a report that the command line requests.
 pub(crate) fn read_contents<'a>(matches: &ArgMatches<'a>) -> Result<Contents, Fault<'a>> {
     Ok(Contents {
         lines: read_lines(matches)?,
@@ -230,7 +231,7 @@ pub(crate) fn read_contents<'a>(matches: &ArgMatches<'a>) -> Result<Contents, Fa
     })
 }
 
-/// `run`, or what it is with `--detections`.
+/// Runs `run`, or `run` with `--detections`.
 fn do_run_or_detections<'a, R: Threads + Wait, S: Source, W: Out, E: Out + Send>(
     rt: &R,
     alloc: Global,
@@ -245,7 +246,7 @@ fn do_run_or_detections<'a, R: Threads + Wait, S: Source, W: Out, E: Out + Send>
     }
 }
 
-/// `schedule`: the three files are read before any text is looked at.
+/// Runs `schedule`. It reads the three files before it checks any.
 fn do_schedule<'a, S: Source, W: Out>(
     alloc: Global,
     matches: &ArgMatches<'a>,
@@ -264,7 +265,7 @@ fn do_schedule<'a, S: Source, W: Out>(
     }
 }
 
-/// `faults`.
+/// Runs `faults`.
 fn do_faults<'a, S: Source, W: Out>(
     alloc: Global,
     matches: &ArgMatches<'a>,

@@ -1,22 +1,22 @@
-//! How many workers share a run.
+//! The number of workers that share a run.
 
 use crate::command::read_workers;
 use crate::status::Fault;
 use clap::ArgMatches;
 use clap::parser::ValueSource;
 
-/// How many bytes a bench file has for each signal, about.
+/// About how many bytes a bench file has for each signal.
 const BYTES_OF_A_SIGNAL: u64 = 24;
 
-/// How many fault classes a circuit has for each signal, about.
+/// About how many fault classes a circuit has for each signal.
 const CLASSES_OF_A_SIGNAL: u64 = 3;
 
 /// A run is short if its classes times its blocks times its signals are fewer: it takes some
 /// milliseconds, and the start of threads would take longer than they save.
 const SHORT_RUN: u64 = 1 << 26;
 
-/// The number of workers that share a run: the one that the command line names. If it names none,
-/// the default, or one worker if the files are so small that the run is short.
+/// Returns the number of workers that share a run: the one that the command line names. Without
+/// one, it is the default, or one worker if the files are so small that the run is short.
 pub(crate) fn read_crew<'a>(
     matches: &ArgMatches<'a>,
     bench: &[u8],
@@ -29,7 +29,7 @@ pub(crate) fn read_crew<'a>(
     }
 }
 
-/// Whether a run is short, by the sizes of its files.
+/// Returns whether a run is short, by the sizes of its files.
 fn is_short(bench: &[u8], tests: &[u8]) -> bool {
     let signals = bench.len() as u64 / BYTES_OF_A_SIGNAL + 1;
     let row = match tests.iter().position(|byte| *byte == b'\n') {

@@ -1,4 +1,4 @@
-//! Texts that are made of a run, with what is drawn meanwhile.
+//! Outputs of a run, and the progress meanwhile.
 
 ghost use Rattle.command_line.specs.Form.{HasParts};
 
@@ -22,7 +22,7 @@ use std::sync::Wait;
 use std::thread::Threads;
 use tables::{Format, Summary, run_table_watched};
 
-/// What is made of a run.
+/// The output of a run.
 #[derive(Clone, Copy)]
 pub(crate) enum Form {
     /// The report of a run.
@@ -35,7 +35,7 @@ pub(crate) enum Form {
         classes: bool,
         split: Split,
     },
-    /// The text of one part, counted from 0.
+    /// The file of one part, counted from 0.
     Part {
         part: u32,
         parts: u32,
@@ -59,7 +59,7 @@ impl Form {
     }
 }
 
-/// What a run is of.
+/// The inputs of a run.
 #[derive(Clone, Copy)]
 struct Inputs<'b> {
     model: Model,
@@ -68,8 +68,7 @@ struct Inputs<'b> {
     workers: u32,
 }
 
-/// Runs what the command line names, and writes the text. Both files are read before either text is
-/// looked at.
+/// Runs the command line, and writes the output. It reads both files before it checks either.
 pub(crate) fn write_form<'a, R: Threads + Wait, S: Source, W: Out, E: Out + Send>(
     rt: &R,
     alloc: Global,
@@ -155,7 +154,7 @@ fn write_summary<'a, S: Source>(
     request.write(alloc, &summary, files)
 }
 
-/// Runs and writes the text, and draws how far the run is.
+/// Runs and writes the output, and draws the progress of the run.
 fn write_drawn<R: Threads + Wait, W: Out, E: Out + Send>(
     rt: &R,
     alloc: Global,
@@ -175,7 +174,7 @@ fn write_drawn<R: Threads + Wait, W: Out, E: Out + Send>(
     done
 }
 
-/// Runs under a gate, and writes the text.
+/// Runs under a gate, and writes the output.
 fn write_text<R: Threads + Wait, G: Watch + Sync, W: Out>(
     rt: &R,
     alloc: Global,

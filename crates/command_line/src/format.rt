@@ -7,7 +7,7 @@ use report::Out;
 use std::alloc::Global;
 use tables::{Format, faults_table_in};
 
-/// The format that the command line names, and none for the program's own text.
+/// Returns the format that the command line names, and none for the program's own text.
 pub(crate) fn read_format<'a>(matches: &ArgMatches<'a>) -> Result<Option<Format>, Fault<'a>> {
     match matches.get_str("format") {
         Some("text") => Ok(None),

@@ -1,7 +1,7 @@
 //! The command line of `faultsim`: words in, a status out.
 //!
-//! [`run_arguments`] does what the arguments of the process ask for, on the files of the system.
-//! [`run_words`] does what any words ask for, on files of the caller's.
+//! [`run_arguments`] runs the arguments of the process, on the files of the system. [`run_words`]
+//! runs any words, on files of the caller's.
 #![tactic(auto)]
 
 mod arguments;

@@ -142,7 +142,7 @@ enum Choice {
     /// The format of merged part texts.
     MergeFormat,
     FailUnder,
-    /// The same of a run that may be of one part, or count detections.
+    /// The same for a run that may be of one part, or count detections.
     RunFailUnder,
     Summary,
     PartTexts,
@@ -395,11 +395,11 @@ the last to the first, it keeps each one that detects a fault which no later one
 detects. Under transition faults there is only the first step, and each kept test
 keeps the test before it.
 
-How many tests are kept goes to standard error:
+The number of kept tests goes to standard error:
 
     3 of 4 tests kept
 
-With --numbers it writes the numbers of the kept tests, from 0, in place of the
+With --numbers it writes the numbers of the kept tests, from 0, instead of the
 tests:
 
     1
@@ -502,7 +502,7 @@ once.
 
 Each FILE is read whole. One FILE can be -, the standard input.";
 
-/// The option `--NAME FILE`, with its letter.
+/// Returns the option `--NAME FILE`, with its letter.
 fn file_option<'a>(alloc: Global, name: &'a str, letter: char, help: &'a str) -> Arg<'a> {
     Arg::new(alloc, name)
         .long(name)
@@ -515,7 +515,7 @@ fn file_option<'a>(alloc: Global, name: &'a str, letter: char, help: &'a str) ->
 /// The help of the option `--tests`.
 const TESTS_HELP: &str = "The tests, one a line: a bit for each input, then for each flip-flop";
 
-/// The option `--model MODEL`.
+/// Returns the option `--model MODEL`.
 fn model_option<'a>(alloc: Global) -> Arg<'a> {
     Arg::new(alloc, "model")
         .long("model")
@@ -527,7 +527,7 @@ fn model_option<'a>(alloc: Global) -> Arg<'a> {
         .long_help(ABOUT_MODELS)
 }
 
-/// The option `--workers N`, with its help.
+/// Returns the option `--workers N`, with its help.
 fn workers_option<'a>(alloc: Global, help: &'a str) -> Arg<'a> {
     Arg::new(alloc, "workers")
         .long("workers")
@@ -555,7 +555,7 @@ fn parts_option<'a>(alloc: Global, auto: bool) -> Arg<'a> {
     }
 }
 
-/// The option `--part I/N`.
+/// Returns the option `--part I/N`.
 fn part_option<'a>(alloc: Global) -> Arg<'a> {
     Arg::new(alloc, "part")
         .long("part")
@@ -563,7 +563,7 @@ fn part_option<'a>(alloc: Global) -> Arg<'a> {
         .help("Run only part I of N, from 1, and write its part file")
 }
 
-/// The option `--detections N`.
+/// Returns the option `--detections N`.
 fn detections_option<'a>(alloc: Global) -> Result<Arg<'a>, AllocError> {
     Arg::new(alloc, "detections")
         .long("detections")
@@ -589,7 +589,7 @@ pub(crate) fn workers_help(alloc: Global) -> Result<String, AllocError> {
     format!(in alloc; "The number of workers that share the run, 1 to {MAX_WORKERS}")
 }
 
-/// The flag `--list`.
+/// Returns the flag `--list`.
 fn list_flag<'a>(alloc: Global) -> Arg<'a> {
     Arg::new(alloc, "list")
         .long("list")
@@ -598,7 +598,7 @@ fn list_flag<'a>(alloc: Global) -> Arg<'a> {
         .help("Print the first test of each fault, too, or none if no test detects it")
 }
 
-/// The flag `--undetected`.
+/// Returns the flag `--undetected`.
 fn undetected_flag<'a>(alloc: Global) -> Result<Arg<'a>, AllocError> {
     Arg::new(alloc, "undetected")
         .long("undetected")
@@ -607,7 +607,7 @@ fn undetected_flag<'a>(alloc: Global) -> Result<Arg<'a>, AllocError> {
         .conflicts_with("list")
 }
 
-/// The flag `--why`.
+/// Returns the flag `--why`.
 fn why_flag<'a>(alloc: Global) -> Result<Arg<'a>, AllocError> {
     Arg::new(alloc, "why")
         .long("why")
@@ -619,7 +619,7 @@ fn why_flag<'a>(alloc: Global) -> Result<Arg<'a>, AllocError> {
         .conflicts_with("format")
 }
 
-/// The flag `--classes`.
+/// Returns the flag `--classes`.
 fn classes_flag<'a>(alloc: Global) -> Arg<'a> {
     Arg::new(alloc, "classes")
         .long("classes")
@@ -627,7 +627,7 @@ fn classes_flag<'a>(alloc: Global) -> Arg<'a> {
         .help("Print the coverage of the fault classes, too")
 }
 
-/// The flag `--pairs` of `responses`.
+/// Returns the flag `--pairs` of `responses`.
 fn pairs_flag<'a>(alloc: Global) -> Arg<'a> {
     Arg::new(alloc, "pairs")
         .long("pairs")
@@ -640,7 +640,7 @@ fn numbers_flag<'a>(alloc: Global) -> Arg<'a> {
     Arg::new(alloc, "numbers")
         .long("numbers")
         .action(ArgAction::SetTrue)
-        .help("Write the numbers of the kept tests in place of the tests")
+        .help("Write the numbers of the kept tests instead of the tests")
 }
 
 /// The option `--bench FILE` of `merge`.
@@ -652,7 +652,7 @@ fn merge_bench_option<'a>(alloc: Global) -> Arg<'a> {
 /// The formats of a list.
 static FORMATS: [&str; 3] = ["text", "csv", "json"];
 
-/// The option `--format FORMAT`.
+/// Returns the option `--format FORMAT`.
 fn format_option<'a>(alloc: Global) -> Arg<'a> {
     Arg::new(alloc, "format")
         .long("format")
@@ -662,11 +662,11 @@ fn format_option<'a>(alloc: Global) -> Arg<'a> {
         .help("The format of the list of faults")
 }
 
-/// What is said of the option `--format FORMAT` of `run`.
+/// The help of the option `--format FORMAT` of `run`.
 const RUN_FORMAT_HELP: &str =
-    "How the list is written; csv and json tell all faults, or those of --undetected";
+    "The format of the list; csv and json list all faults, or only undetected ones";
 
-/// The option `--format FORMAT` of `run`.
+/// Returns the option `--format FORMAT` of `run`.
 fn run_format_option<'a>(alloc: Global) -> Result<Arg<'a>, AllocError> {
     format_option(alloc)
         .help(RUN_FORMAT_HELP)
@@ -707,7 +707,7 @@ fn summary_option<'a>(alloc: Global) -> Result<Arg<'a>, AllocError> {
         .conflicts_with("detections")
 }
 
-/// The flag `--progress`.
+/// Returns the flag `--progress`.
 fn progress_flag<'a>(alloc: Global) -> Arg<'a> {
     Arg::new(alloc, "progress")
         .long("progress")
@@ -715,12 +715,12 @@ fn progress_flag<'a>(alloc: Global) -> Arg<'a> {
         .help("Draw the progress of the run on standard error")
 }
 
-/// The flag `--progress` of `run`.
+/// Returns the flag `--progress` of `run`.
 fn run_progress_flag<'a>(alloc: Global) -> Result<Arg<'a>, AllocError> {
     progress_flag(alloc).conflicts_with("detections")
 }
 
-/// The files `FILE..` of `merge`.
+/// Returns the files `FILE..` of `merge`.
 fn part_texts<'a>(alloc: Global) -> Arg<'a> {
     Arg::new(alloc, "part texts")
         .value_name("FILE")

@@ -1,4 +1,4 @@
-//! The option `--progress`: how far a run is, on standard error.
+//! The option `--progress`: the progress of a run, on standard error.
 
 use crate::tally::Tally;
 use block_sim::Job;
@@ -8,24 +8,24 @@ use std::fmt::Write;
 use std::sync::Mutex;
 use std::sync::atomic::{AtomicU64, Ordering};
 
-/// One piece in so many is watched: that of a class and a block whose numbers leave the same. A
-/// note of each piece would cost more than some pieces do.
+/// One piece in this number is watched: if its class and its block have the same remainder. A note
+/// for each piece would cost more than some pieces do.
 const EVERY: u32 = 64;
 
-/// How many watched pieces worker 0 passes from one look at the figure to the next. They stand for
-/// 3,200,000 pieces, which take a tenth of a second where pieces take little.
+/// The number of watched pieces that worker 0 passes from one look at the figure to the next. They
+/// stand for 3,200,000 pieces, which take a tenth of a second if pieces take little work.
 const BETWEEN: u64 = 50_000;
 
-/// What a worker knows of its work, as one piece in so many has it. It alone writes here, and there
-/// is room behind, so that no two workers write to one line of a cache.
+/// The progress of a worker, from its watched pieces. Only the worker writes here, and there is
+/// room after it, so no two workers write to one cache line.
 #[derive(Drop)]
 struct Place {
     /// The pieces that it has settled.
     settled: AtomicU64,
-    /// Those of the parts that it has run.
+    /// The settled pieces of the parts that it has run.
     done: AtomicU64,
-    /// The classes of the part that it runs: those that are watched at block 0, where it comes to
-    /// all of them.
+    /// The classes of the part that it runs: the watched ones at block 0, where it comes to all of
+    /// them.
     classes: AtomicU64,
     /// The block at which it is.
     block: AtomicU64,
@@ -46,8 +46,8 @@ impl Place {
         }
     }
 
-    /// Takes note of a piece on a block, of so many blocks. A worker goes over the classes of a
-    /// part block after block, so a block before the last is that of a new part.
+    /// Notes a piece on a block, of this number of blocks. A worker goes over the classes of a part
+    /// block after block, so a block before the last one is in a new part.
     fn note(&self, block: u64, blocks: &AtomicU64) {
         let before = self.block.load(Ordering::SeqCst);
         if block > 0 && block == before {
@@ -79,21 +79,21 @@ impl Place {
         self.done.store(done.saturating_add(part), Ordering::SeqCst);
     }
 
-    /// Whether it has passed enough for another look at the figure.
+    /// Returns whether it has passed enough pieces for another look at the figure.
     fn is_time(&self) -> bool {
         let before = self.passed.fetch_add(1, Ordering::SeqCst);
         before % BETWEEN == BETWEEN - 1
     }
 }
 
-/// What draws the line.
+/// The pen that draws the line.
 #[derive(Drop)]
 struct Pen<'a, E> {
     err: &'a mut E,
     alloc: Global,
     /// The figure that was drawn last.
     percent: u64,
-    /// Whether a line stands that has no end.
+    /// Whether there is a line without an end.
     open: bool,
 }
 
@@ -112,7 +112,7 @@ impl<'a, E: Out> Pen<'a, E> {
         self.put(0, pieces, 0, "");
     }
 
-    /// Draws how many of the pieces are settled, where the figure is another than before.
+    /// Draws how many of the pieces are settled, if the figure has changed.
     fn draw(&mut self, settled: u64, pieces: u64) {
         let percent = percent_of(settled, pieces);
         if percent != self.percent {
@@ -127,7 +127,7 @@ impl<'a, E: Out> Pen<'a, E> {
         self.open = false;
     }
 
-    /// Puts the line. One that can't be put is left out.
+    /// Puts the line. A line that fails is left out.
     fn put(&mut self, settled: u64, pieces: u64, percent: u64, end: &str) {
         self.open = true;
         if let Ok(line) = line_of(self.alloc, settled, pieces, percent, end) {
@@ -135,7 +135,7 @@ impl<'a, E: Out> Pen<'a, E> {
         }
     }
 
-    /// Ends the line, where one stands.
+    /// Ends the line, if there is one.
     fn end_line(&mut self) {
         if self.open {
             self.open = false;
@@ -144,12 +144,12 @@ impl<'a, E: Out> Pen<'a, E> {
     }
 }
 
-/// Puts a text. What can't be put is left out.
+/// Puts a text. A text that fails is left out.
 fn put_text<E: Out>(text: &str, err: &mut E) {
     let _ = write!(Formatted(err), "{text}");
 }
 
-/// The line, which begins where the line before it began.
+/// Returns the line, which begins where the line before it began.
 fn line_of(
     alloc: Global,
     settled: u64,
@@ -160,13 +160,13 @@ fn line_of(
     format!(in alloc; "\r{settled} of {pieces} pieces, {percent}%{end}")
 }
 
-/// How much so many are of all, in hundredths.
+/// Returns the settled pieces as a percentage of all.
 fn percent_of(settled: u64, pieces: u64) -> u64 {
     settled.saturating_mul(100) / pieces.max(1)
 }
 
-/// A gate that lets every piece pass, and draws how many are settled, as the watched ones have it.
-/// Each worker counts in a place of its own, and worker 0 draws.
+/// A gate that lets every piece pass, and draws how many are settled, from the watched ones. Each
+/// worker counts in a place of its own, and worker 0 draws.
 #[derive(Drop)]
 pub(crate) struct Progress<'a, E> {
     places: Vec<Place>,
@@ -177,7 +177,7 @@ pub(crate) struct Progress<'a, E> {
 }
 
 impl<'a, E: Out> Progress<'a, E> {
-    /// The gate of a run by so many workers.
+    /// Makes the gate of a run by this number of workers.
     pub(crate) fn new(
         alloc: Global,
         workers: u32,
@@ -197,7 +197,7 @@ impl<'a, E: Out> Progress<'a, E> {
         })
     }
 
-    /// Ends the line that stands, where the run didn't end it.
+    /// Ends the line, if the run didn't end it.
     pub(crate) fn close(self) {
         let Progress {
             places: _,
@@ -209,7 +209,7 @@ impl<'a, E: Out> Progress<'a, E> {
         pen.into_inner().end_line();
     }
 
-    /// How many pieces are settled, of so many.
+    /// Returns how many of the pieces are settled.
     fn settled(&self, pieces: u64) -> u64 {
         let mut settled = 0u64;
         for place in &self.places {
@@ -218,7 +218,8 @@ impl<'a, E: Out> Progress<'a, E> {
         settled.saturating_mul(u64::from(EVERY)).min(pieces)
     }
 
-    /// Takes note of a watched piece. It stands apart, so that the others cost a comparison alone.
+    /// Notes a watched piece. It is a function of its own, so that the other pieces only cost a
+    /// comparison.
     #[inline(never)]
     fn note(&self, worker: u32, block: u32) {
         if let Some(place) = self.places.get(worker as usize) {
@@ -229,7 +230,7 @@ impl<'a, E: Out> Progress<'a, E> {
         }
     }
 
-    /// Draws how far the run is.
+    /// Draws the progress of the run.
     fn look(&self) {
         let pieces = self.pieces.load(Ordering::SeqCst);
         let settled = self.settled(pieces);

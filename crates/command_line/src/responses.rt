@@ -7,7 +7,7 @@ use clap::ArgMatches;
 use report::{Out, pairs_text_in, responses_text_in};
 use std::alloc::Global;
 
-/// `responses`: both files are read before either text is looked at.
+/// Runs `responses`. It reads both files before it checks either.
 pub(crate) fn do_responses<'a, S: Source, W: Out>(
     alloc: Global,
     matches: &ArgMatches<'a>,

@@ -17,7 +17,7 @@ use std::alloc::Global;
 use std::sync::Wait;
 use std::thread::Threads;
 
-/// What the command line asks `run` for.
+/// Returns the output that the command line requests of `run`.
 fn read_form<'a>(matches: &ArgMatches<'a>) -> Result<Form, Fault<'a>>
     ensures { IfOk result HasParts }
 {
@@ -59,7 +59,7 @@ const BESIDE_PART: &str = "give --part or --parts, not both";
 /// Why the text of `--part` cannot be used.
 const NO_PART: &str = "give I/N: part I, from 1 to N, of N parts, at most 65536";
 
-/// The part that a text `I/N` names, I from 1.
+/// Returns the part that a text `I/N` names, I from 1.
 fn read_part(text: &str) -> Option<Form>
     ensures { IfSome result HasParts }
 {
@@ -75,7 +75,7 @@ fn read_part(text: &str) -> Option<Form>
     })
 }
 
-/// `run`.
+/// Runs `run`.
 pub(crate) fn do_run<'a, R: Threads + Wait, S: Source, W: Out, E: Out + Send>(
     rt: &R,
     alloc: Global,

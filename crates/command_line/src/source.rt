@@ -27,10 +27,11 @@ pub struct Stream {
 
 /// What the program sees of the system: the text at a path, whole; files that it writes; a clock.
 pub trait Source {
-    /// The bytes at a path.
+    /// Returns the bytes at a path.
     fn read(&mut self, alloc: Global, path: &str) -> Result<Vec<u8>, SourceFault>;
 
-    /// The stream at a path, where what is there gives its bytes once alone and can be told.
+    /// Returns the stream at a path, where what is there gives its bytes once alone and can be
+    /// told.
     fn stream(&self, _path: &str) -> Option<Stream> {
         None
     }
@@ -46,12 +47,12 @@ pub trait Source {
     }
 }
 
-/// Whether a path is that of the standard input: `-`, or a name that the system has for it.
+/// Returns whether a path is that of the standard input: `-`, or a name that the system has for it.
 pub(crate) fn is_standard_input(path: &str) -> bool {
     matches!(path, "-" | "/dev/stdin" | "/dev/fd/0" | "/proc/self/fd/0")
 }
 
-/// The path of the system for a path of the command line.
+/// Returns the path of the system for a path of the command line.
 fn system_path(path: &str) -> &str {
     if path == "-" { "/dev/stdin" } else { path }
 }
@@ -63,7 +64,7 @@ pub struct Files<'a, R> {
 }
 
 impl<'a, R: rt::Files + rt::Clock + AllocGlobal> Files<'a, R> {
-    /// The files that a runtime reaches.
+    /// Returns the files that a runtime reaches.
     pub fn new(rt: &'a R) -> Self {
         Files { rt }
     }
@@ -77,7 +78,7 @@ impl<R: rt::Files + rt::Clock + AllocGlobal> Source for Files<'_, R> {
         })
     }
 
-    /// The device and the inode of a pipe or a socket.
+    /// Returns the device and the inode of a pipe or a socket.
     fn stream(&self, path: &str) -> Option<Stream> {
         let found = fs::metadata(self.rt, system_path(path)).ok()?;
         let kind = found.file_type();

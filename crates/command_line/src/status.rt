@@ -55,7 +55,7 @@ pub(crate) const UNWRITTEN: Fault<'static> = Fault::Sim(SimFault::Report(ReportF
 /// Memory is refused.
 pub(crate) const NO_MEMORY: Fault<'static> = Fault::Sim(SimFault::Memory);
 
-/// The fault of the part text at a path. Want of memory is no fault of the text.
+/// Returns the fault of the part text at a path. Want of memory is no fault of the text.
 pub(crate) fn part_fault(path: &str, fault: MergeFault) -> Fault<'_> {
     match fault {
         MergeFault::Memory | MergeFault::Part(PartFault::Memory) => NO_MEMORY,
@@ -63,7 +63,7 @@ pub(crate) fn part_fault(path: &str, fault: MergeFault) -> Fault<'_> {
     }
 }
 
-/// The fault of part texts together. Want of memory is no fault of the texts.
+/// Returns the fault of part texts together. Want of memory is no fault of the texts.
 pub(crate) fn merge_fault(fault: MergeFault) -> Fault<'static> {
     match fault {
         MergeFault::Memory | MergeFault::Part(PartFault::Memory) => NO_MEMORY,
@@ -101,8 +101,8 @@ pub(crate) fn answer_fault<E: Out>(fault: &Fault<'_>, err: &mut E) -> u8
     }
 }
 
-/// The status of a text call's fault: 1 where a text is refused, 2 where the number of workers is,
-/// and 3 where the output, memory or a thread is, or where the run did not end.
+/// Returns the status of a text call's fault: 1 where a text is refused, 2 where the number of
+/// workers is, and 3 where the output, memory or a thread is, or where the run did not end.
 pub fn status_of(fault: &SimFault) -> u8
     ensures failed { 0 < result }
     ensures few { result ≤ 3 }

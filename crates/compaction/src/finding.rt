@@ -1,4 +1,4 @@
-//! Which tests of a list are the first to detect some fault.
+//! The tests of a list that are the first to detect some fault.
 
 ghost use Rattle.std.specs.Prelude.{◌≡◌, ℕ, ◌+◌, ◌<◌, ◌≤◌, ◌||◌, ⊤, false, IfErr, IfOk, OnOk};
 ghost use Rattle.std.specs.Prelude.{length, slice_index_or};
@@ -33,7 +33,7 @@ pub fn finding_tests<R: Threads + Wait>(
     Ok(marks_of(alloc, &verdicts, job.tests().count())?)
 }
 
-/// Tells of each of so many tests whether some fault has it as its first test.
+/// Returns for each of the tests whether some fault has it as its first test.
 fn marks_of(alloc: Global, verdicts: &Verdicts, tests: u32) -> Result<Vec<bool>, AllocError>
     ensures count { IfOk result (λ marks. length marks.items ≡ tests) }
     ensures each { IfOk result (λ marks. (t : ℕ) → t < tests
@@ -46,7 +46,7 @@ fn marks_of(alloc: Global, verdicts: &Verdicts, tests: u32) -> Result<Vec<bool>,
     Ok(marks)
 }
 
-/// Marks the first test of a fault, where it is one of these tests.
+/// Marks the first test of a fault, if it is one of these tests.
 fn mark_first(marks: &mut [bool], first: Option<u32>)
     ensures count { length marks.new ≡ length marks.old }
     ensures each { (t : ℕ) → t < length marks.old → slice_index_or marks.new t false

@@ -20,18 +20,18 @@ use std::sync::Wait;
 use std::thread::Threads;
 use workers::{RunFault, parts_for};
 
-/// Fewer tests that detect the same faults: rows of the job's tests, in order. Each fault that some
-/// test of the job detects is detected by one of them.
+/// Compacts a job's tests: returns some of them, in order, which detect each fault that a test of
+/// the job detects.
 ///
 /// The first pass keeps the tests that are the first to detect some fault. The second pass goes
-/// over these from the last to the first and keeps those that still find something: reverse order
-/// fault simulation (Schulz, Trischler and Sarfert, SOCRATES: A Highly Efficient Automatic Test
-/// Pattern Generation System, 1988). Under [`Model::Transition`] there is the first pass alone, and
-/// a test that is kept keeps the test before it. So under [`Model::TransitionPairs`], where the
-/// second of a pair alone detects, pairs are kept and left out whole.
+/// over these from the last to the first and keeps those that still detect a new fault:
+/// reverse-order fault simulation (Schulz, Trischler and Sarfert, SOCRATES: A Highly Efficient
+/// Automatic Test Pattern Generation System, 1988). Under [`Model::Transition`] there is only the
+/// first pass, and a kept test keeps the test before it. So under [`Model::TransitionPairs`], where
+/// only the capture test detects, pairs are kept and left out whole.
 ///
 /// The job keeps its circuit, its faults and its classes. Its tests are others after the second
-/// pass. It is refused as [`workers::run_open`] is.
+/// pass. It fails as [`workers::run_open`] does.
 pub fn compact<R: Threads + Wait>(
     rt: &R,
     alloc: Global,
@@ -94,8 +94,8 @@ pub fn compact_in_parts<R: Threads + Wait>(
     }
 }
 
-/// Of tests those that detect a fault which no later one detects: the first of some fault, where
-/// the list is turned round.
+/// Returns the tests that detect a fault which no later one detects: the first ones for some fault
+/// in the reversed list.
 fn last_tests<R: Threads + Wait>(
     rt: &R,
     alloc: Global,

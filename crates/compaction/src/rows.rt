@@ -71,7 +71,7 @@ fn marked_tests(alloc: Global, tests: &Tests, marks: &[bool]) -> Result<Tests, A
     Ok(kept)
 }
 
-/// The tests of a list from the last to the first.
+/// Returns the tests of a list from the last to the first.
 pub fn reversed_tests(alloc: Global, tests: &Tests) -> Result<Tests, AllocError>
     ensures count { IfOk result (λ turned. length turned.tests ≡ length tests.now.tests) }
     ensures rows { IfOk result (λ turned.
@@ -87,7 +87,7 @@ pub fn reversed_tests(alloc: Global, tests: &Tests) -> Result<Tests, AllocError>
     Ok(turned)
 }
 
-/// Adds a test of a list to another list of the same width, where there is room for it.
+/// Adds a test of a list to another list of the same width, if there is room for it.
 fn push_test(alloc: Global, tests: &Tests, test: u32, list: &mut Tests) -> Result<(), AllocError>
     requires test { test < length tests.now.tests }
     requires width { list.old.width ≡ tests.now.width }
@@ -102,7 +102,7 @@ fn push_test(alloc: Global, tests: &Tests, test: u32, list: &mut Tests) -> Resul
     push_row(alloc, &row, list)
 }
 
-/// Adds a row of the right width, where there is room for one.
+/// Adds a row of the right width, if there is room for one.
 fn push_row(alloc: Global, row: &[bool], list: &mut Tests) -> Result<(), AllocError>
     requires room { length list.old.tests < max_tests }
     requires width { length row.now ≡ list.old.width }

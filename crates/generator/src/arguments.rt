@@ -27,7 +27,7 @@ pub fn run_arguments<R: Env + HasFiles + Clock + AllocGlobal + Threads + Wait, W
     }
 }
 
-/// The arguments of the process.
+/// Returns the arguments of the process.
 fn read_arguments<R: Env + AllocGlobal>(rt: &R) -> Result<Vec<String>, Fault<'static>> {
     let arguments = match env::args(rt) {
         Ok(arguments) => arguments,
@@ -55,7 +55,7 @@ fn run_on_files<R: HasFiles + Clock + AllocGlobal + Threads + Wait, W: Out, E: O
     }
 }
 
-/// The words of arguments.
+/// Returns the words of arguments.
 fn words_of<'a>(alloc: Global, arguments: &'a [String]) -> Result<Vec<&'a str>, AllocError> {
     arguments.iter().map(|word| word.as_str()).collect(alloc)
 }

@@ -1,4 +1,4 @@
-//! What the words of `faultgen` ask for is done.
+//! The commands of `faultgen`.
 
 ghost use Rattle.std.specs.Prelude.{◌≤◌};
 
@@ -14,36 +14,36 @@ use std::fmt::Write;
 use std::sync::Wait;
 use std::thread::Threads;
 
-/// The status of what was done.
+/// The status of success.
 const DONE: u8 = 0;
 
-/// The status of a refused command line.
+/// The status of an error of the command line.
 const MISUSED: u8 = 2;
 
-/// The status of a file or an output that is refused.
+/// The status of a failed file or output.
 const FAILED: u8 = 3;
 
-/// Why nothing was written, or not all.
+/// The reason why nothing was written, or not all.
 #[derive(Clone, Copy)]
 pub(crate) enum Fault<'a> {
     /// An argument of the process is no text.
     NoText,
     /// The command line lacks an option.
     Misused(&'a str),
-    /// The file at a path is refused.
+    /// The file at a path cannot be read.
     Unreadable(&'a str),
     /// The output takes nothing more.
     Unwritten,
-    /// The circuit is refused, or the work on it.
+    /// The circuit has an error, or the work on it failed.
     Sim(SimFault),
 }
 
-/// Memory is refused.
+/// Memory ran out.
 pub(crate) const NO_MEMORY: Fault<'static> = Fault::Sim(SimFault::Memory);
 
-/// Does what the words ask for, and answers the status: 0 done or helped, 1 the circuit is refused,
-/// 2 the command line is refused, 3 a file, the output, memory or a thread is refused. `words[0]`
-/// is the program's name. The tests go to `out`, and their coverage line to `err`.
+/// Runs words and returns the status: 0 for success or help, 1 for an error of the circuit, 2 for
+/// an error of the command line, 3 if a file, the output, memory or a thread failed. `words[0]` is
+/// the program's name. The tests go to `out`, and their coverage line to `err`.
 pub fn run_words<'a, R: Threads + Wait, S: Source, W: Out, E: Out>(
     rt: &R,
     alloc: Global,
@@ -63,7 +63,7 @@ pub fn run_words<'a, R: Threads + Wait, S: Source, W: Out, E: Out>(
     }
 }
 
-/// Does what a command line asks for.
+/// Runs a command line.
 fn run_matched<'a, R: Threads + Wait, S: Source, W: Out, E: Out>(
     rt: &R,
     alloc: Global,
@@ -80,7 +80,7 @@ fn run_matched<'a, R: Threads + Wait, S: Source, W: Out, E: Out>(
     }
 }
 
-/// Makes tests, writes them, and tells their coverage.
+/// Makes tests, writes them, and prints their coverage.
 fn make_tests<'a, R: Threads + Wait, S: Source, W: Out, E: Out>(
     rt: &R,
     alloc: Global,
@@ -102,7 +102,7 @@ fn make_tests<'a, R: Threads + Wait, S: Source, W: Out, E: Out>(
     Ok(())
 }
 
-/// The settings that a command line names.
+/// Returns the settings that a command line names.
 fn read_settings<'a>(matches: &ArgMatches<'a>) -> Result<Settings, Fault<'a>> {
     let Some(model) = matches.get_str("model").and_then(|name| model_named(name)) else {
         return Err(Fault::Misused("--model"));
@@ -140,7 +140,7 @@ fn read_bench<'a, S: Source>(
     }
 }
 
-/// Answers a command line that asks for help, or is refused.
+/// Prints help, or the error of a command line.
 fn answer_error<W: Out, E: Out>(error: &Error, out: &mut W, err: &mut E) -> u8
     ensures { result ≤ 3 }
 {
@@ -157,7 +157,7 @@ fn answer_error<W: Out, E: Out>(error: &Error, out: &mut W, err: &mut E) -> u8
     DONE
 }
 
-/// Tells a fault in one line, and answers its status.
+/// Prints an error in one line, and returns its status.
 pub(crate) fn answer<E: Out>(fault: &Fault<'_>, err: &mut E) -> u8
     ensures { result ≤ 3 }
 {

@@ -1,4 +1,4 @@
-//! Which tests of a round are kept.
+//! The tests of a round that are kept.
 
 ghost use Rattle.std.specs.Prelude.{◌≡◌, ◌+◌, ◌<◌, ◌≤◌, All, length};
 ghost use Rattle.block_sim.specs.Parts.{HasRoom};
@@ -8,9 +8,9 @@ use fault_model::Model;
 use patterns::{BLOCK_SIZE, Tests};
 use std::alloc::{AllocError, Global};
 
-/// Adds to the tests that are kept, while they are fewer than `room`, tests of a job that classes
+/// Adds tests of a job to the kept tests, while they are fewer than `room`: the tests that classes
 /// need which no kept test detects. The classes are given with the first test that detects each, or
-/// none. Under transition faults the test before each such test is added too.
+/// none. Under transition faults the test before each such test is added, too.
 pub(crate) fn keep_tests(
     alloc: Global,
     job: &Job,
@@ -35,7 +35,7 @@ pub(crate) fn keep_tests(
     Ok(())
 }
 
-/// The tests of a job that are needed, a word for each block: of each class that no needed test
+/// Returns the needed tests of a job, a word for each block: for each class that no needed test
 /// detects, the first that does.
 fn needed_tests(
     alloc: Global,
@@ -55,7 +55,7 @@ fn needed_tests(
     Ok(needed)
 }
 
-/// Needs a test for a class, unless one of its block that is needed already detects the class.
+/// Needs a test for a class, unless a needed test of its block already detects the class.
 fn need_one(job: &Job, workspace: &mut Workspace, class: u32, test: u32, needed: &mut [u64])
     requires class { class < length job.now.classes.representative }
     requires fits { HasRoom workspace.old job.now }
@@ -73,7 +73,7 @@ fn need_one(job: &Job, workspace: &mut Workspace, class: u32, test: u32, needed:
     }
 }
 
-/// Whether a test is one of those that are given by a word for each block.
+/// Returns whether a test is in a set that is given by a word for each block.
 fn is_in(words: &[u64], test: u32) -> bool {
     match words.get((test / BLOCK_SIZE) as usize) {
         Some(word) => (*word >> (test % BLOCK_SIZE)) & 1 == 1,
@@ -81,7 +81,7 @@ fn is_in(words: &[u64], test: u32) -> bool {
     }
 }
 
-/// Adds a test of a list to others of the same width, where there is room for one.
+/// Adds a test of a list to others of the same width, if there is room for one.
 pub(crate) fn add_test(
     alloc: Global,
     tests: &Tests,

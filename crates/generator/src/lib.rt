@@ -1,10 +1,10 @@
-//! A small test generator over the library's calls: random tests, of which those are kept that
-//! detect something new.
+//! A small test generator over the library's calls: random tests, of which only tests that detect
+//! new faults are kept.
 //!
 //! [`generate`] tries random tests in rounds, a block of 64 after another, and asks which of the
-//! fault classes that no kept test detects they detect (random test generation: Bushnell and
-//! Agrawal, Essentials of Electronic Testing, the chapter on combinational ATPG). It ends where all
-//! are detected, where 20 blocks in turn detect nothing new, or at the greatest number of tests.
+//! classes that no kept test detects they detect (random test generation: Bushnell and Agrawal,
+//! Essentials of Electronic Testing, the chapter on combinational ATPG). It ends if all are
+//! detected, if 20 blocks in a row detect nothing new, or at the greatest number of tests.
 #![tactic(auto)]
 
 mod arguments;
@@ -32,7 +32,7 @@ use std::alloc::Global;
 use std::sync::Wait;
 use std::thread::Threads;
 
-/// What a generator is asked for.
+/// The settings of a generator.
 #[derive(Clone, Copy, Debug, PartialEq, Eq)]
 pub struct Settings {
     /// The faults to detect.
@@ -41,26 +41,27 @@ pub struct Settings {
     pub seed: u64,
     /// The greatest number of tests to keep.
     pub most: u32,
-    /// How many workers share the simulation, 1 to 64. The tests are the same for every number.
+    /// The number of workers that share the simulation, 1 to 64. The tests are the same for every
+    /// number.
     pub workers: u32,
 }
 
-/// Tests for a circuit, and what they detect.
+/// Tests for a circuit, and their coverage.
 #[derive(Drop)]
 pub struct Generated {
-    /// The test text.
+    /// The test file.
     pub tests: Vec<u8>,
     /// The coverage line of the tests.
     pub coverage: Vec<u8>,
 }
 
-/// Makes tests for the circuit of a bench text.
+/// Makes tests for the circuit of a bench file.
 ///
-/// The coverage is what [`report::report_bytes`] tells of the tests that are given, by a run of its
-/// own over their text: nothing is told of tests that were tried and left out. The tests are a
-/// compaction of the best that were found ([`compaction::compact`]), so each is needed.
+/// The coverage is the report of the returned tests by [`report::report_bytes`], from a run of its
+/// own over their file; tests that were tried and left out don't count. The tests are a compaction
+/// of the best that were found ([`compaction::compact`]), so each is needed.
 ///
-/// It is refused for the bench text first, then for the number of workers.
+/// It fails first for the bench file, then for the number of workers.
 pub fn generate<R: Threads + Wait>(
     rt: &R,
     alloc: Global,
@@ -78,7 +79,7 @@ pub fn generate<R: Threads + Wait>(
     ensures workers { OnOk result ((0 < settings.workers) × (settings.workers ≤ 64)) }
     ensures refused { IfErr result (IsGeneratorFault bench.now settings.workers) }
 {
-    // Laws: the report reads the circuit and the tests that were read and written before.
+    // Laws: the report reads the same circuit and tests.
     one_answer();
     one_answer_of_tests();
     let tests = test_rows(rt, alloc, bench, settings)?;
@@ -91,8 +92,8 @@ pub fn generate<R: Threads + Wait>(
     Ok(Generated { tests, coverage })
 }
 
-/// The text of tests for the circuit of a bench text, each of which is needed, within the limit of
-/// pieces.
+/// Returns the file of tests for the circuit of a bench file, each of which is needed, within the
+/// limit of pieces.
 fn test_rows<R: Threads + Wait>(
     rt: &R,
     alloc: Global,

@@ -29,7 +29,7 @@ the best tests it writes those that are needed to detect the same faults.
 The exit status is 0 for success, 1 for an error in the circuit, 2 for an error in the command
 line, and 3 if a file, the output, memory or a thread fails.";
 
-/// The option `--bench FILE`.
+/// Returns the option `--bench FILE`.
 fn bench_option<'a>(alloc: Global) -> Arg<'a> {
     Arg::new(alloc, "bench")
         .long("bench")
@@ -39,7 +39,7 @@ fn bench_option<'a>(alloc: Global) -> Arg<'a> {
         .help("The circuit, a bench file; - is the standard input")
 }
 
-/// The option `--model MODEL`.
+/// Returns the option `--model MODEL`.
 fn model_option<'a>(alloc: Global) -> Arg<'a> {
     Arg::new(alloc, "model")
         .long("model")
@@ -50,7 +50,7 @@ fn model_option<'a>(alloc: Global) -> Arg<'a> {
         .help("Which faults")
 }
 
-/// The option `--seed N`.
+/// Returns the option `--seed N`.
 fn seed_option<'a>(alloc: Global) -> Arg<'a> {
     Arg::new(alloc, "seed")
         .long("seed")
@@ -60,7 +60,7 @@ fn seed_option<'a>(alloc: Global) -> Arg<'a> {
         .help("The seed of the random tests: the same seed gives the same tests")
 }
 
-/// The option `--most N`.
+/// Returns the option `--most N`.
 fn most_option<'a>(alloc: Global) -> Arg<'a> {
     Arg::new(alloc, "most")
         .long("most")
@@ -70,7 +70,7 @@ fn most_option<'a>(alloc: Global) -> Arg<'a> {
         .help("The greatest number of tests, 1 to 65536")
 }
 
-/// The option `--workers N`.
+/// Returns the option `--workers N`.
 fn workers_option<'a>(alloc: Global) -> Arg<'a> {
     Arg::new(alloc, "workers")
         .long("workers")
@@ -81,7 +81,7 @@ fn workers_option<'a>(alloc: Global) -> Arg<'a> {
         .help("The number of workers that share the simulation, 1 to 64")
 }
 
-/// The command line of the program.
+/// Returns the command line of the program.
 pub(crate) fn command_line<'a>(alloc: Global) -> Result<Command<'a>, AllocError> {
     Command::new(alloc, "faultgen")
         .version(VERSION)

@@ -1,4 +1,4 @@
-//! Rounds of random tests, and the classes that are left.
+//! Rounds of random tests, and the classes that remain.
 
 ghost use Rattle.std.specs.Prelude.{◌≡◌, ◌*◌, ◌<◌, ◌≤◌, All, IfErr, IfOk, OnOk, filter, is_none};
 ghost use Rattle.std.specs.Prelude.{length, map, zip};
@@ -20,13 +20,13 @@ use std::sync::Wait;
 use std::thread::Threads;
 use workers::{OpenGate, run_classes};
 
-/// After how many blocks in turn that detect nothing new the search ends.
+/// The search ends after this number of blocks in a row that detect nothing new.
 const QUIET_BLOCKS: u32 = 20;
 
-/// How many blocks are tried at a time. Each round makes room for its workers anew.
+/// The number of blocks of a round. Each round makes room for its workers anew.
 const ROUND_BLOCKS: u32 = 20;
 
-/// Tries random tests on a job, and gives those that detect something new.
+/// Tries random tests on a job, and returns those that detect new faults.
 pub(crate) fn search<R: Threads + Wait>(
     rt: &R,
     alloc: Global,
@@ -66,7 +66,7 @@ pub(crate) fn search<R: Threads + Wait>(
     Ok(kept)
 }
 
-/// How many tests a job takes.
+/// Returns the number of tests that a job takes.
 fn room_of(job: &Job) -> u32
     ensures limit { result ≤ max_tests }
     ensures pieces { AreFewPieces (length job.now.classes.representative) result }
@@ -75,7 +75,7 @@ fn room_of(job: &Job) -> u32
     BLOCK_SIZE * blocks.min(MAX_TESTS / BLOCK_SIZE)
 }
 
-/// All classes of a job.
+/// Returns all classes of a job.
 fn all_classes(alloc: Global, job: &Job) -> Result<Vec<u32>, AllocError>
     ensures few { IfOk result (λ all. length all.items ≤ length job.now.classes.representative) }
     ensures within { IfOk result (λ all.
@@ -89,7 +89,7 @@ fn all_classes(alloc: Global, job: &Job) -> Result<Vec<u32>, AllocError>
     Ok(classes)
 }
 
-/// Gives a job so many blocks of random tests in place of its own.
+/// Gives a job this number of blocks of random tests instead of its own.
 fn take_random_tests(
     alloc: Global,
     job: &mut Job,
@@ -108,7 +108,7 @@ fn take_random_tests(
     job.set_tests(alloc, tests)
 }
 
-/// So many blocks of random tests.
+/// Returns this number of blocks of random tests.
 fn random_tests(
     alloc: Global,
     width: u32,
@@ -125,14 +125,14 @@ fn random_tests(
     for _word in 0..count {
         words.push(rng.next_u64())?;
     }
-    // Whole blocks have no idle bits, so that memory alone can be refused.
+    // Whole blocks have no idle bits, so it can only fail for memory.
     let Ok(tests) = Tests::from_words(alloc, width, BLOCK_SIZE * blocks, &words) else {
         return Err(AllocError);
     };
     Ok(tests)
 }
 
-/// Those classes of a list that no test detects.
+/// Returns the classes of a list that no test detects.
 fn undetected(
     alloc: Global,
     classes: &[u32],

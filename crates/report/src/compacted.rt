@@ -43,11 +43,11 @@ pub struct KeptCount {
     pub all: u32,
 }
 
-/// Reads a circuit and tests for it, and writes a test text with some of the tests, in order, that
-/// detect each fault of a model that all detect ([`compaction::compact`]).
+/// Reads a circuit and tests for it, and writes a test file with some of the tests, in order, which
+/// detect each fault of a model that the tests detect ([`compaction::compact`]).
 ///
-/// It is refused as [`crate::simulate_text_in`] is, in the same order. Nothing is written before
-/// all is known.
+/// It fails as [`crate::simulate_text_in`] does, in the same order. It writes nothing before all is
+/// known.
 pub fn compact_text_in<R: Threads + Wait, W: Out>(
     rt: &R,
     alloc: Global,

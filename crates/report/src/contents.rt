@@ -1,9 +1,9 @@
-//! What a report tells.
+//! The contents of a report.
 
 ghost use Rattle.std.specs.Prelude.{◌≡◌, false};
 ghost use Rattle.report.specs.Report.{contents_of, has_line};
 
-/// Which faults have a line of their own in a report, before the coverage line.
+/// The faults with a line of their own in a report, before the coverage line.
 #[derive(Clone, Copy, Debug, PartialEq, Eq)]
 pub enum Lines {
     /// None.
@@ -15,7 +15,7 @@ pub enum Lines {
 }
 
 impl Lines {
-    /// Whether a fault with this first test has a line.
+    /// Returns whether a fault with this first test has a line.
     pub(crate) fn has(self, first: Option<u32>) -> bool
         ensures { result ≡ has_line self first }
     {
@@ -27,17 +27,17 @@ impl Lines {
     }
 }
 
-/// What a report tells beside the coverage of the faults.
+/// The contents of a report beside the coverage of the faults.
 #[derive(Clone, Copy, Debug, PartialEq, Eq)]
 pub struct Contents {
-    /// Which faults have a line.
+    /// The faults that have a line.
     pub lines: Lines,
-    /// Whether a last line tells how many of the classes are detected.
+    /// Whether a last line gives the coverage of the classes.
     pub classes: bool,
 }
 
 impl Contents {
-    /// These lines, and the coverage of the faults alone.
+    /// Returns these lines, with only the coverage of the faults.
     pub fn of(lines: Lines) -> Contents
         ensures lines { result.lines ≡ lines }
         ensures classes { result.classes ≡ false }
@@ -49,7 +49,7 @@ impl Contents {
     }
 
     /// Returns the contents of a report with a line for each fault, if `list` is set, and else of
-    /// one with the coverage of the faults alone.
+    /// one with only the coverage of the faults.
     pub fn of_list(list: bool) -> Contents
         ensures { result ≡ contents_of list }
     {

@@ -1,4 +1,4 @@
-//! The curve of a run: how many faults are detected up to each test.
+//! The curve of a run: the number of detected faults after each test.
 
 ghost use Rattle.std.specs.Prelude.{◌≡◌, ◌+◌, ◌-◌, ◌<◌, ◌≤◌, ◌^◌, ℕ, get_or, length, IfErr, IfOk};
 ghost use Rattle.std.specs.Prelude.{OnOk};
@@ -24,21 +24,21 @@ use std::sync::Wait;
 use std::thread::Threads;
 use workers::{OpenGate, Verdicts};
 
-/// A test that is the first to detect some fault, and how many faults are detected by it or by a
-/// test before it. Tests count from 0.
+/// A test that is the first to detect some fault, and the number of faults that this test and the
+/// tests before it detect. Tests count from 0.
 #[derive(Clone, Copy, Debug, PartialEq, Eq)]
 pub struct CurvePoint {
     /// The number of the test.
     pub test: u32,
-    /// How many faults have a first test up to it, before collapsing.
+    /// The number of uncollapsed faults whose first test is this one or an earlier one.
     pub detected: u32,
 }
 
 /// Reads a circuit and tests for it, and writes the curve of the faults of a model: a line `TEST
 /// DETECTED P.PP` for each test that is the first to detect some fault, in order, and then the
-/// coverage line. The work is done as in [`crate::simulate_text_in`].
+/// coverage line. It works as [`crate::simulate_text_in`] does.
 ///
-/// It is refused as [`crate::simulate_text_in`] is, in the same order.
+/// It fails as [`crate::simulate_text_in`] does, in the same order.
 pub fn curve_text_in<R: Threads + Wait, W: Out>(
     rt: &R,
     alloc: Global,
@@ -111,8 +111,8 @@ fn report_curve<R: Threads + Wait, G: Watch + Sync, W: Out>(
     Ok(())
 }
 
-/// The points of the curve of a run over so many tests, in the order of the tests. Tests that
-/// detect no fault first have none.
+/// Returns the points of the curve of a run over this number of tests, in the order of the tests.
+/// Tests that detect no fault first have none.
 ///
 /// It takes 4 bytes for each test, and 8 for each point.
 pub fn curve_of(
@@ -126,7 +126,7 @@ pub fn curve_of(
     points_of(alloc, verdicts, &news)
 }
 
-/// How many faults each of so many tests is the first to detect.
+/// Returns how many faults each of the tests is the first to detect.
 fn news_of(alloc: Global, verdicts: &Verdicts, tests: u32) -> Result<Vec<u32>, AllocError>
     ensures few { length verdicts.now.firsts < 2 ^ 32 }
     ensures count { IfOk result (λ news. length news.items ≡ tests) }
@@ -141,7 +141,7 @@ fn news_of(alloc: Global, verdicts: &Verdicts, tests: u32) -> Result<Vec<u32>, A
     Ok(news)
 }
 
-/// Counts a fault at its first test, where it is one of these tests.
+/// Counts a fault at its first test, if that is one of these tests.
 fn count_first(news: &mut [u32], first: Option<u32>)
     requires { (t : ℕ) → t < length news.old → get_or news.old t 0 < 2 ^ 32 - 1 }
     ensures count { length news.new ≡ length news.old }
@@ -157,7 +157,7 @@ fn count_first(news: &mut [u32], first: Option<u32>)
     }
 }
 
-/// The points of tests of which it is known how many faults each is the first to detect.
+/// Returns the points of tests from how many faults each is the first to detect.
 fn points_of(
     alloc: Global,
     verdicts: &Verdicts,
@@ -181,11 +181,11 @@ fn points_of(
     Ok(points)
 }
 
-/// Writes the points of a curve of the verdicts on a job, a line each, and then the coverage line.
+/// Writes the points of a curve of the verdicts of a job, a line each, and then the coverage line.
 /// It takes no memory.
 ///
-/// Where the output takes nothing more it is refused with [`ReportFault::Write`], and what went
-/// out is a beginning of the text.
+/// If the output takes nothing more, it fails with [`ReportFault::Write`], and the output has a
+/// beginning of the text.
 pub fn write_curve<W: Out>(
     job: &Job,
     verdicts: &Verdicts,
@@ -205,7 +205,7 @@ pub fn write_curve<W: Out>(
     Ok(())
 }
 
-/// Writes a line for each point, where there are so many faults.
+/// Writes a line for each point, for this number of faults.
 fn put_points<W: Out>(points: &[CurvePoint], total: u32, out: &mut W) -> Result<(), OutFailed>
     requires { 0 < total }
     ensures { Writes result (W.seen out.old) (W.seen out.new)
@@ -217,7 +217,7 @@ fn put_points<W: Out>(points: &[CurvePoint], total: u32, out: &mut W) -> Result<
     Ok(())
 }
 
-/// Writes the line of a point, where there are so many faults.
+/// Writes the line of a point, for this number of faults.
 fn put_point<W: Out>(point: CurvePoint, total: u32, out: &mut W) -> Result<(), OutFailed>
     requires { 0 < total }
     ensures { Writes result (W.seen out.old) (W.seen out.new) (point_line total point) }

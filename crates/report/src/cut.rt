@@ -1,11 +1,10 @@
-//! Texts that are cut at a byte, or behind what they begin with.
+//! Cuts of a text at a byte, or after its beginning.
 
 ghost use Rattle.std.specs.Prelude.{◌≡◌, ◌≢◌, ◌++◌, ℕ, List, MatchOption, true, false};
 ghost use Rattle.std.specs.List.{flat_map};
 ghost use Rattle.report.specs.Cut.{IsCutFirst, IsCutLast, Lacks};
 
-/// What stands before the first such byte of a text and what stands after it, or none where the
-/// text lacks it.
+/// Returns the bytes before and after the first such byte of a text, or none if the text lacks it.
 pub(crate) fn cut_first(text: &[u8], byte: u8) -> Option<(&[u8], &[u8])>
     ensures { MatchOption result (Lacks byte text.now)
         (λ cut. IsCutFirst byte text.now cut.0.now cut.1.now) }
@@ -18,8 +17,7 @@ pub(crate) fn cut_first(text: &[u8], byte: u8) -> Option<(&[u8], &[u8])>
     None
 }
 
-/// What stands before the last such byte of a text and what stands after it, or none where the
-/// text lacks it.
+/// Returns the bytes before and after the last such byte of a text, or none if the text lacks it.
 pub(crate) fn cut_last(text: &[u8], byte: u8) -> Option<(&[u8], &[u8])>
     ensures { MatchOption result (Lacks byte text.now)
         (λ cut. IsCutLast byte text.now cut.0.now cut.1.now) }
@@ -34,7 +32,7 @@ pub(crate) fn cut_last(text: &[u8], byte: u8) -> Option<(&[u8], &[u8])>
     None
 }
 
-/// What a text has behind its beginning, or none where it doesn't begin so.
+/// Returns the rest of a text after this beginning, or none if it doesn't begin so.
 pub(crate) fn strip<'a>(text: &'a [u8], front: &[u8]) -> Option<&'a [u8]>
     ensures { MatchOption result ((rest : List ℕ) → text.now ≢ front.now ++ rest)
         (λ rest. text.now ≡ front.now ++ rest.now) }
@@ -42,7 +40,7 @@ pub(crate) fn strip<'a>(text: &'a [u8], front: &[u8]) -> Option<&'a [u8]>
     text.strip_prefix(front)
 }
 
-/// Whether a text is these pieces, one after another.
+/// Returns whether a text is these pieces, one after another.
 pub(crate) fn is_joined(text: &[u8], pieces: &[&str]) -> bool
     ensures yes { result ≡ true → text.now ≡ flat_map (λ p. p.now) pieces.now }
     ensures no { result ≡ false → text.now ≢ flat_map (λ p. p.now) pieces.now }

@@ -1,4 +1,4 @@
-//! How many tests detect each fault, from the bytes of texts to the bytes of a report.
+//! The number of tests that detect each fault, from the bytes of files to the bytes of a report.
 
 ghost use Rattle.std.specs.Prelude.{◌≡◌, ◌<◌, ◌≤◌, ◌^◌, ◌++◌, IfErr, IfOk, OnOk, Some, length};
 ghost use Rattle.std.specs.Prelude.{slice_get, zip};
@@ -25,10 +25,10 @@ use std::thread::Threads;
 use workers::{MAX_WORKERS, RunFault};
 
 /// Reads a circuit and tests for it, and writes how many tests detect each fault of a model: with
-/// `list` a line for each fault, and then how many faults at least `most` tests detect. No more
-/// than `most` are counted of a fault.
+/// `list` a line for each fault, and then how many faults at least `most` tests detect. The count
+/// of a fault ends at `most`.
 ///
-/// It is refused as [`crate::simulate_text_in`] is, in the same order.
+/// It fails as [`crate::simulate_text_in`] does, in the same order.
 pub fn detections_text_in<R: Threads + Wait, W: Out>(
     rt: &R,
     alloc: Global,
@@ -120,8 +120,8 @@ pub(crate) fn counts_of<R: Threads + Wait>(
     }
 }
 
-/// Writes the report of how many tests detect each fault of a job: with `listed` a line for each,
-/// and then how many faults at least `most` tests detect. It takes no memory.
+/// Writes the report of how many tests detect each fault of a job: with `listed` a line for each
+/// fault, and then how many faults at least `most` tests detect. It takes no memory.
 pub fn write_detections<W: Out>(
     job: &Job,
     counts: &[u32],
@@ -146,7 +146,7 @@ pub fn write_detections<W: Out>(
     Ok(())
 }
 
-/// How many faults of a list at least so many tests detect.
+/// Returns how many faults of a list at least this number of tests detect.
 fn count_reached(list: &Faults, counts: &[u32], most: u32) -> u32
     requires count { length counts.now ≡ length list.now.list }
     ensures { result ≡ reached_count most counts.now }
@@ -155,7 +155,7 @@ fn count_reached(list: &Faults, counts: &[u32], most: u32) -> u32
     counts.iter().filter(|count| most <= **count).count() as u32
 }
 
-/// Writes a line for each fault: the fault, and how many tests detect it.
+/// Writes a line for each fault: the fault, and the number of tests that detect it.
 fn put_lines<W: Out>(
     circuit: &Circuit,
     list: &Faults,
@@ -176,7 +176,7 @@ fn put_lines<W: Out>(
     Ok(())
 }
 
-/// The count of a fault.
+/// Returns the count of a fault.
 fn count_at(counts: &[u32], fault: u32) -> u32
     requires { fault < length counts.now }
     ensures { slice_get counts.now fault ≡ Some result }

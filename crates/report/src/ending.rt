@@ -1,4 +1,4 @@
-//! The end of a merge: which part is missing, which fault is of no part, and the report.
+//! The end of a merge: the missing part, the fault that no part contains, and the report.
 
 ghost use Rattle.std.specs.Prelude.{◌≡◌, ◌<◌, ◌^◌, [], ◌∷◌, ◌++◌, Contains, IfErr, IfOk};
 ghost use Rattle.std.specs.Prelude.{MatchOption, OnOk, length, map, zip};
@@ -19,7 +19,7 @@ use output::{Out, OutFailed, put_all, put_pieces};
 use std::alloc::{AllocError, Global};
 use workers::PartVerdict;
 
-/// The lowest of so many parts, counted from 0, that is not among those that are there.
+/// Returns the lowest of this number of parts, counted from 0, that is missing.
 pub(crate) fn missing_part(seen: &[u32], parts: u32) -> Option<u32>
     ensures { MatchOption result (HasParts seen.now parts)
         (λ part. (part < parts) × HasParts seen.now part × (Contains seen.now part → ⊥)) }
@@ -32,7 +32,8 @@ pub(crate) fn missing_part(seen: &[u32], parts: u32) -> Option<u32>
     None
 }
 
-/// The first tests in verdicts. The line of the first fault that is of no part is refused.
+/// Returns the first tests in verdicts. It fails with the line of the first fault that no part
+/// contains.
 pub(crate) fn firsts_of(
     alloc: Global,
     verdicts: &[PartVerdict],
@@ -50,15 +51,15 @@ pub(crate) fn firsts_of(
     Ok(firsts)
 }
 
-/// Adds a first test to those that are there.
+/// Adds a first test to a list.
 fn add_first(firsts: &mut Vec<Option<u32>>, first: Option<u32>) -> Result<(), AllocError>
     ensures { OnOk result (firsts.new.items ≡ firsts.old.items ++ first ∷ []) }
 {
     Ok(firsts.push(first)?)
 }
 
-/// Writes the line of the report for a fault, given by its name: the fault, and the first test that
-/// detects it or `none`.
+/// Writes the line of the report for a fault, given by its name: the fault, and its first detecting
+/// test or `none`.
 fn put_name_line<W: Out>(name: &[u8], first: Option<u32>, out: &mut W) -> Result<(), OutFailed>
     ensures { Writes result (W.seen out.old) (W.seen out.new) (name_line (name.now, first)) }
 {
@@ -72,7 +73,7 @@ fn put_name_line<W: Out>(name: &[u8], first: Option<u32>, out: &mut W) -> Result
     }
 }
 
-/// Writes the line of a fault, given by its name, where it is asked for.
+/// Writes the line of a fault, given by its name, if it is requested.
 fn put_wanted_name<W: Out>(
     name: &[u8],
     first: Option<u32>,
@@ -88,7 +89,7 @@ fn put_wanted_name<W: Out>(
     put_name_line(name, first, out)
 }
 
-/// Writes the faults that are asked for, each with the first test that detects it, or `none`.
+/// Writes the requested faults, each with its first detecting test, or `none`.
 fn put_names<W: Out>(
     faults: &[&[u8]],
     firsts: &[Option<u32>],
@@ -105,11 +106,11 @@ fn put_names<W: Out>(
     Ok(())
 }
 
-/// Writes the report of a whole run, as a run without parts writes it: the faults that are asked
-/// for, each with the first test that detects it, then the coverage line. It takes no memory.
+/// Writes the report of a whole run, as a run without parts does: the requested faults, each with
+/// its first detecting test, then the coverage line. It takes no memory.
 ///
-/// Where the output takes nothing more it is refused with [`ReportFault::Write`], and what went
-/// out is a beginning of the report.
+/// If the output takes nothing more, it fails with [`ReportFault::Write`], and the output has a
+/// beginning of the report.
 pub fn write_merged<W: Out>(
     merged: &Merged<'_>,
     lines: Lines,

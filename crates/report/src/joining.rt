@@ -1,4 +1,4 @@
-//! What the texts of parts have to share, and their verdicts put together.
+//! The common data of part files, and their verdicts joined.
 
 ghost use Rattle.std.specs.Prelude.{◌≡◌, ◌≢◌, ◌+◌, ◌<◌, [], ◌∷◌, ◌++◌, ℕ, true, false, length};
 ghost use Rattle.std.specs.Prelude.{slice_get, Contains, IfErr, IfOk, IfNone, IfSome, OnOk};
@@ -10,49 +10,49 @@ use std::alloc::AllocError;
 use thiserror::Error;
 use workers::PartVerdict;
 
-/// Why texts are not put together.
+/// An error of merging part files.
 #[derive(Clone, Copy, Debug, PartialEq, Eq, Error)]
 pub enum MergeFault {
-    /// It is not the text of a part.
+    /// It is not a part file.
     #[error("{0}")]
     Part(PartFault),
-    /// It is of a run under another model.
+    /// Its run has another model.
     #[error("of another model")]
     OtherModel,
-    /// It is of a run in parts that another rule makes.
+    /// Its run has another rule of parts.
     #[error("of another rule")]
     OtherRule,
-    /// It is of a run of another bench text or another test text.
+    /// Its run has another bench file or another test file.
     #[error("of other inputs")]
     OtherInputs,
-    /// It is of a run in another number of parts.
+    /// Its run has another number of parts.
     #[error("of another number of parts")]
     OtherCount,
-    /// It is of a part, counted from 1, that is there already.
+    /// Its part, counted from 1, is there already.
     #[error("part {0} again")]
     Again(u64),
-    /// At this line, counted from 1, it has another fault than the texts before it, or a fault that
-    /// one of them has.
+    /// At this line, counted from 1, its fault differs from the files before it, or one of them
+    /// already has the fault.
     #[error("line {0}: another fault")]
     Differs(u64),
-    /// This part, counted from 1, is not there.
+    /// This part, counted from 1, is missing.
     #[error("part {0} is missing")]
     Missing(u64),
-    /// The fault at this line of the texts, counted from 1, is of no part.
+    /// No part contains the fault at this line of the files, counted from 1.
     #[error("line {0}: a fault of no part")]
     NoPart(u64),
-    /// The texts have no fault. Each circuit has one.
+    /// The files have no fault. Each circuit has one.
     #[error("no fault")]
     NoFault,
-    /// The texts have more faults than 32 bits count.
+    /// The files have more faults than 32 bits count.
     #[error("more than 4294967295 faults")]
     TooManyFaults,
-    /// Memory is refused.
+    /// Memory ran out.
     #[error("out of memory")]
     Memory,
 }
 
-/// Whether a first line is of the same run as another.
+/// Checks that a first line is from the same run as another.
 pub(crate) fn check_run(header: &PartHeader<'_>, other: &PartHeader<'_>) -> Result<(), MergeFault>
     ensures run { OnOk result (AreOfOneRun (head_in header.now) (head_in other.now)) }
     ensures refused { IfErr result (IsOtherRun (head_in header.now) (head_in other.now)) }
@@ -72,7 +72,7 @@ pub(crate) fn check_run(header: &PartHeader<'_>, other: &PartHeader<'_>) -> Resu
     Ok(())
 }
 
-/// Whether a part is not among those that are there.
+/// Checks that a part isn't there already.
 pub(crate) fn check_new(seen: &[u32], part: u32) -> Result<(), MergeFault>
     ensures fresh { OnOk result (Contains seen.now part → ⊥) }
     ensures refused { IfErr result (λ fault. (fault ≡ MergeFault.Again (part + 1))
@@ -84,7 +84,7 @@ pub(crate) fn check_new(seen: &[u32], part: u32) -> Result<(), MergeFault>
     Ok(())
 }
 
-/// Whether two texts are the same.
+/// Returns whether two texts are the same.
 pub(crate) fn is_same(text: &[u8], other: &[u8]) -> bool
     ensures yes { result ≡ true → text.now ≡ other.now }
     ensures no { result ≡ false → text.now ≢ other.now }
@@ -92,8 +92,7 @@ pub(crate) fn is_same(text: &[u8], other: &[u8]) -> bool
     text == other
 }
 
-/// Puts the verdicts of another part in, each where the fault is of that part. Where both have a
-/// fault, its line is refused.
+/// Joins the verdicts of another part. It fails with the line of the first fault that both have.
 pub(crate) fn join(verdicts: &mut [PartVerdict], others: &[PartVerdict]) -> Result<(), MergeFault>
     requires { length verdicts.old ≡ length others.now }
     ensures joined { OnOk result (AreJoined verdicts.old others.now verdicts.new) }
@@ -110,8 +109,8 @@ pub(crate) fn join(verdicts: &mut [PartVerdict], others: &[PartVerdict]) -> Resu
     Ok(())
 }
 
-/// Whether the faults of another part have the same names. The line of the first other name is
-/// refused, or that of the first fault that one of both doesn't have.
+/// Checks that the faults of another part have the same names. It fails with the line of the first
+/// other name, or of the first fault that only one of both has.
 pub(crate) fn check_names(faults: &[&[u8]], others: &[&[u8]]) -> Result<(), MergeFault>
     ensures same { OnOk result (texts_in faults.now ≡ texts_in others.now) }
     ensures refused { IfErr result (λ fault. (k : ℕ) × (fault ≡ MergeFault.Differs (k + 2))
@@ -152,7 +151,7 @@ impl From<AllocError> for MergeFault {
     }
 }
 
-/// Adds a part to those that are there.
+/// Adds a part to the list of parts.
 pub(crate) fn add_part(seen: &mut Vec<u32>, part: u32) -> Result<(), AllocError>
     ensures { OnOk result (seen.new.items ≡ seen.old.items ++ part ∷ []) }
 {

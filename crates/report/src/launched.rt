@@ -1,4 +1,4 @@
-//! The pairs of launch on capture, from the bytes of texts to the bytes of rows.
+//! Launch-on-capture pairs, from the bytes of files to the bytes of rows.
 
 ghost use Rattle.std.specs.Prelude.{IfErr};
 ghost use Rattle.report.specs.EndToEnd.{WritesOneOf};
@@ -11,12 +11,11 @@ use pairs::launch_pairs;
 use patterns::write_tests;
 use std::alloc::Global;
 
-/// Reads a circuit and tests for it, and writes the pairs of launch on capture as a test text: for
+/// Reads a circuit and tests for it, and writes the launch-on-capture pairs as a test file: for
 /// each test two rows, the test itself and its capture test ([`pairs::launch_pairs`]).
 ///
-/// It is refused as [`crate::responses_text_in`] is, and with [`patterns::TestFault::TooMany`]
-/// where the pairs are more rows than a test text may have. Nothing is written before all pairs are
-/// there.
+/// It fails as [`crate::responses_text_in`] does, and with [`patterns::TestFault::TooMany`] if the
+/// pairs are more rows than a test file may have. It writes nothing before all pairs are there.
 pub fn pairs_text_in<W: Out>(
     alloc: Global,
     bench: &[u8],

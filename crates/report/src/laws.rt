@@ -1,4 +1,4 @@
-//! The laws of part texts, of their merge and its report, and of the coverage of classes.
+//! Laws of part files, of their merge and its report, and of the coverage of classes.
 
 ghost use Rattle.std.specs.Prelude.{◌≡◌, ◌<◌, ◌^◌, ◌∷◌, ◌++◌, ℕ, All, List, Option, Some, false};
 ghost use Rattle.std.specs.Prelude.{length, map, true};
@@ -34,21 +34,22 @@ ghost use Rattle.report.specs.declared.contents.Lines.{Lines};
 use bench_net::one_answer;
 use fault_model::laws::{collapsing, stems};
 
-/// A text is the part text of one first line, of one list of faults and of one list of verdicts.
+/// States that a file is the part file of only one first line, one list of faults and one list of
+/// verdicts.
 pub fn one_part_text()
     ensures { (text : List ℕ) (h k : PartHead) (faults others : List (List ℕ))
         (verdicts more : List PartVerdict) → IsPart text h faults verdicts
         → IsPart text k others more → (h ≡ k) × (faults ≡ others) × (verdicts ≡ more) }
 {}
 
-/// A part text is refused for want of memory alone.
+/// States that reading a part file fails only for memory.
 pub fn no_refusal_of_part_text()
     ensures { (text : List ℕ) (h : PartHead) (faults : List (List ℕ))
         (verdicts : List PartVerdict) (refusal : PartFault) → IsPart text h faults verdicts
         → IsPartRefusal text refusal → refusal ≡ fault.Memory }
 {}
 
-/// The classes that a report counts: the first test of a class is that of each of its faults.
+/// States that the first test of a class is the first test of each of its faults.
 pub fn class_firsts_are()
     ensures { (m : Model) (c : List Statement) (tests : List Test) (classes : Collapsed)
         (firsts : List (Option ℕ)) (f : Fault) (class : ℕ) (first : Option ℕ) → IsCircuit c
@@ -57,14 +58,14 @@ pub fn class_firsts_are()
         → IsFirst c tests f first }
 {}
 
-/// The report of the names of a circuit's faults is that of the circuit.
+/// States that the report of the names of a circuit's faults is the report of the circuit.
 pub fn one_report()
     ensures { (m : Model) (c : List Statement) (firsts : List (Option ℕ)) (lines : Lines)
         → report_text (map (fault_text c) (faults m c)) firsts lines ≡ report m c firsts lines }
 {}
 
-/// What is written as the text of a part of a run is a part text. Read, it says which part of what
-/// it is, the names of the circuit's faults, and the verdicts of the run over the part.
+/// States that the output of a part of a run is a part file. It is read as the part and its run,
+/// the names of the circuit's faults, and the verdicts of the run over the part.
 pub fn part_text_is_read()
     ensures { (m : Model) (bench text : List ℕ) (part parts : ℕ) (bytes : List ℕ)
         → part < parts → parts < 2 ^ 32 → IsPartTextOf m bench text part parts bytes
@@ -74,9 +75,9 @@ pub fn part_text_is_read()
         (map (fault_text job.circuit) (faults m job.circuit)) verdicts }
 {}
 
-/// The report of a merge. The first text is that of a part of a run, each other that of a part of
-/// this run or of one that the sums tell from it. Where their merge ends well, its report is that
-/// of the run's bench text and test text under its model.
+/// States the report of a merge. Its first file is a part of a run, each other file a part of this
+/// run or of one that the sums distinguish from it. If the merge succeeds, its report is the report
+/// of the run's bench file and test file under its model.
 pub fn merged_report()
     ensures { (run : PartedRun) (first : List ℕ) (others : List (List ℕ)) (merged : MergedRun)
         (lines : Lines) → IsSomePartOf run first → All (IsSomePartToldFrom run) others
@@ -113,8 +114,8 @@ pub fn merged_firsts()
     one_answer();
 }
 
-/// A merge of the texts of all parts of a run, of each part once and in any order, is refused for
-/// want of memory alone.
+/// States that a merge of the files of all parts of a run, each part once and in any order, fails
+/// only for memory.
 pub fn no_refusal_of_merge()
     ensures { (run : PartedRun) (first : List ℕ) (others : List (List ℕ)) (refusal : MergeFault)
         → AreAllPartsOf run (first ∷ others) → IsRefusedMerge first others refusal

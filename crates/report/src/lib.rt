@@ -1,10 +1,10 @@
-//! From the bytes of a bench text and a test text to the bytes of the report, and to those of the
-//! listing.
+//! From the bytes of a bench file and a test file to the bytes of the report, and of the list of
+//! faults and classes.
 //!
-//! [`simulate_text`] tells which test of a list first detects each fault of a circuit, and the
-//! fault coverage, by workers in threads; [`schedule_text`] tells the same by one thread, which
-//! makes the moves of an order text. [`faults_text`] lists the faults with their classes. All write
-//! to an [`Out`], and their contracts say which bytes.
+//! [`simulate_text`] writes the first test of a list that detects each fault of a circuit, and the
+//! fault coverage, by workers in threads. [`schedule_text`] writes the same in one thread, which
+//! makes the moves of an order file. [`faults_text`] lists the faults with their classes. All write
+//! to an [`Out`], and their contracts define the bytes.
 #![tactic(auto)]
 
 mod compacted;

@@ -1,4 +1,4 @@
-//! The report of a whole run from the texts of its parts.
+//! The report of a whole run from its part files.
 
 ghost use Rattle.std.specs.Prelude.{◌≡◌, length};
 
@@ -9,7 +9,7 @@ use crate::part_reader::{PartHeader, PartText, read_part};
 use std::alloc::Global;
 use workers::PartVerdict;
 
-/// What the texts of some parts of a run say together.
+/// The joined content of some part files of a run.
 #[derive(Drop)]
 pub struct Merge<'a> {
     header: PartHeader<'a>,
@@ -24,7 +24,7 @@ impl<'a> Merge<'a> {
     ghost use Rattle.report.specs.Merging.{IsEndRefusal, IsFirstMerged, IsFirstRefusal, IsMerged};
     ghost use Rattle.report.specs.Merging.{IsMergeRefusal, IsWholeRun, run_of, state_of};
 
-    /// What the text of one part says. The text is kept in use for the names of the faults.
+    /// Begins with the file of one part. The file stays in use for the names of the faults.
     pub fn of(alloc: Global, text: &'a [u8]) -> Result<Merge<'a>, MergeFault>
         ensures merged { IfOk result (λ merge. IsFirstMerged text.now (state_of merge)) }
         ensures refused { IfErr result (IsFirstRefusal text.now) }
@@ -44,15 +44,15 @@ impl<'a> Merge<'a> {
         })
     }
 
-    /// Puts the text of one more part to what is there.
+    /// Adds the file of one more part.
     ///
     /// # Errors
     ///
-    /// [`MergeFault::Part`] if the text is not that of a part; then why it is of another run:
+    /// [`MergeFault::Part`] if it is not a part file. Then the difference of its run:
     /// [`MergeFault::OtherModel`], [`MergeFault::OtherRule`], [`MergeFault::OtherInputs`] or
-    /// [`MergeFault::OtherCount`]; then [`MergeFault::Again`] if its part is there already, and
-    /// [`MergeFault::Differs`] if its faults are others, or one of them is of a part that is there.
-    /// [`MergeFault::Memory`] may come in place of any of them.
+    /// [`MergeFault::OtherCount`]. Then [`MergeFault::Again`] if its part is there already, and
+    /// [`MergeFault::Differs`] if its faults differ, or one of them is in a part that is there.
+    /// [`MergeFault::Memory`] may come instead of any of them.
     pub fn add(self, alloc: Global, text: &[u8]) -> Result<Merge<'a>, MergeFault>
         ensures merged { IfOk result (λ merge.
             IsMerged (state_of self.entry) text.now (state_of merge)) }
@@ -78,9 +78,9 @@ impl<'a> Merge<'a> {
         })
     }
 
-    /// What the texts of all parts of a run say: each fault with its first test. The lowest part
-    /// that is not there is refused, then the first fault that is of no part, and then a number of
-    /// faults that is none of a circuit.
+    /// Ends the merge: returns each fault of the run with its first test. It fails for the lowest
+    /// missing part, then for the first fault that no part contains, and then for a number of
+    /// faults that no circuit has.
     pub fn end(self, alloc: Global) -> Result<Merged<'a>, MergeFault>
         ensures merged { IfOk result (λ merged.
             IsWholeRun (state_of self.entry) (run_of merged)) }

@@ -1,4 +1,4 @@
-//! What the texts of all parts of a run say.
+//! The joined content of all part files of a run.
 
 ghost use Rattle.std.specs.Prelude.{◌≡◌, ◌<◌, ◌^◌, Some, length, slice_get};
 
@@ -16,7 +16,7 @@ impl<'a> Merged<'a> {
     ghost use Rattle.report.specs.Merging.{run_of};
     ghost use Rattle.workers.specs.Verdict.{detected_count};
 
-    /// Faults with their first tests.
+    /// Makes the list of faults with their first tests.
     pub(crate) fn of(faults: Vec<&'a [u8]>, firsts: Vec<Option<u32>>) -> Merged<'a>
         requires same { length firsts.items ≡ length faults.items }
         requires some { 0 < length firsts.items }
@@ -50,14 +50,14 @@ impl<'a> Merged<'a> {
         self.firsts[fault as usize]
     }
 
-    /// The names of the faults.
+    /// Returns the names of the faults.
     pub(crate) fn faults(&self) -> &[&'a [u8]]
         ensures { result.now ≡ self.now.faults.items }
     {
         self.faults.as_slice()
     }
 
-    /// The first tests.
+    /// Returns the first tests.
     pub(crate) fn firsts(&self) -> &[Option<u32>]
         ensures { result.now ≡ self.now.firsts.items }
     {

@@ -1,4 +1,4 @@
-//! From the bytes of texts to the text of one part of a run.
+//! From the bytes of files to the file of one part of a run.
 
 ghost use Rattle.std.specs.Prelude.{◌≡◌, ◌<◌, ◌≤◌, ◌++◌, ◌+◌, count_by, length};
 ghost use Rattle.std.specs.Prelude.{slice_get};
@@ -30,18 +30,17 @@ use std::sync::Wait;
 use std::thread::Threads;
 use workers::{OpenGate, PartVerdict, part_of, run_part};
 
-/// The rule by which parts are made, as a part text names it: by the stem of a class's region.
+/// The rule of parts, as a part file names it: by the stem of a class's region.
 const RULE: &str = "region";
 
-/// Reads a circuit and tests for it, runs one part of the fault classes, counted from 0, of so
-/// many, and writes its part text: which part of what it is, each fault of the list with the first
-/// test that detects it, with `none`, or with `-` where the fault is of another part, and then how
-/// many faults of the part are detected. The work is done as in [`crate::simulate_text_in`].
+/// Reads a circuit and tests for it, runs one part of the fault classes, counted from 0, of this
+/// number of parts, and writes its part file. That has the part and its run, and each fault of the
+/// list with its first detecting test, with `none`, or with `-` if the fault is in another part,
+/// and then how many faults of the part are detected. It works as [`crate::simulate_text_in`] does.
 ///
-/// It is refused as [`crate::simulate_text_in`] is, in the same order, but for the number of
-/// pieces: that of the whole has no limit, and the run is refused with
-/// [`workers::RunFault::TooManyPieces`] where the part has too many. The number of workers is
-/// looked at before the pieces.
+/// It fails as [`crate::simulate_text_in`] does, in the same order, except for the number of
+/// pieces. The whole has no limit: it fails with [`workers::RunFault::TooManyPieces`] if the part
+/// has too many. It checks the number of workers before the pieces.
 pub fn part_text_in<R: Threads + Wait, W: Out>(
     rt: &R,
     alloc: Global,
@@ -65,12 +64,12 @@ pub fn part_text_in<R: Threads + Wait, W: Out>(
     )
 }
 
-/// Reads a circuit and tests for it, and writes the part text that [`part_text_in`] writes, with
-/// the same bytes. The gate is told when the run of the part begins and when it ends, and is asked
-/// before each piece of work; it decides nothing of the text but whether there is one.
+/// Reads a circuit and tests for it, and writes the part file as [`part_text_in`] does, with the
+/// same bytes. The gate learns when the run of the part begins and when it ends, and is asked
+/// before each piece of work. It only decides whether there is a part file.
 ///
-/// It is refused as [`part_text_in`] is, and where the gate stops workers and not all classes of
-/// the part are settled with [`workers::RunFault::Unfinished`].
+/// It fails as [`part_text_in`] does. If the gate stops workers and not all classes of the part are
+/// settled, it fails with [`workers::RunFault::Unfinished`].
 pub fn part_text_watched<R: Threads + Wait, G: Watch + Sync, W: Out>(
     rt: &R,
     alloc: Global,
@@ -104,7 +103,7 @@ pub fn part_text_watched<R: Threads + Wait, G: Watch + Sync, W: Out>(
     report_part(rt, alloc, &job, &head, workers, gate, out)
 }
 
-/// What a part text says of its part in the first line. Parts count from 0.
+/// The data of the first line of a part file. Parts count from 0.
 #[derive(Clone, Copy)]
 struct Head<'a> {
     part: u32,
@@ -133,7 +132,7 @@ pub fn sum_of(alloc: Global, text: &[u8]) -> Result<String, AllocError>
     encode(alloc, Sha256::digest(text))
 }
 
-/// How many classes of a job are of a part.
+/// Returns how many classes of a job are in a part.
 fn count_classes(job: &Job, part: u32, parts: u32) -> u32
     requires { part < parts }
 {
@@ -146,8 +145,8 @@ fn count_classes(job: &Job, part: u32, parts: u32) -> u32
     count
 }
 
-/// Runs a part of a job by workers in threads of their own, and writes its part text. The gate is
-/// told when the run begins and when all is settled.
+/// Runs a part of a job by workers in threads of their own, and writes its part file. The gate
+/// learns when the run begins and when all is settled.
 fn report_part<R: Threads + Wait, G: Watch + Sync, W: Out>(
     rt: &R,
     alloc: Global,
@@ -174,7 +173,7 @@ fn report_part<R: Threads + Wait, G: Watch + Sync, W: Out>(
     Ok(())
 }
 
-/// Writes the part text of the verdicts of faults. It takes no memory.
+/// Writes the part file of the verdicts of faults. It takes no memory.
 fn write_part<W: Out>(
     circuit: &Circuit,
     list: &Faults,
@@ -239,7 +238,7 @@ fn put_verdicts<W: Out>(
     Ok(())
 }
 
-/// The verdict on a fault.
+/// Returns the verdict on a fault.
 fn verdict_at(verdicts: &[PartVerdict], fault: u32) -> PartVerdict
     requires { fault < length verdicts.now }
     ensures { slice_get verdicts.now fault ≡ Some result }
@@ -247,8 +246,8 @@ fn verdict_at(verdicts: &[PartVerdict], fault: u32) -> PartVerdict
     verdicts[fault as usize]
 }
 
-/// What is said of a fault: the first test that detects it, `none`, or `-` where it is of another
-/// part.
+/// Returns the word for a verdict: the first detecting test, `none`, or `-` if the fault is in
+/// another part.
 fn verdict_text(verdict: PartVerdict, number: &mut Buffer) -> &str
     ensures { result.now ≡ verdict_text verdict }
 {
@@ -258,7 +257,7 @@ fn verdict_text(verdict: PartVerdict, number: &mut Buffer) -> &str
     }
 }
 
-/// Whether a fault is of the part.
+/// Returns whether a fault is in the part.
 fn is_own(verdict: &PartVerdict) -> bool
     ensures { result ≡ is_own verdict.now }
 {
@@ -268,7 +267,7 @@ fn is_own(verdict: &PartVerdict) -> bool
     }
 }
 
-/// Whether a fault is of the part, and a test detects it.
+/// Returns whether a fault is in the part, and a test detects it.
 fn is_found(verdict: &PartVerdict) -> bool
     ensures { result ≡ is_found verdict.now }
 {
@@ -278,21 +277,21 @@ fn is_found(verdict: &PartVerdict) -> bool
     }
 }
 
-/// How many faults of the part a test detects.
+/// Returns how many faults of the part a test detects.
 pub(crate) fn count_found(verdicts: &[PartVerdict]) -> usize
     ensures { result ≡ count_by is_found verdicts.now }
 {
     verdicts.iter().filter(|verdict| is_found(verdict)).count()
 }
 
-/// How many faults are of the part.
+/// Returns how many faults are in the part.
 pub(crate) fn count_own(verdicts: &[PartVerdict]) -> usize
     ensures { result ≡ count_by is_own verdicts.now }
 {
     verdicts.iter().filter(|verdict| is_own(verdict)).count()
 }
 
-/// Writes the last line: how many faults of the part are detected, and how many there are.
+/// Writes the last line: how many faults of the part are detected, and their number.
 fn put_end<W: Out>(
     part: u32,
     parts: u32,

@@ -1,4 +1,4 @@
-//! The reader of part texts.
+//! The reader of part files.
 
 ghost use Rattle.std.specs.Prelude.{◌≡◌, ◌≢◌, ◌+◌, ◌-◌, ◌<◌, ◌^◌, ◌∷◌, ◌++◌, ℕ, List, [], OnOk};
 ghost use Rattle.std.specs.Prelude.{true, false, IfErr, IfOk, MatchOption, MatchResult, codes};
@@ -18,44 +18,44 @@ use std::str::from_utf8;
 use thiserror::Error;
 use workers::PartVerdict;
 
-/// What the first line of a part text says. The part counts from 0; the rest are words.
+/// The content of the first line of a part file. The part counts from 0; the rest are words.
 #[derive(Clone, Copy, Debug)]
 pub struct PartHeader<'a> {
     pub part: u32,
     pub parts: u32,
     pub model: &'a [u8],
     pub rule: &'a [u8],
-    /// The sum of the bench text.
+    /// The sum of the bench file.
     pub bench: &'a [u8],
-    /// The sum of the test text.
+    /// The sum of the test file.
     pub tests: &'a [u8],
 }
 
-/// What a part text says.
+/// The content of a part file.
 #[derive(Drop)]
 pub struct PartText<'a> {
     pub header: PartHeader<'a>,
     /// The text of each fault.
     pub faults: Vec<&'a [u8]>,
-    /// The verdict on each fault.
+    /// The verdict of each fault.
     pub verdicts: Vec<PartVerdict>,
 }
 
-/// Why a text is not read as a part text.
+/// An error of a part file.
 #[derive(Clone, Copy, Debug, PartialEq, Eq, Error)]
 pub enum PartFault {
-    /// This line, counted from 1, is none of a part text.
+    /// This line, counted from 1, doesn't belong in a part file.
     #[error("line {0}: not a part text")]
     NotAPart(u64),
-    /// The text ends before its last line does.
+    /// The file ends before its last line does.
     #[error("cut off")]
     CutOff,
-    /// Memory is refused.
+    /// Memory ran out.
     #[error("out of memory")]
     Memory,
 }
 
-/// The number that decimal digits stand for, without a leading zero and in 32 bits.
+/// Returns the number of decimal digits without a leading zero, if it has 32 bits.
 fn number_of(word: &[u8]) -> Option<u32>
     ensures { MatchOption result ((n : ℕ) → n < 2 ^ 32 → word.now ≢ decimal n)
         (λ n. word.now ≡ decimal n) }
@@ -74,7 +74,7 @@ fn number_of(word: &[u8]) -> Option<u32>
     }
 }
 
-/// The verdict that a word stands for.
+/// Returns the verdict of a word.
 fn verdict_of(word: &[u8]) -> Option<PartVerdict>
     ensures { MatchOption result ((v : PartVerdict) → IsVerdict v → word.now ≢ verdict_text v)
         (λ v. IsVerdict v × (word.now ≡ verdict_text v)) }
@@ -89,7 +89,7 @@ fn verdict_of(word: &[u8]) -> Option<PartVerdict>
     Some(PartVerdict::First(Some(test)))
 }
 
-/// A field of the first line, cut into its word and what follows behind a space.
+/// Cuts a field of the first line into its word and the bytes after the space.
 fn field<'a>(text: &'a [u8], name: &[u8]) -> Option<(&'a [u8], &'a [u8])>
     ensures { MatchOption result
         ((word rest : List ℕ) → Lacks 32 word → text.now ≢ name.now ++ (word ++ 32 ∷ rest))
@@ -108,7 +108,7 @@ struct Words<'a> {
     tests: &'a [u8],
 }
 
-/// The words of a first line from the model on, given the line from there.
+/// Returns the words of a first line from the model on, given the line from there.
 fn words_of(text: &[u8]) -> Option<Words<'_>>
     requires { Lacks 10 text.now }
     ensures { MatchOption result
@@ -130,7 +130,7 @@ fn words_of(text: &[u8]) -> Option<Words<'_>>
     }
 }
 
-/// Which part it is, counted from 0, of how many, given as words.
+/// Returns the part, counted from 0, and the number of parts, given as words.
 fn place_of(part: &[u8], parts: &[u8]) -> Option<(u32, u32)>
     ensures { MatchOption result
         ((i n : ℕ) → i < n → n < 2 ^ 32 → part.now ≡ decimal (i + 1) → parts.now ≢ decimal n)
@@ -146,7 +146,7 @@ fn place_of(part: &[u8], parts: &[u8]) -> Option<(u32, u32)>
     Some((before, count))
 }
 
-/// What a first line says, given without its line feed.
+/// Returns the content of a first line, given without its line feed.
 fn header_of(line: &[u8]) -> Option<PartHeader<'_>>
     requires { Lacks 10 line.now }
     ensures { MatchOption result
@@ -167,7 +167,7 @@ fn header_of(line: &[u8]) -> Option<PartHeader<'_>>
     })
 }
 
-/// The fault and the verdict of a line, given without its line feed.
+/// Returns the fault and the verdict of a line, given without its line feed.
 fn line_of(line: &[u8]) -> Option<(&[u8], PartVerdict)>
     requires { Lacks 10 line.now }
     ensures { MatchOption result (IsNoFaultLine line.now)
@@ -182,8 +182,8 @@ fn line_of(line: &[u8]) -> Option<(&[u8], PartVerdict)>
     }
 }
 
-/// Whether a line, given without its line feed, is the last line of a part text with this first
-/// line and these verdicts.
+/// Returns whether a line, given without its line feed, is the last line of a part text with this
+/// first line and these verdicts.
 fn is_end(line: &[u8], header: &PartHeader<'_>, verdicts: &[PartVerdict]) -> bool
     ensures yes { result ≡ true
         → line.now ++ codes "\n" ≡ end_of (head_in header.now) verdicts.now }
@@ -207,15 +207,15 @@ fn is_end(line: &[u8], header: &PartHeader<'_>, verdicts: &[PartVerdict]) -> boo
     is_joined(line, &pieces)
 }
 
-/// Reads a part text. What is read is what the text spells, and a part text is refused for want of
-/// memory alone.
+/// Reads a part file. It returns what the file spells, and for a part file it fails only for
+/// memory.
 ///
 /// # Errors
 ///
-/// The first line at fault decides, counted from 1: it is [`PartFault::NotAPart`], a line behind
-/// the last one too. A text whose last line lacks its line feed, or that ends before the line with
-/// the counts, is [`PartFault::CutOff`]. [`PartFault::Memory`] may come in place of any answer,
-/// where memory ran out.
+/// The first line with an error decides, counted from 1: it is [`PartFault::NotAPart`], also for a
+/// line after the last one. A file whose last line lacks its line feed, or that ends before the
+/// line with the counts, is [`PartFault::CutOff`]. [`PartFault::Memory`] may come instead of any
+/// result, if memory ran out.
 pub fn read_part(alloc: Global, text: &[u8]) -> Result<PartText<'_>, PartFault>
     ensures read { IfOk result (λ part. IsPart text.now (head_in part.header)
         (texts_in part.faults.items) part.verdicts.items) }
@@ -234,7 +234,7 @@ pub fn read_part(alloc: Global, text: &[u8]) -> Result<PartText<'_>, PartFault>
     read_lines(alloc, text, header, rest)
 }
 
-/// Reads the lines of a part text behind the first.
+/// Reads the lines of a part file after the first.
 fn read_lines<'a>(
     alloc: Global,
     text: &'a [u8],
@@ -271,8 +271,9 @@ fn read_lines<'a>(
     Err(PartFault::CutOff)
 }
 
-/// Whether a line of this number, given without its line feed, is the last line of a part text with
-/// this first line and these verdicts, and nothing stands behind it. The line at fault is refused.
+/// Checks that a line of this number, given without its line feed, is the last line of a part file
+/// with this first line and these verdicts, and that no line follows it. It fails with the line
+/// that has the error.
 fn check_end(
     line: &[u8],
     after: &[u8],
@@ -295,7 +296,7 @@ fn check_end(
     Ok(())
 }
 
-/// Adds a fault and the verdict on it.
+/// Adds a fault and its verdict.
 fn add_line<'a>(
     faults: &mut Vec<&'a [u8]>,
     verdicts: &mut Vec<PartVerdict>,

@@ -84,13 +84,13 @@ fn report_reasons<R: Threads + Wait, G: Watch + Sync, W: Out>(
     Ok(())
 }
 
-/// Writes the report of the undetected faults of a job with their reasons, which are those of
-/// [`undetected::reasons`]: a line for each, then the coverage line, with `classes` that of the
-/// classes, and last how many faults there are of each reason. It takes no memory.
+/// Writes the report of the undetected faults of a job with their reasons, as
+/// [`undetected::reasons`] returns them: a line for each, then the coverage line, with `classes`
+/// the coverage of the classes, and last the number of faults for each reason. It takes no memory.
 ///
 /// # Errors
 ///
-/// [`ReportFault::Write`] if the output takes nothing more. A beginning of the report went out.
+/// [`ReportFault::Write`] if the output takes nothing more. It has a beginning of the report.
 pub fn write_reasons<W: Out>(
     job: &Job,
     verdicts: &Verdicts,
@@ -136,7 +136,7 @@ fn put_reasons<W: Out>(
     Ok(())
 }
 
-/// The reason of the fault of a number.
+/// Returns the reason of the fault of a number.
 fn reason_at(reasons: &[Option<Reason>], fault: u32) -> Option<Reason>
     requires { fault < length reasons.now }
     ensures { slice_get reasons.now fault ≡ Some result }
@@ -144,7 +144,7 @@ fn reason_at(reasons: &[Option<Reason>], fault: u32) -> Option<Reason>
     reasons[fault as usize]
 }
 
-/// A reason in words.
+/// Returns the words of a reason.
 fn words_of(reason: Reason) -> &'static str
     ensures { result.now ≡ reason_text reason }
 {
@@ -155,7 +155,7 @@ fn words_of(reason: Reason) -> &'static str
     }
 }
 
-/// Writes how many faults there are of each reason.
+/// Writes the number of faults for each reason.
 fn put_reason_counts<W: Out>(reasons: &[Option<Reason>], out: &mut W) -> Result<(), OutFailed>
     ensures { Writes result (W.seen out.old) (W.seen out.new) (reasons_line reasons.now) }
 {
@@ -173,7 +173,7 @@ fn put_reason_counts<W: Out>(reasons: &[Option<Reason>], out: &mut W) -> Result<
     put_pieces(&pieces, out)
 }
 
-/// How many faults have a reason.
+/// Returns how many faults have a reason.
 fn count_of(reasons: &[Option<Reason>], reason: Reason) -> usize
     ensures { result ≡ count_by (has_reason reason) reasons.now }
 {

@@ -1,4 +1,4 @@
-//! The texts that the program writes: the report of a run, and the listing of faults and classes.
+//! The texts that the program writes: the report of a run, and the list of faults and classes.
 
 ghost use Rattle.std.specs.Prelude.{◌≡◌, ◌<◌, ◌*◌, ◌/◌, ◌++◌, [], codes, length, slice_get, Some};
 ghost use Rattle.std.specs.Prelude.{is_some, zip, decimal, if◌then◌else◌};
@@ -24,7 +24,7 @@ use jobs::ReportFault;
 use output::{Out, OutFailed, put_pieces};
 use workers::Verdicts;
 
-/// The name of the signal that a cell drives. Cells count from 0.
+/// Returns the name of the signal that a cell drives. Cells count from 0.
 fn cell_name(circuit: &Circuit, cell: u32) -> &str
     requires { cell < length (cells circuit.now) }
     ensures { result.now ≡ cell_text circuit.now cell }
@@ -32,7 +32,8 @@ fn cell_name(circuit: &Circuit, cell: u32) -> &str
     circuit.name_of(circuit.scan_cells()[cell as usize].q)
 }
 
-/// What is wrong with a line, by the model of its fault and the bit, behind a space.
+/// Returns the stuck bit or the slow edge of a line, by the model of its fault and the bit, after a
+/// space.
 fn defect(model: Model, bit: bool) -> &'static str
     ensures { result.now ≡ defect_text model bit }
 {
@@ -44,7 +45,7 @@ fn defect(model: Model, bit: bool) -> &'static str
     }
 }
 
-/// How many hundredths of a percent a part is of a whole, cut off.
+/// Returns the hundredths of a percent of a part of a whole, cut off.
 pub(crate) fn hundredths(part: u32, whole: u32) -> u64
     requires { 0 < whole }
     ensures { result ≡ 10000 * part / whole }
@@ -52,8 +53,8 @@ pub(crate) fn hundredths(part: u32, whole: u32) -> u64
     10_000 * u64::from(part) / u64::from(whole)
 }
 
-/// Writes a coverage line, `D of T` and what is counted, ` (P.PP%)`: the percentage is cut off
-/// after two decimals.
+/// Writes a coverage line, `D of T` and the name of what is counted, ` (P.PP%)`: the percentage is
+/// cut off after two decimals.
 pub(crate) fn put_coverage<'a, W: Out>(
     detected: u32,
     total: u32,
@@ -86,8 +87,8 @@ pub(crate) fn put_coverage<'a, W: Out>(
     put_pieces(&pieces, out)
 }
 
-/// Writes a fault: a line of the circuit by its kind, its name and, behind a gap, its place, then
-/// what is wrong with it.
+/// Writes a fault: a line of the circuit by its kind, its name and, after a gap, its place, then
+/// the stuck bit or the slow edge.
 fn put_words<'a, W: Out>(
     kind: &'a str,
     name: &'a str,
@@ -102,8 +103,8 @@ fn put_words<'a, W: Out>(
     put_pieces(&[kind, name, gap, place, defect], out)
 }
 
-/// Writes a fault of a list: its line, and what is wrong with it. Pins and OUTPUT lines count from
-/// 1 in the text.
+/// Writes a fault of a list: its line, and the stuck bit or the slow edge. Pins and OUTPUT lines
+/// count from 1 in the text.
 fn put_fault<W: Out>(
     circuit: &Circuit,
     list: &Faults,
@@ -138,7 +139,7 @@ fn put_fault<W: Out>(
     }
 }
 
-/// Writes a line of the report or of the listing: a fault, a word and what is said of it.
+/// Writes a line of the report or of the list of classes: a fault, a word and a value.
 pub(crate) fn put_fault_line<'a, W: Out>(
     circuit: &Circuit,
     list: &Faults,
@@ -157,7 +158,7 @@ pub(crate) fn put_fault_line<'a, W: Out>(
     put_pieces(&[" ", word, said, "\n"], out)
 }
 
-/// What is said of a fault's first test: its number, or `none`.
+/// Returns the text of a fault's first test: its number, or `none`.
 pub(crate) fn first_text(first: Option<u32>, number: &mut Buffer) -> &str
     ensures { result.now ≡ first_text first }
 {
@@ -167,8 +168,7 @@ pub(crate) fn first_text(first: Option<u32>, number: &mut Buffer) -> &str
     }
 }
 
-/// Writes the faults of the list that are asked for, each with the first test that detects it, or
-/// `none`.
+/// Writes the requested faults of the list, each with its first detecting test, or `none`.
 fn put_firsts<W: Out>(
     circuit: &Circuit,
     list: &Faults,
@@ -193,7 +193,7 @@ fn put_firsts<W: Out>(
     Ok(())
 }
 
-/// Whether a test detects a fault of this number.
+/// Returns whether a test detects a fault of this number.
 fn is_detected(verdicts: &Verdicts, fault: u32) -> bool
     ensures { result ≡ is_some (first_at verdicts.now.firsts fault) }
 {
@@ -233,7 +233,7 @@ fn put_classes<W: Out>(
     Ok(())
 }
 
-/// Writes the lines of the faults that are asked for, and then the coverage line.
+/// Writes the lines of the requested faults, and then the coverage line.
 fn put_report<W: Out>(
     job: &Job,
     verdicts: &Verdicts,
@@ -253,7 +253,7 @@ fn put_report<W: Out>(
     put_coverage(detected, total, "", out)
 }
 
-/// Writes how many of the classes are detected, where it is asked for.
+/// Writes the coverage of the classes, if it is requested.
 fn put_class_coverage<W: Out>(
     job: &Job,
     verdicts: &Verdicts,
@@ -274,12 +274,12 @@ fn put_class_coverage<W: Out>(
 }
 
 /// Writes the report of a job and of the verdicts of its faults: if `list` is set, each fault with
-/// the first test that detects it, and then the coverage line. It takes no memory. For other
-/// reports call [`write_report_with`].
+/// its first detecting test, and then the coverage line. It takes no memory. For other reports call
+/// [`write_report_with`].
 ///
 /// # Errors
 ///
-/// [`ReportFault::Write`] if the output takes nothing more. A beginning of the report went out.
+/// [`ReportFault::Write`] if the output takes nothing more. It has a beginning of the report.
 pub fn write_report<W: Out>(
     job: &Job,
     verdicts: &Verdicts,
@@ -294,13 +294,13 @@ pub fn write_report<W: Out>(
     write_report_with(job, verdicts, Contents::of_list(list), out)
 }
 
-/// Writes the report of a job and of the verdicts of its faults: the faults of the list that are
-/// asked for, each with the first test that detects it, then the coverage line, and then, where it
-/// is asked for, the same of the classes. It takes no memory.
+/// Writes the report of a job and of the verdicts of its faults: the requested faults of the list,
+/// each with its first detecting test, then the coverage line, and then, if it is requested, the
+/// coverage of the classes. It takes no memory.
 ///
 /// # Errors
 ///
-/// [`ReportFault::Write`] if the output takes nothing more. A beginning of the report went out.
+/// [`ReportFault::Write`] if the output takes nothing more. It has a beginning of the report.
 pub fn write_report_with<W: Out>(
     job: &Job,
     verdicts: &Verdicts,
@@ -317,12 +317,12 @@ pub fn write_report_with<W: Out>(
     Ok(())
 }
 
-/// Writes the name of a fault of a job, as each line of a report and of the listing begins: its
-/// line, and what is wrong with it. It takes no memory.
+/// Writes the name of a fault of a job, as each line of a report and of the list of classes begins:
+/// its line, and the stuck bit or the slow edge. It takes no memory.
 ///
 /// # Errors
 ///
-/// [`ReportFault::Write`] if the output takes nothing more. A beginning of the name went out.
+/// [`ReportFault::Write`] if the output takes nothing more. It has a beginning of the name.
 pub fn write_fault<W: Out>(job: &Job, fault: u32, out: &mut W) -> Result<(), ReportFault>
     requires { fault < length job.now.list.list }
     ensures { (f : Fault) → slice_get job.now.list.list fault ≡ Some f
@@ -332,8 +332,8 @@ pub fn write_fault<W: Out>(job: &Job, fault: u32, out: &mut W) -> Result<(), Rep
     Ok(())
 }
 
-/// Writes the listing: each fault with its class, then how many there are of both. It takes no
-/// memory.
+/// Writes the list of faults and classes: each fault with its class, then the number of both. It
+/// takes no memory.
 pub fn write_listing<W: Out>(
     circuit: &Circuit,
     list: &Faults,
@@ -351,7 +351,7 @@ pub fn write_listing<W: Out>(
     Ok(())
 }
 
-/// Writes the last line of the listing: how many faults there are, and in how many classes.
+/// Writes the last line of the list of classes: the number of faults, and of classes.
 fn put_counts<W: Out>(faults: u32, classes: u32, out: &mut W) -> Result<(), OutFailed>
     ensures { Writes result (W.seen out.old) (W.seen out.new)
         (decimal faults ++ codes " faults in " ++ decimal classes ++ codes " classes\n") }

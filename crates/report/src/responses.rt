@@ -1,4 +1,4 @@
-//! What a circuit answers to tests, from the bytes of texts to the bytes of rows.
+//! Fault-free responses, from the bytes of files to the bytes of rows.
 
 ghost use Rattle.std.specs.Prelude.{IfErr};
 ghost use Rattle.report.specs.EndToEnd.{WritesOneOf};
@@ -11,13 +11,13 @@ use output::Out;
 use patterns::write_tests;
 use std::alloc::Global;
 
-/// Reads a circuit and tests for it, and writes the responses of the circuit without a fault: for
-/// each test a row of bits, those of the OUTPUT lines in order, and then what each flip-flop
-/// captures, in the order of the DFF lines.
+/// Reads a circuit and tests for it, and writes the fault-free responses: for each test a row of
+/// bits, first for the OUTPUT lines in order, and then the bit that each flip-flop captures, in the
+/// order of the DFF lines.
 ///
-/// The bench text is read before the tests, and each is refused as [`crate::simulate_text_in`]
-/// refuses it. There is no limit on pieces, since no fault is simulated. Nothing is written before
-/// all responses are there.
+/// It reads the bench file before the tests, and fails for each as [`crate::simulate_text_in`]
+/// does. There is no limit on pieces, because no fault is simulated. It writes nothing before all
+/// responses are there.
 pub fn responses_text_in<W: Out>(
     alloc: Global,
     bench: &[u8],

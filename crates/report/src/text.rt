@@ -1,4 +1,4 @@
-//! From the bytes of texts to the bytes of the report or the listing.
+//! From the bytes of files to the bytes of the report or of the list of classes.
 
 ghost use Rattle.std.specs.Prelude.{◌≢◌, ◌<◌, ◌≤◌, Err, IfOk, IfErr, OnOk};
 ghost use Rattle.fault_model.specs.declared.Model.TheVariants as model;
@@ -46,8 +46,8 @@ pub fn simulate_text<R: Threads + Wait, W: Out>(
 }
 
 /// Reads a circuit and tests for it, and writes the report of the faults of a model: if `list` is
-/// set, each fault with the first test that detects it, and then the coverage. For other reports
-/// call [`simulate_text_with`], which does the work.
+/// set, each fault with its first detecting test, and then the coverage. For other reports call
+/// [`simulate_text_with`], which does the work.
 pub fn simulate_text_in<R: Threads + Wait, W: Out>(
     rt: &R,
     alloc: Global,
@@ -67,13 +67,13 @@ pub fn simulate_text_in<R: Threads + Wait, W: Out>(
     simulate_text_with(rt, alloc, model, bench, tests, workers, contents, out)
 }
 
-/// Reads a circuit and tests for it, and writes the report of the faults of a model: of the faults
-/// that are asked for the first test that detects each, and then the coverage. The work is done by
-/// workers in threads of their own, which are joined before this returns, and the report is the
-/// same whatever their number.
+/// Reads a circuit and tests for it, and writes the report of the faults of a model: the requested
+/// faults with the first test that detects each, and then the coverage. Workers in threads of their
+/// own do the work, and are joined before this returns. The report is the same for every number of
+/// workers.
 ///
-/// The bench text is read before the tests, then the number of pieces is looked at, and then the
-/// number of workers; nothing is written before the verdicts are there.
+/// It reads the bench file before the tests, then checks the number of pieces, and then the number
+/// of workers. It writes nothing before the verdicts are there.
 pub fn simulate_text_with<R: Threads + Wait, W: Out>(
     rt: &R,
     alloc: Global,
@@ -95,13 +95,13 @@ pub fn simulate_text_with<R: Threads + Wait, W: Out>(
     )
 }
 
-/// Reads a circuit and tests for it, and writes the report that [`simulate_text_with`] writes, with
-/// the same bytes. The classes of the faults are run in so many parts, each by one worker alone
+/// Reads a circuit and tests for it, and writes the report as [`simulate_text_with`] does, with the
+/// same bytes. It runs the classes of the faults in this number of parts, each by one worker
 /// ([`workers::run_in_parts`]).
 ///
-/// It is refused as [`simulate_text_with`] is, but for the number of pieces: that of the whole has
-/// no limit, and the run is refused with [`RunFault::TooManyPieces`] where one part has too many.
-/// Here the number of workers is looked at before the pieces.
+/// It fails as [`simulate_text_with`] does, except for the number of pieces. The whole has no
+/// limit: it fails with [`RunFault::TooManyPieces`] if one part has too many. Here it checks the
+/// number of workers before the pieces.
 pub fn simulate_text_in_parts<R: Threads + Wait, W: Out>(
     rt: &R,
     alloc: Global,
@@ -159,8 +159,8 @@ pub fn schedule_text<W: Out>(
 }
 
 /// Reads a circuit, tests for it and an order of moves, and writes the report of the faults of a
-/// model: if `list` is set, each fault with the first test that detects it, and then the coverage.
-/// For other reports call [`schedule_text_with`], which does the work.
+/// model: if `list` is set, each fault with its first detecting test, and then the coverage. For
+/// other reports call [`schedule_text_with`], which does the work.
 pub fn schedule_text_in<W: Out>(
     alloc: Global,
     model: Model,
@@ -183,13 +183,12 @@ pub fn schedule_text_in<W: Out>(
 }
 
 /// Reads a circuit, tests for it and an order of moves, and writes the report of the faults of a
-/// model, as [`simulate_text_with`] does and with the same bytes. The work is done by one thread,
-/// which makes the moves of the workers in the order that the text gives, and then lets all move in
-/// turn.
+/// model, as [`simulate_text_with`] does and with the same bytes. One thread does the work: it
+/// makes the moves of the workers in the order of the file, and then lets all move in turn.
 ///
-/// The bench text is read before the tests, and the tests before the order; then the number of
-/// pieces is looked at, and then the number of workers. Where there are to be no workers, each row
-/// of an order text is at fault already. Nothing is written before the verdicts are there.
+/// It reads the bench file before the tests, and the tests before the order. Then it checks the
+/// number of pieces, and then the number of workers. With 0 workers each row of an order file has
+/// an error already. It writes nothing before the verdicts are there.
 pub fn schedule_text_with<W: Out>(
     alloc: Global,
     model: Model,
@@ -234,7 +233,7 @@ fn report_schedule<W: Out>(
     Ok(())
 }
 
-/// Reads a circuit and tests for it, and gives the report that [`simulate_text_with`] writes.
+/// Reads a circuit and tests for it, and returns the report that [`simulate_text_with`] writes.
 pub fn report_bytes<R: Threads + Wait>(
     rt: &R,
     alloc: Global,
@@ -253,13 +252,13 @@ pub fn report_bytes<R: Threads + Wait>(
     let mut out = Plain::new(Vec::new(alloc));
     match simulate_text_with(rt, alloc, model, bench, tests, workers, contents, &mut out) {
         Ok(()) => Ok(out.into_writer()),
-        // A vector refuses bytes for want of memory alone.
+        // A vector fails only for memory.
         Err(SimFault::Report(ReportFault::Write)) => Err(SimFault::Memory),
         Err(fault) => Err(fault),
     }
 }
 
-/// Reads a circuit, and writes the listing of the stuck-at faults: [`faults_text_in`] under
+/// Reads a circuit, and writes its stuck-at faults with their classes: [`faults_text_in`] under
 /// [`Model::StuckAt`].
 pub fn faults_text<W: Out>(alloc: Global, bench: &[u8], out: &mut W) -> Result<(), SimFault>
     ensures written { WritesOneOf (IsListingOf model.StuckAt bench.now) result
@@ -269,8 +268,8 @@ pub fn faults_text<W: Out>(alloc: Global, bench: &[u8], out: &mut W) -> Result<(
     faults_text_in(alloc, Model::StuckAt, bench, out)
 }
 
-/// Reads a circuit, and writes the listing of the faults of a model: each fault with its class, and
-/// how many there are of both.
+/// Reads a circuit, and writes the faults of a model with their classes: each fault with its class,
+/// and the number of both.
 pub fn faults_text_in<W: Out>(
     alloc: Global,
     model: Model,
@@ -285,7 +284,7 @@ pub fn faults_text_in<W: Out>(
     list_circuit(alloc, model, &circuit, out)
 }
 
-/// Lists the faults of a circuit, puts them into classes, and writes the listing.
+/// Lists the faults of a circuit, collapses them, and writes both.
 fn list_circuit<W: Out>(
     alloc: Global,
     model: Model,
@@ -302,7 +301,7 @@ fn list_circuit<W: Out>(
     Ok(())
 }
 
-/// Reads a circuit, and gives the listing that [`faults_text_in`] writes.
+/// Reads a circuit, and returns the bytes that [`faults_text_in`] writes.
 pub fn listing_bytes(alloc: Global, model: Model, bench: &[u8]) -> Result<Vec<u8>, SimFault>
     ensures listing { IfOk result (λ bytes. IsListingOf model bench.now bytes.items) }
     ensures refused { IfErr result (IsListingFault bench.now) }
@@ -311,7 +310,7 @@ pub fn listing_bytes(alloc: Global, model: Model, bench: &[u8]) -> Result<Vec<u8
     let mut out = Plain::new(Vec::new(alloc));
     match faults_text_in(alloc, model, bench, &mut out) {
         Ok(()) => Ok(out.into_writer()),
-        // A vector refuses bytes for want of memory alone.
+        // A vector fails only for memory.
         Err(SimFault::Report(_)) => Err(SimFault::Memory),
         Err(fault) => Err(fault),
     }

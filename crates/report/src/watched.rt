@@ -49,7 +49,7 @@ pub fn simulate_text_watched<R: Threads + Wait, G: Watch + Sync, W: Out>(
     report_run(rt, alloc, &job, parts, workers, contents, gate, out)
 }
 
-/// Runs a job in parts by workers in threads of their own, and writes its report. The gate is told
+/// Runs a job in parts by workers in threads of their own, and writes its report. The gate learns
 /// when the run begins and when all is settled.
 fn report_run<R: Threads + Wait, G: Watch + Sync, W: Out>(
     rt: &R,

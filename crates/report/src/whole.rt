@@ -1,4 +1,4 @@
-//! A text that is written whole.
+//! A text that is written in one piece.
 
 ghost use Rattle.output.specs.Output.{Writes};
 

@@ -1,4 +1,4 @@
-//! What a table tells of each fault beside its name.
+//! The column of a table that describes a fault beside its name.
 
 ghost use Rattle.std.specs.Prelude.{◌≡◌, ◌<◌, Some, length, slice_get};
 ghost use Rattle.tables.specs.Tables.{column_in, has_row};
@@ -7,10 +7,10 @@ use fault_model::Classes;
 use report::{Lines, Merged};
 use workers::Verdicts;
 
-/// What is told of each fault.
+/// The value of each fault.
 #[derive(Clone, Copy)]
 pub(crate) enum Column<'a> {
-    /// The first test that detects it, and of which faults.
+    /// The first test that detects it, and the faults that have a row.
     First {
         verdicts: &'a Verdicts,
         lines: Lines,
@@ -25,7 +25,7 @@ pub(crate) enum Column<'a> {
 }
 
 impl Column<'_> {
-    /// Its name.
+    /// Returns its name.
     pub(crate) fn name(&self) -> &'static str
         ensures { result.now ≡ (column_in self.now).name }
     {
@@ -35,7 +35,7 @@ impl Column<'_> {
         }
     }
 
-    /// What it has for a fault.
+    /// Returns its value for a fault.
     pub(crate) fn value(&self, fault: u32) -> Option<u32>
         requires { fault < length (column_in self.now).values }
         ensures { slice_get (column_in self.now).values fault ≡ Some result }
@@ -47,7 +47,7 @@ impl Column<'_> {
         }
     }
 
-    /// Whether a fault for which it has this value has a row.
+    /// Returns whether a fault with this value has a row.
     pub(crate) fn has_row(&self, value: Option<u32>) -> bool
         ensures { result ≡ has_row (column_in self.now).lines value }
     {

@@ -16,7 +16,7 @@ use fault_model::Faults;
 use itoa::Buffer;
 use std::alloc::{AllocError, Global};
 
-/// A header, and then a record for each fault that has a row.
+/// Returns a header, and then a record for each fault that has a row.
 pub(crate) fn csv_table(
     alloc: Global,
     circuit: &Circuit,
@@ -48,7 +48,7 @@ pub(crate) fn csv_table(
     text_of(writer)
 }
 
-/// The text that a writer between two records has taken.
+/// Returns the text that a writer between two records has taken.
 fn text_of(writer: Writer<Vec<u8>>) -> Result<Vec<u8>, AllocError>
     ensures { (taken : List ℕ) → HasTaken writer taken
         → IfOk result (λ text. text.items ≡ taken) }

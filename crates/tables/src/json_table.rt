@@ -21,7 +21,7 @@ use output::{Out, OutFailed, put_all, put_pieces};
 use serde_json::Value;
 use std::alloc::{AllocError, Global};
 
-/// The objects of the faults that have a row, each behind a comma and a line feed.
+/// Returns the objects of the faults that have a row, each after a comma and a line feed.
 pub(crate) fn json_rows(
     alloc: Global,
     circuit: &Circuit,
@@ -52,7 +52,7 @@ pub(crate) fn json_rows(
     Ok(rows)
 }
 
-/// A text as a JSON string.
+/// Returns a text as a JSON string.
 fn quoted(alloc: Global, text: &str) -> Result<String, AllocError>
     ensures { IfOk result (λ string. string_bytes string ≡ quoted text.now) }
 {
@@ -87,7 +87,7 @@ fn add_row(
     )
 }
 
-/// Adds an object whose members are spelled so, behind a comma and a line feed.
+/// Adds an object with members of this spelling, after a comma and a line feed.
 fn add_object<'a>(
     rows: &mut Vec<u8>,
     kind: &'a str,
@@ -132,8 +132,7 @@ pub(crate) fn add_pieces(rows: &mut Vec<u8>, pieces: &[&str]) -> Result<(), Allo
     Ok(())
 }
 
-/// Writes the object of a table: the sums, and an array of the rows, of which the first loses its
-/// comma.
+/// Writes the object of a table: the sums, and an array of the rows, whose first loses its comma.
 pub(crate) fn put_json<W: Out>(
     column: &Column<'_>,
     faults: u32,
@@ -148,7 +147,7 @@ pub(crate) fn put_json<W: Out>(
     Ok(put_object(column, faults, rows, out)?)
 }
 
-/// Writes it, and tells no more than that the output failed.
+/// Writes the object, and only returns whether the output failed.
 fn put_object<W: Out>(
     column: &Column<'_>,
     faults: u32,
@@ -193,7 +192,7 @@ fn put_elements<W: Out>(rows: &[u8], out: &mut W) -> Result<(), OutFailed>
     put_pieces(&["\n]}\n"], out)
 }
 
-/// A text without its first byte.
+/// Returns a text without its first byte.
 fn without_first(text: &[u8]) -> &[u8]
     ensures { result.now ≡ drop 1 text.now }
 {

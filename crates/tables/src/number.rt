@@ -5,7 +5,7 @@ ghost use Rattle.tables.specs.Tables.{number_or};
 
 use itoa::Buffer;
 
-/// A number as a text, or the word for none.
+/// Returns a number as a text, or the word for none.
 pub(crate) fn number_text<'a>(number: Option<u64>, none: &'a str, buffer: &'a mut Buffer) -> &'a str
     ensures { result.now ≡ number_or none.now number }
 {
@@ -15,7 +15,7 @@ pub(crate) fn number_text<'a>(number: Option<u64>, none: &'a str, buffer: &'a mu
     }
 }
 
-/// The same number.
+/// Returns the same number.
 pub(crate) fn widened(number: Option<u32>) -> Option<u64>
     ensures { result ≡ number }
 {

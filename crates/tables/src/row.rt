@@ -1,4 +1,4 @@
-//! What a row says of a fault.
+//! The row of a fault.
 
 ghost use Rattle.std.specs.Prelude.{◌≡◌, ◌<◌, Some, Contains, length, slice_get};
 ghost use Rattle.bench_net.specs.Scan.{cells, names};
@@ -17,8 +17,8 @@ use fault_model::{Faults, Line, Model};
 pub(crate) struct Place<'a> {
     /// `stem`, `pin`, `data` or `out`.
     pub(crate) kind: &'static str,
-    /// The name of the stem, of the gate that has the pin, of the flip-flop, or of the signal that
-    /// is observed.
+    /// The name of the stem, of the gate that has the pin, of the flip-flop, or of the observed
+    /// signal.
     pub(crate) name: &'a str,
     /// The number of a gate's pin or of an OUTPUT line, from 1.
     pub(crate) pin: Option<u64>,
@@ -34,7 +34,7 @@ pub(crate) struct Row<'a> {
     pub(crate) defect: &'static str,
 }
 
-/// The row of a fault.
+/// Returns the row of a fault.
 pub(crate) fn row_of<'a>(circuit: &'a Circuit, list: &Faults, fault: u32) -> Row<'a>
     requires list { list.now.list ≡ faults list.now.model circuit.now }
     requires in_range { fault < length list.now.list }
@@ -48,7 +48,7 @@ pub(crate) fn row_of<'a>(circuit: &'a Circuit, list: &Faults, fault: u32) -> Row
     }
 }
 
-/// What is wrong with a line, by the model of its fault and the bit.
+/// Returns the stuck bit or the slow edge of a line, by the model of its fault and the bit.
 fn defect(model: Model, bit: bool) -> &'static str
     ensures { result.now ≡ defect_name model bit }
 {
@@ -60,7 +60,7 @@ fn defect(model: Model, bit: bool) -> &'static str
     }
 }
 
-/// A line that carries a signal.
+/// Returns the columns of a line that carries a signal.
 fn place_of(circuit: &Circuit, line: Line) -> Place<'_>
     requires { (n : Name) × (name_on circuit.now line ≡ Some n) × Contains (names circuit.now) n }
     ensures { place_in result ≡ line_cells circuit.now line }
@@ -73,7 +73,7 @@ fn place_of(circuit: &Circuit, line: Line) -> Place<'_>
     }
 }
 
-/// The stem of a signal.
+/// Returns the columns of the stem of a signal.
 fn stem_place(circuit: &Circuit, signal: u32) -> Place<'_>
     requires { signal < length (names circuit.now) }
     ensures { place_in result ≡ line_cells circuit.now (line.Stem signal) }
@@ -87,7 +87,7 @@ fn stem_place(circuit: &Circuit, signal: u32) -> Place<'_>
     }
 }
 
-/// A pin of a gate.
+/// Returns the columns of a pin of a gate.
 fn pin_place(circuit: &Circuit, gate: u32, pin: u32) -> Place<'_>
     requires { (n : Name) × (name_on circuit.now (line.Pin gate pin) ≡ Some n)
         × Contains (names circuit.now) n }
@@ -101,7 +101,7 @@ fn pin_place(circuit: &Circuit, gate: u32, pin: u32) -> Place<'_>
     }
 }
 
-/// The name of the signal that a pin of a gate reads.
+/// Returns the name of the signal that a pin of a gate reads.
 fn pin_net(circuit: &Circuit, gate: u32, pin: u32) -> &str
     requires { (n : Name) × (name_on circuit.now (line.Pin gate pin) ≡ Some n)
         × Contains (names circuit.now) n }
@@ -113,7 +113,7 @@ fn pin_net(circuit: &Circuit, gate: u32, pin: u32) -> &str
     }
 }
 
-/// The data pin of a flip-flop.
+/// Returns the columns of the data pin of a flip-flop.
 fn data_place(circuit: &Circuit, cell: u32) -> Place<'_>
     requires { (n : Name) × (name_on circuit.now (line.Data cell) ≡ Some n)
         × Contains (names circuit.now) n }
@@ -127,7 +127,7 @@ fn data_place(circuit: &Circuit, cell: u32) -> Place<'_>
     }
 }
 
-/// The name of the signal that a flip-flop drives, by the flip-flop's number.
+/// Returns the name of the signal that a flip-flop drives, by the flip-flop's number.
 fn cell_name(circuit: &Circuit, cell: u32) -> &str
     requires { cell < length (cells circuit.now) }
     ensures { result.now ≡ cell_text circuit.now cell }
@@ -135,7 +135,7 @@ fn cell_name(circuit: &Circuit, cell: u32) -> &str
     circuit.name_of(circuit.scan_cells()[cell as usize].q)
 }
 
-/// The name of the signal that a flip-flop's data pin reads, by the flip-flop's number.
+/// Returns the name of the signal that a flip-flop's data pin reads, by the flip-flop's number.
 fn data_net(circuit: &Circuit, cell: u32) -> &str
     requires { (n : Name) × (name_on circuit.now (line.Data cell) ≡ Some n)
         × Contains (names circuit.now) n }
@@ -144,7 +144,7 @@ fn data_net(circuit: &Circuit, cell: u32) -> &str
     circuit.name_of(circuit.scan_cells()[cell as usize].d)
 }
 
-/// An OUTPUT line.
+/// Returns the columns of an OUTPUT line.
 fn out_place(circuit: &Circuit, output: u32) -> Place<'_>
     requires { (n : Name) × (name_on circuit.now (line.Out output) ≡ Some n)
         × Contains (names circuit.now) n }
@@ -159,7 +159,7 @@ fn out_place(circuit: &Circuit, output: u32) -> Place<'_>
     }
 }
 
-/// The name of the signal that an OUTPUT line observes, by the line's number.
+/// Returns the name of the signal that an OUTPUT line observes, by the line's number.
 fn output_net(circuit: &Circuit, output: u32) -> &str
     requires { (n : Name) × (name_on circuit.now (line.Out output) ≡ Some n)
         × Contains (names circuit.now) n }

@@ -1,4 +1,4 @@
-//! Tables of faults, from the bytes of texts.
+//! Tables of faults, from the bytes of files.
 
 ghost use Rattle.std.specs.Prelude.{◌≡◌, ◌<◌, ◌≤◌, IfErr, OnOk, length};
 ghost use Rattle.block_sim.specs.Parts.{BelongTogether};
@@ -25,10 +25,10 @@ use std::alloc::Global;
 use std::sync::Wait;
 use std::thread::Threads;
 
-/// How a table is written.
+/// The format of a table.
 #[derive(Clone, Copy, Debug, PartialEq, Eq)]
 pub enum Format {
-    /// A header, and a record for each fault. A field with nothing is empty.
+    /// A header, and a record for each fault. A missing value is empty.
     Csv,
     /// An object with the sums, and an array with an object for each fault.
     Json,
@@ -106,8 +106,8 @@ fn write_json<W: Out>(
     Ok(())
 }
 
-/// Reads a circuit, and writes a table of the faults of a model with the class of each. It is
-/// refused as `report::faults_text_in` is.
+/// Reads a circuit, and writes a table of the faults of a model with the class of each. It fails as
+/// `report::faults_text_in` does.
 pub fn faults_table_in<W: Out>(
     alloc: Global,
     model: Model,
@@ -142,9 +142,9 @@ fn write_classes<W: Out>(
 }
 
 /// Reads a circuit and tests for it, runs them by workers in threads of their own, and writes a
-/// table of the faults of a model with the first test that detects each: of those without one for
-/// [`Lines::Undetected`], and else of all. It is refused as `report::simulate_text_in` is, in the
-/// same order.
+/// table of the faults of a model with the first test that detects each: with [`Lines::Undetected`]
+/// only of the undetected faults, and else of all. It fails as `report::simulate_text_in` does, in
+/// the same order.
 pub fn run_table_in<R: Threads + Wait, W: Out>(
     rt: &R,
     alloc: Global,

@@ -17,9 +17,9 @@ use fault_model::Line;
 use std::alloc::{AllocError, Global};
 use workers::Verdicts;
 
-/// For each fault of a job's list, before collapsing, why no test detects it; none for a fault that
-/// a test detects. The verdicts are those of a run of the job. It takes a byte or so for each fault
-/// and for each signal, and looks for each undetected fault at the fault-free words of its line.
+/// Returns for each fault of a job's uncollapsed list the reason why no test detects it; none for a
+/// detected fault. The verdicts are from a run of the job. It takes about a byte for each fault and
+/// for each signal, and reads for each undetected fault the fault-free words of its line.
 pub fn reasons(
     alloc: Global,
     job: &Job,
@@ -39,7 +39,7 @@ pub fn reasons(
     Ok(reasons)
 }
 
-/// The reason of the fault of a number, none if a test detects it.
+/// Returns the reason of the fault of a number, none if a test detects it.
 fn reason_at(job: &Job, live: &[bool], verdicts: &Verdicts, fault: u32) -> Option<Reason>
     requires together { BelongTogether job.now }
     requires firsts { AreFirsts job.now.list.model job.now.circuit job.now.tests.tests
@@ -57,7 +57,7 @@ fn reason_at(job: &Job, live: &[bool], verdicts: &Verdicts, fault: u32) -> Optio
     }
 }
 
-/// The reason of the fault of a number, which no test detects.
+/// Returns the reason of an undetected fault, by its number.
 fn reason_of(job: &Job, live: &[bool], fault: u32) -> Reason
     requires live { AreLive job.now.circuit live.now }
     requires room { length live.now ≡ length (names job.now.circuit) }
@@ -75,7 +75,7 @@ fn reason_of(job: &Job, live: &[bool], fault: u32) -> Reason
     }
 }
 
-/// Whether an observer is reached from a line.
+/// Returns whether a line reaches an observer.
 fn has_path(circuit: &Circuit, live: &[bool], line: Line) -> bool
     requires live { AreLive circuit.now live.now }
     requires room { length live.now ≡ length (names circuit.now) }
