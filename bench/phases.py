@@ -41,12 +41,12 @@ PHASES = {
     "read bench": r"bench_net::",
     "read tests": r"patterns::(test_text|octet|in_threads|read_tests)|patterns::word_rows::\w*add",
     "faults and classes": r"fault_model::(classes|faults)::",
-    "rows": r"block_sim::(flat::FlatCircuit::new|flat::lists_of|flat::add_|order|walk|live|places|form)",
+    "rows": r"block_sim::(flat::FlatCircuit::new|flat::lists_of|flat::add_|signal_order|order_walk|live|signal_places|gate_form)",
     "fault-free words": r"block_sim::(words|job::fault_free_rows|job::rows_)",
     "classes of the job": r"block_sim::(region_classes|origin)::",
-    "cut": r"workers::(ranks|arrange|stretches)::",
-    "verdicts": r"workers::(parts|verdicts|alone::lowest)",
-    "report": r"report::|output::|itoa::",
+    "cut": r"workers::(class_order|counting_sort|stretches)::",
+    "verdicts": r"workers::(parts|verdicts|stretch_run::lowest)",
+    "report": r"report::|byte_output::|itoa::",
 }
 WAITS = "waits"
 BEGIN = "start"

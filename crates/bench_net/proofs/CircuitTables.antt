@@ -12,7 +12,7 @@ use Rattle.std.proofs.lemmas.List.Sorted.{IsPermutation-middle, IsPermutation-ap
 use Rattle.std.proofs.lemmas.List.Sorted.{length_permutation, All-permutation, IsPermutation-sym}
 use Rattle.std.specs.List.{enumerate_from, filter_map, position_or_len}
 use Rattle.std.proofs.lemmas.List.{length-map, map-append, append_assoc, get_or-map}
-use Rattle.bench_net.specs.declared.line.Line.{Line}
+use Rattle.bench_net.specs.declared.line.NumberedLine.{NumberedLine}
 use Rattle.bench_net.specs.declared.Sink.{Sink}
 use Rattle.bench_net.specs.declared.Sink.TheVariants.{Pin, Out}
 use Rattle.bench_net.specs.Statement.{Name, Statement, Dff, Output, defines, Gate}
@@ -23,12 +23,12 @@ use Rattle.bench_net.specs.Stored.{AreStatements, AreRefused, IsFirstStuck}
 use Rattle.bench_net.specs.Tables.{defines_number, output_number, signal_read, pin_readers}
 use Rattle.bench_net.specs.Tables.{output_readers, line_readers, all_readers, PinsFit, input_number}
 use Rattle.bench_net.specs.Tables.{cell_numbers, source_signals, sinks_at, line_gate}
-use Rattle.lists.proofs.Members.{Among, contained, among_left, among_right, among, mapped_from}
-use Rattle.lists.proofs.Members.{filtered_from, among_joined}
+use Rattle.list_lemmas.proofs.Members.{Among, contained, among_left, among_right, among}
+use Rattle.list_lemmas.proofs.Members.{mapped_from, filtered_from, among_joined}
 use Rattle.std.proofs.lemmas.List.Elements.{Contains-get_or, filter-append, All-contains}
 use Rattle.std.proofs.lemmas.Option.{get_or_from_slice_get, slice_get-get_or, slice_get_within}
 use Rattle.bench_net.specs.declared.sinks.Reader.{Reader}
-use Rattle.lists.proofs.Distinct.{Distinct, distinct_from_pairs}
+use Rattle.list_lemmas.proofs.Distinct.{Distinct, distinct_from_pairs}
 use Rattle.bench_net.proofs.Names.{same_bytes, bytes_refl, signal-name_of, name_of-signal}
 use Rattle.bench_net.proofs.Names.{definition_defines}
 use Rattle.bench_net.proofs.GateLevels.{named, named_number, of_cell, pins, source_statement}
@@ -42,10 +42,10 @@ use Rattle.bench_net.specs.declared.BenchFault.TheVariants.{Memory, Cycle}
 use Rattle.bench_net.specs.Circuit.{IsCircuit, sink_count}
 use Rattle.bench_net.specs.Marks.{pins_in, gate_pins, AreLevelsOf, IsLowestStuck, IsLevelFault}
 use Rattle.bench_net.specs.Inside.{signals_in, AreTableLines, AreTables, IsInside, IsPlace}
-use Rattle.lists.proofs.Places.{at_place}
+use Rattle.list_lemmas.proofs.Places.{at_place}
 use Rattle.bench_net.proofs.LineTables.{definition_count}
 use Rattle.bench_net.proofs.NumberedLines.{reads_numbers, reads_held, known}
-use Rattle.bench_net.specs.declared.line.Line.TheVariants as line
+use Rattle.bench_net.specs.declared.line.NumberedLine.TheVariants as line
 
 -- ---- sources
 
@@ -60,19 +60,19 @@ few_sources c = grind (arith, common_steps, few c)
 -- ---- lines
 
 -- each line defines or reads, and each that defines has a name
-pub counts : (ns : List Name) (lines : List Line)
+pub counts : (ns : List Name) (lines : List NumberedLine)
     → (length lines ≤ length (filter defines_number lines) + length (flat_map read_numbers lines))
     × (length (filter defines_number lines) ≡ length (names (statements_of ns lines)))
 counts ns [] = (omega arith, refl)
 counts ns (_ ∷ lines) = let more = counts ns lines in grind (arith, common_steps, more)
 
 -- what a line reads is not more than all lines read
-line_count : (lines : List Line) (l : Line) → Contains lines l
+line_count : (lines : List NumberedLine) (l : NumberedLine) → Contains lines l
     → length (read_numbers l) ≤ length (flat_map read_numbers lines)
 line_count lines l (k, lt, is) =
     grind (arith, is, length-flat_map-take read_numbers lines k l lt)
 
-fits : (l : Line) → length (read_numbers l) < 2 ^ 32 → PinsFit l
+fits : (l : NumberedLine) → length (read_numbers l) < 2 ^ 32 → PinsFit l
 fits (line.Gate s g) few = few
 fits _ few = tt
 
@@ -86,7 +86,7 @@ read_by kind k [] = refl
 read_by kind k (x ∷ xs) = ap (λ ys. x ∷ ys) (read_by kind (k + 1) xs)
 
 -- the readers read what the lines read, in another order
-lines_read : (cell : ℕ) (lines : List Line)
+lines_read : (cell : ℕ) (lines : List NumberedLine)
     → IsPermutation (map signal_read (line_readers cell lines) ++ filter_map output_number lines)
     (flat_map read_numbers lines)
 lines_read cell [] = IsPermutation-refl []
@@ -100,7 +100,7 @@ lines_read cell (line.Gate s g ∷ lines) =
 lines_read cell (line.Dff q d ∷ lines) =
     IsPermutation-append_right (d ∷ []) _ _ (lines_read (cell + 1) lines)
 
-pub readers_read : (lines : List Line)
+pub readers_read : (lines : List NumberedLine)
     → IsPermutation (map signal_read (all_readers lines (filter_map output_number lines)))
     (flat_map read_numbers lines)
 readers_read lines =
@@ -108,7 +108,7 @@ readers_read lines =
     rw (map-append signal_read (line_readers 0 lines) (output_readers outs), read_by Out 0 outs)
     (lines_read 0 lines)
 
-pub few_outputs : (lines : List Line)
+pub few_outputs : (lines : List NumberedLine)
     → length (filter_map output_number lines) ≤ length (flat_map read_numbers lines)
 few_outputs lines =
     let outs = filter_map output_number lines in
@@ -117,39 +117,39 @@ few_outputs lines =
 
 module _ (ns : List Name) (number : Name → ℕ) where
   -- each line holds the numbers of its statement's names
-  abbrev pub AreRight : List Line → Type 0
+  abbrev pub AreRight : List NumberedLine → Type 0
   AreRight [] = Unit {0}
   AreRight (l ∷ ls) = (numbers l ≡ map number (map (name_at ns) (numbers l))) × AreRight ls
 
   -- ---- lists of signals
 
-  pub inputs_are : (ls : List Line) → AreRight ls
+  pub inputs_are : (ls : List NumberedLine) → AreRight ls
       → filter_map input_number ls ≡ map number (inputs (statements_of ns ls))
   inputs_are [] are = refl
   inputs_are (line.Input s ∷ ls) (e, are) = let rest = inputs_are ls are in cc
   inputs_are (_ ∷ ls) (e, are) = inputs_are ls are
 
-  pub outputs_are : (ls : List Line) → AreRight ls
+  pub outputs_are : (ls : List NumberedLine) → AreRight ls
       → filter_map output_number ls ≡ map number (outputs (statements_of ns ls))
   outputs_are [] are = refl
   outputs_are (line.Output s ∷ ls) (e, are) = let rest = outputs_are ls are in cc
   outputs_are (_ ∷ ls) (e, are) = outputs_are ls are
 
-  pub cells_are : (ls : List Line) → AreRight ls
+  pub cells_are : (ls : List NumberedLine) → AreRight ls
       → map {B = ℕ × ℕ} (λ cell. (cell.q, cell.d)) (filter_map cell_numbers ls)
       ≡ map (λ cell. (number cell.0, number cell.1)) (cells (statements_of ns ls))
   cells_are [] are = refl
   cells_are (line.Dff q d ∷ ls) (e, are) = let rest = cells_are ls are in cc
   cells_are (_ ∷ ls) (e, are) = cells_are ls are
 
-  qs_are : (ls : List Line) → AreRight ls
+  qs_are : (ls : List NumberedLine) → AreRight ls
       → map (λ cell. cell.q) (filter_map cell_numbers ls)
       ≡ map number (map (λ cell. cell.0) (cells (statements_of ns ls)))
   qs_are [] are = refl
   qs_are (line.Dff q d ∷ ls) (e, are) = let rest = qs_are ls are in cc
   qs_are (_ ∷ ls) (e, are) = qs_are ls are
 
-  pub sources_are : (ls : List Line) → AreRight ls
+  pub sources_are : (ls : List NumberedLine) → AreRight ls
       → source_signals ls ≡ map number (sources (statements_of ns ls))
   sources_are ls are =
       let c = statements_of ns ls in
@@ -158,7 +158,7 @@ module _ (ns : List Name) (number : Name → ℕ) where
 
 -- ---- gates
 
-pub gate_is : (ns : List Name) (whole : List Statement) (ls : List Line) (s : ℕ)
+pub gate_is : (ns : List Name) (whole : List Statement) (ls : List NumberedLine) (s : ℕ)
     → AreRight ns (signal whole) ls → line_gate (slice_get (filter defines_number ls) s)
     ≡ gate_line whole (slice_get (filter defines (statements_of ns ls)) s)
 gate_is ns whole [] s are = refl
@@ -217,7 +217,7 @@ module _ (whole : List Statement) (n : Name) (named : Contains (names whole) n) 
 
   module _ (ns : List Name) where
     -- the sinks of the lines from one on, before which these cells stand
-    line_sinks : (before : List Name) (ls : List Line) → AreRight ns (signal whole) ls
+    line_sinks : (before : List Name) (ls : List NumberedLine) → AreRight ns (signal whole) ls
         → Distinct (before ++ qs (statements_of ns ls))
         → qs whole ≡ before ++ qs (statements_of ns ls)
         → sinks_at (line_readers (length before) ls) (signal whole n)
@@ -242,7 +242,7 @@ module _ (whole : List Statement) (n : Name) (named : Contains (names whole) n) 
         grind (arith, same, rest, own)
     line_sinks before (_ ∷ ls) (e, are) once is = line_sinks before ls are once is
 
-    pub sinks_are : (lines : List Line) → statements_of ns lines ≡ whole
+    pub sinks_are : (lines : List NumberedLine) → statements_of ns lines ≡ whole
         → AreRight ns (signal whole) lines → Distinct (qs whole)
         → sinks_at (all_readers lines (filter_map output_number lines)) (signal whole n)
         ≡ sinks whole n
@@ -258,7 +258,8 @@ module _ (whole : List Statement) (n : Name) (named : Contains (names whole) n) 
 
 -- ---- numbered lines are such lines
 
-module _ (ns : List Name) (lines : List Line) (at : List ℕ) (are : AreStatements ns lines at) where
+module _ (ns : List Name) (lines : List NumberedLine) (at : List ℕ)
+    (are : AreStatements ns lines at) where
   abbrev c : List Statement
   c = statements_of ns lines
 
@@ -278,7 +279,7 @@ module _ (ns : List Name) (lines : List Line) (at : List ℕ) (are : AreStatemen
       let rest = right_numbers xs (λ s a. below s (inr a)) in
       cc
 
-  right : (ls : List Line) → ((s : ℕ) → Among s (flat_map numbers ls) → s < length ns)
+  right : (ls : List NumberedLine) → ((s : ℕ) → Among s (flat_map numbers ls) → s < length ns)
       → AreRight ns (signal c) ls
   right [] below = tt
   right (l ∷ ls) below = (
@@ -315,7 +316,7 @@ module _ (ns : List Name) (lines : List Line) (at : List ℕ) (are : AreStatemen
       × ((p : ℕ) → Among p (gate_pins lines s) → Among p (flat_map read_numbers lines))
   reads s = go (slice_get (filter defines_number lines) s) refl
     where
-      go : (o : Option Line) → slice_get (filter defines_number lines) s ≡ o
+      go : (o : Option NumberedLine) → slice_get (filter defines_number lines) s ≡ o
           → (length (pins_in (line_gate o)) ≤ length (flat_map read_numbers lines))
           × ((p : ℕ) → Among p (pins_in (line_gate o)) → Among p (flat_map read_numbers lines))
       go (Some (line.Gate t g)) e =
@@ -379,7 +380,7 @@ module _ (ns : List Name) (lines : List Line) (at : List ℕ) (are : AreStatemen
     sinks = are.sinks;
   }
     where
-      none : (ls : List Line) → statements_of ns ls ≡ [] → ls ≡ []
+      none : (ls : List NumberedLine) → statements_of ns ls ≡ [] → ls ≡ []
       none [] e = refl
       none (l ∷ ls) e = let bad : statement_of ns l ∷ statements_of ns ls ≡ [] = e in cc
 

@@ -19,10 +19,10 @@ use Rattle.bench_net.specs.Scan.{names}
 use Rattle.bench_net.specs.Circuit.{HaveArities, IsStuck}
 use Rattle.bench_net.specs.Refusal.{at_line, IsLowest, NoLine, IsRedefinition, IsUndefined}
 use Rattle.bench_net.specs.Refusal.{IsCyclic}
-use Rattle.lists.proofs.Members.{Among, among, contained, among_left, among_right, among_joined}
-use Rattle.lists.proofs.Members.{joined_from, each_passes}
+use Rattle.list_lemmas.proofs.Members.{Among, among, contained, among_left, among_right}
+use Rattle.list_lemmas.proofs.Members.{among_joined, joined_from, each_passes}
 use Rattle.bench_net.specs.declared.Kind.{Kind}
-use Rattle.lists.proofs.Distinct.{Distinct, distinct_append}
+use Rattle.list_lemmas.proofs.Distinct.{Distinct, distinct_append}
 use Rattle.bench_net.proofs.Names.{defined_few}
 
 abbrev pub Stated : Type 0

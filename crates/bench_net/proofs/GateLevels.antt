@@ -18,9 +18,9 @@ use Rattle.bench_net.specs.Circuit.{HasArgument, HaveArities, IsNumbering, IsStu
 use Rattle.bench_net.specs.Level.{greatest, AreLevels, HasLevel, IsLevelOrder, HasDepth}
 use Rattle.bench_net.specs.Marks.{pins_in, AreLevelsOf, HaveLevels, no_signal, one_more, IsStuckAt}
 use Rattle.bench_net.specs.Rows.{AreRows, rows_before}
-use Rattle.lists.proofs.Members.{Among, among, contained, some_passes, among_filter, among_append}
-use Rattle.lists.proofs.Members.{among_map, among_joined, mapped_from}
-use Rattle.lists.proofs.Places.{placed}
+use Rattle.list_lemmas.proofs.Members.{Among, among, contained, some_passes, among_filter}
+use Rattle.list_lemmas.proofs.Members.{among_append, among_map, among_joined, mapped_from}
+use Rattle.list_lemmas.proofs.Places.{placed}
 use Rattle.bench_net.proofs.Names.{any_true, same_bytes, at_position, definition_defines}
 use Rattle.bench_net.proofs.Names.{signal-name_of}
 use Rattle.bench_net.proofs.LevelSearch.{greatest-cons, greatest-among, one_level}

@@ -13,8 +13,8 @@ use Rattle.bench_net.specs.declared.levels.OpenGate.{OpenGate}
 use Rattle.bench_net.specs.Marks.{AreLevelsOf, HaveLevels, no_signal, one_more, IsLowestStuck}
 use Rattle.bench_net.specs.Marks.{HaveLevelsBelow, is_unknown, waiting_in, steps, pins_left}
 use Rattle.bench_net.specs.Marks.{signals_of, IsMark, IsOpen, IsPath, IsSearch, level_in}
-use Rattle.lists.proofs.Members.{Among, among, mapped_from}
-use Rattle.lists.proofs.Places.{at_place, within_place}
+use Rattle.list_lemmas.proofs.Members.{Among, among, mapped_from}
+use Rattle.list_lemmas.proofs.Places.{at_place, within_place}
 use Rattle.bench_net.proofs.LineTables.{written}
 
 -- ---- the greatest of some numbers

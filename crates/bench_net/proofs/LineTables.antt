@@ -6,16 +6,16 @@ use Rattle.std.specs.Prelude.{Option, Some, None, slice_get, slice_index}
 use Rattle.std.proofs.lemmas.Grind.{common_steps}
 use Rattle.std.proofs.lemmas.Bool.Decides.{nat_tests}
 use Rattle.std.proofs.lemmas.Option.{slice_get-get_or, slice_get_within, get_or_from_slice_get}
-use Rattle.bench_net.specs.declared.line.Line.{Line}
-use Rattle.bench_net.specs.declared.line.Line.TheVariants as line
+use Rattle.bench_net.specs.declared.line.NumberedLine.{NumberedLine}
+use Rattle.bench_net.specs.declared.line.NumberedLine.TheVariants as line
 use Rattle.bench_net.specs.Tables.{ArePlaces, defines_number, place_in, definition_places}
 
 -- ---- definitions
 
 -- the place of a signal is that of its line among the lines that define one
-places_at : (k : ℕ) (lines : List Line) (s p : ℕ)
+places_at : (k : ℕ) (lines : List NumberedLine) (s p : ℕ)
     → slice_get (filter_map place_in (enumerate_from k lines)) s ≡ Some p
-    → (i : ℕ) × (l : Line) × (p ≡ k + i) × (slice_get lines i ≡ Some l)
+    → (i : ℕ) × (l : NumberedLine) × (p ≡ k + i) × (slice_get lines i ≡ Some l)
     × (slice_get (filter defines_number lines) s ≡ Some l)
 places_at k [] s p e = let bad : None ≡ Some p = e in cc
 places_at k (line.Output t ∷ lines) s p e =
@@ -24,7 +24,8 @@ places_at k (l ∷ lines) zero p e = let same : k ≡ p = cc in (0, l, omega (ar
 places_at k (_ ∷ lines) (suc s) p e =
     let at = places_at (k + 1) lines s p e in (suc at.0, at.1, omega (arith, at.2), at.3, at.4)
 
-pub line_at : (lines : List Line) (places : List ℕ) (s : ℕ) → places ≡ definition_places lines
+pub line_at : (lines : List NumberedLine) (places : List ℕ) (s : ℕ)
+    → places ≡ definition_places lines
     → s < length places → (slice_index places s < length lines)
     × (slice_get lines (slice_index places s) ≡ slice_get (filter defines_number lines) s)
 line_at lines places s are lt =
@@ -33,11 +34,11 @@ line_at lines places s are lt =
     let same : slice_index places s ≡ i = omega (arith, is) in
     rw same (slice_get_within lines i l at, at ∙ sym own)
 
-pub definition_count : (lines : List Line)
+pub definition_count : (lines : List NumberedLine)
     → length (definition_places lines) ≡ length (filter defines_number lines)
 definition_count lines = go 0 lines
   where
-    go : (k : ℕ) (ls : List Line) → length (filter_map place_in (enumerate_from k ls))
+    go : (k : ℕ) (ls : List NumberedLine) → length (filter_map place_in (enumerate_from k ls))
         ≡ length (filter defines_number ls)
     go k [] = refl
     go k (line.Output t ∷ ls) = go (k + 1) ls

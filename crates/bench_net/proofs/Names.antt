@@ -11,8 +11,8 @@ use Rattle.std.proofs.lemmas.List.Kept.{AllPairs-cons}
 use Rattle.std.proofs.lemmas.List.Elements.{Contains-get_or}
 use Rattle.std.proofs.lemmas.Slice.Eq.{bytes_eq-Decides}
 use Rattle.bench_net.specs.Statement.{Name, Statement, Output, defined, Input, Gate, Dff, read}
-use Rattle.lists.proofs.Distinct.{Distinct, distinct_from_pairs, one_place_of}
-use Rattle.lists.proofs.Members.{contained, among, Among, among_joined}
+use Rattle.list_lemmas.proofs.Distinct.{Distinct, distinct_from_pairs, one_place_of}
+use Rattle.list_lemmas.proofs.Members.{contained, among, Among, among_joined}
 use Rattle.bench_net.specs.reader.Entries.{is_in}
 use Rattle.std.proofs.Math.Numerals.{one-add}
 use Rattle.bench_net.specs.Scan.{names, signal, name_of, definition}

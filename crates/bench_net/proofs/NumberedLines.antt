@@ -21,13 +21,13 @@ use Rattle.bench_net.specs.reader.Entries.{entry_of, entries_of, statements_in, 
 use Rattle.bench_net.specs.reader.Entries.{AreWithin, AreFew, ArePast, MayBe}
 use Rattle.bench_net.proofs.Reader.{sound_states}
 use Rattle.bench_net.proofs.OneAnswer.{unread_lowest}
-use Rattle.lists.proofs.Members.{Among, contained, mapped_from, joined_from, among_joined}
-use Rattle.lists.proofs.Members.{among_right, among}
+use Rattle.list_lemmas.proofs.Members.{Among, contained, mapped_from, joined_from, among_joined}
+use Rattle.list_lemmas.proofs.Members.{among_right, among}
 use Rattle.std.proofs.lemmas.Grind.{common_steps}
 use Rattle.std.proofs.lemmas.List.Concat.{flat_map-append, get_or-flat_map}
 use Rattle.std.proofs.lemmas.List.Folds.{length-flat_map-take, flat_map-map}
 use Rattle.std.proofs.lemmas.List.Elements.{All-append, All-map, All-contains, Contains-get_or}
-use Rattle.bench_net.specs.declared.line.Line.{Line}
+use Rattle.bench_net.specs.declared.line.NumberedLine.{NumberedLine}
 use Rattle.bench_net.specs.declared.number.StatedLine.{StatedLine}
 use Rattle.bench_net.specs.Stored.{name_at, statement_of, statements_of, defined_numbers}
 use Rattle.bench_net.specs.Stored.{read_numbers, numbers, AreStatements, AreRefused, AreLinesOf}
@@ -41,10 +41,10 @@ use Rattle.bench_net.specs.declared.BenchFault.TheVariants.{TooLarge, Redefined,
 use Rattle.text_lines.specs.Lines.{lines}
 use Rattle.bench_net.specs.Scan.{names}
 use Rattle.bench_net.specs.Circuit.{sink_count}
-use Rattle.lists.proofs.Distinct.{Distinct, distinct_from_pairs}
+use Rattle.list_lemmas.proofs.Distinct.{Distinct, distinct_from_pairs}
 use Rattle.bench_net.proofs.FaultyLines.{arities_of_text, redefined_lowest, undefined_lowest}
 use Rattle.bench_net.proofs.FaultyLines.{cyclic_lowest, no_redefinition, no_undefined}
-use Rattle.bench_net.specs.declared.line.Line.TheVariants as line
+use Rattle.bench_net.specs.declared.line.NumberedLine.TheVariants as line
 use Rattle.bench_net.specs.declared.BenchFault.TheVariants as fault
 
 -- what an entry stands for, its line states, behind the same statements
@@ -131,8 +131,8 @@ next_for stated i line h e =
     grind (arith, common_steps, e, place, defined_few (stands_for line.statement))
 
 -- one more line, numbered
-pub numbered_more : (ns : List Name) (stated : List StatedLine) (lines : List Line) (i : ℕ)
-    (new : StatedLine) (l : Line) (next : ℕ) → i < length stated → new ≡ get_or stated i new
+pub numbered_more : (ns : List Name) (stated : List StatedLine) (lines : List NumberedLine) (i : ℕ)
+    (new : StatedLine) (l : NumberedLine) (next : ℕ) → i < length stated → new ≡ get_or stated i new
     → AreNumberedLines ns (take i stated) lines → next + length (defined_of new) ≤ length ns
     → IsNumberedLine ns next (stands_for new.statement) l
     → AreNumberedLines ns (take (i + 1) stated) (lines ++ l ∷ [])
@@ -154,12 +154,12 @@ numbered_more ns stated lines i new l next h e so_far fits one = record {
         ∙ ap (λ ks. flat_map numbers lines ++ ks) (append-nil (numbers l))
 
 -- the names that a stored line reads are those of its numbers
-reads_of : (ns : List Name) (l : Line)
+reads_of : (ns : List Name) (l : NumberedLine)
     → read (statement_of ns l) ≡ map (name_at ns) (read_numbers l)
 reads_of ns (line.Input s) = refl
 reads_of ns _ = refl
 
-pub reads_numbers : (ns : List Name) (lines : List Line)
+pub reads_numbers : (ns : List Name) (lines : List NumberedLine)
     → flat_map read (statements_of ns lines) ≡ map (name_at ns) (flat_map read_numbers lines)
 reads_numbers ns [] = refl
 reads_numbers ns (l ∷ lines) =
@@ -167,14 +167,14 @@ reads_numbers ns (l ∷ lines) =
     (sym (map-append (name_at ns) (read_numbers l) (flat_map read_numbers lines)))
 
 -- what lines read, they hold
-pub reads_held : (ls : List Line) (k : ℕ) → Among k (flat_map read_numbers ls)
+pub reads_held : (ls : List NumberedLine) (k : ℕ) → Among k (flat_map read_numbers ls)
     → Among k (flat_map numbers ls)
 reads_held ls k a =
     let at = joined_from read_numbers ls k a in
     among_joined numbers ls at.0 k at.1 (among_right (defined_numbers at.0) _ k at.2)
 
 -- each name that numbered lines read is among the names
-pub known : (ns : List Name) (ls : List Line)
+pub known : (ns : List Name) (ls : List NumberedLine)
     → All (λ number. number < length ns) (flat_map numbers ls)
     → (n : Name) → Among n (flat_map read (statements_of ns ls)) → Contains ns n
 known ns ls in_range n a =
@@ -293,7 +293,7 @@ module _ (text : List ℕ) (stated : List StatedLine) (of : AreWithin text state
               (rw before_is before) (rw before_is once)),
         )
 
-    pub undefined : (ns : List Name) (ls : List Line) → ns ≡ names_in stated
+    pub undefined : (ns : List Name) (ls : List NumberedLine) → ns ≡ names_in stated
         → AllPairs (λ m n. m ≢ n) (names_in stated) → AreNumberedLines ns (take i stated) ls
         → list_all (is_in ns) (read_of line) ≡ false → IsRefused text (Undefined line.number)
     undefined ns ls is once numbered off =
@@ -309,7 +309,7 @@ module _ (text : List ℕ) (stated : List StatedLine) (of : AreWithin text state
         )
 
   -- the numbered lines are those of the text
-  module _ (ns : List Name) (ls : List Line) (at : List ℕ) (is : ns ≡ names_in stated)
+  module _ (ns : List Name) (ls : List NumberedLine) (at : List ℕ) (is : ns ≡ names_in stated)
       (once : AllPairs (λ m n. m ≢ n) (names_in stated)) (numbered : AreNumberedLines ns stated ls)
       (numbers_are : at ≡ map (λ line. line.number)
       (filter (λ line. defines (stands_for line.statement)) stated)) where

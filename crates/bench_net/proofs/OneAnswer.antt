@@ -23,8 +23,8 @@ use Rattle.bench_net.specs.Refusal.{IsRedefinition, IsUndefined, IsCyclic, IsAcc
 use Rattle.bench_net.specs.reader.Parsed.{stated_of}
 use Rattle.bench_net.specs.reader.Entries.{is_in}
 use Rattle.bench_net.proofs.Reader.{sound_states, complete_states, unstated}
-use Rattle.lists.proofs.Members.{among, contained, some_passes, joined_from}
-use Rattle.lists.proofs.Distinct.{distinct_from_pairs}
+use Rattle.list_lemmas.proofs.Members.{among, contained, some_passes, joined_from}
+use Rattle.list_lemmas.proofs.Distinct.{distinct_from_pairs}
 use Rattle.bench_net.proofs.Names.{any_true, in_contained, among_in, pairs_distinct}
 use Rattle.bench_net.proofs.FaultyLines.{Stated, names_of, stated_at, line_among, earlier}
 use Rattle.bench_net.proofs.FaultyLines.{no_redefinition, no_undefined, once_each}

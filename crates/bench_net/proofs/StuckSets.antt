@@ -15,8 +15,8 @@ use Rattle.bench_net.specs.Scan.{names, sources}
 use Rattle.bench_net.specs.Circuit.{HasArgument, IsNumbering, IsStuckSet, IsStuck, IsWellFormed}
 use Rattle.bench_net.specs.Circuit.{IsCircuit}
 use Rattle.bench_net.specs.reader.Entries.{is_in}
-use Rattle.lists.proofs.Members.{Among, among, contained, among_joined, among_filter, each_passes}
-use Rattle.lists.proofs.Members.{some_passes}
+use Rattle.list_lemmas.proofs.Members.{Among, among, contained, among_joined, among_filter}
+use Rattle.list_lemmas.proofs.Members.{each_passes, some_passes}
 use Rattle.bench_net.proofs.Names.{bytes_refl, same_bytes, any_true, among_in, in_contained}
 use Rattle.bench_net.proofs.Names.{read_named}
 use Rattle.bench_net.proofs.Reader.{some_args}

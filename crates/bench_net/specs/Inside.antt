@@ -3,7 +3,7 @@ use Rattle.std.specs.Prelude.{◌≡◌, ◌≢◌, ℕ, ◌+◌, ◌<◌, ◌^�
 use Rattle.std.specs.Prelude.{Option, Some, None, IfSome, IfNone, slice_get, slice_index}
 use Rattle.std.specs.Prelude.{slice_index_or}
 use Rattle.std.specs.List.{filter_map}
-use Rattle.bench_net.specs.declared.line.Line.{Line}
+use Rattle.bench_net.specs.declared.line.NumberedLine.{NumberedLine}
 use Rattle.bench_net.specs.declared.tables.Tables.{Tables}
 use Rattle.bench_net.specs.Statement.{Name, Statement}
 use Rattle.bench_net.specs.Scan.{names, signal, name_of, gate_of, inputs, outputs, cells, sources}
@@ -17,11 +17,11 @@ use Rattle.bench_net.specs.Tables.{line_gate, gate_pins, all_readers, AreSinkRow
 use Rattle.bench_net.specs.Marks.{IsGraph, AreLevelsOf}
 
 -- how many signals lines define
-abbrev pub signals_in : List Line → ℕ
+abbrev pub signals_in : List NumberedLine → ℕ
 signals_in lines = length (definition_places lines)
 
 -- lines few enough to be numbered, which name no other signals than those that they define
-pub record AreTableLines (lines : List Line) : Type 0 where
+pub record AreTableLines (lines : List NumberedLine) : Type 0 where
   pub few_lines : length lines < 2 ^ 31
   pub few_sources : length (source_signals lines) < 2 ^ 31
   pub sources_below : All (λ s. s < signals_in lines) (source_signals lines)
@@ -29,11 +29,11 @@ pub record AreTableLines (lines : List Line) : Type 0 where
   pub few_readers : length (all_readers lines (filter_map output_number lines)) < 2 ^ 31
   pub readers_below : All (λ s. s < signals_in lines)
       (map signal_read (all_readers lines (filter_map output_number lines)))
-  pub pins_fit : (l : Line) → Contains lines l → PinsFit l
+  pub pins_fit : (l : NumberedLine) → Contains lines l → PinsFit l
   pub graph : IsGraph lines (definition_places lines)
 
 -- the tables of lines over numbered signals
-pub record AreTables (lines : List Line) (tables : Tables) : Type 0 where
+pub record AreTables (lines : List NumberedLine) (tables : Tables) : Type 0 where
   pub inputs_are : tables.inputs.items ≡ filter_map input_number lines
   pub cells_are : tables.cells.items ≡ filter_map cell_numbers lines
   pub outputs_are : tables.outputs.items ≡ filter_map output_number lines
@@ -54,7 +54,7 @@ IsPlace c s place = IfSome place (λ i. slice_get (sources c) i ≡ name_of c s)
     × IfNone place ((i : ℕ) → slice_get (sources c) i ≢ name_of c s)
 
 -- the names are those of a circuit, and the tables are its tables
-pub record IsInside (c : List Statement) (ns : List Name) (lines : List Line)
+pub record IsInside (c : List Statement) (ns : List Name) (lines : List NumberedLine)
     (tables : Tables) : Type 0 where
   pub circuit : IsCircuit c
   pub names_are : names c ≡ ns

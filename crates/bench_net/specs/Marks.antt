@@ -2,8 +2,8 @@
 use Rattle.std.specs.Prelude.{◌≡◌, ℕ, ◌+◌, ◌-◌, ◌*◌, ◌<◌, ◌≤◌, ◌^◌, List, [], ◌∷◌, map, take}
 use Rattle.std.specs.Prelude.{length, max, count_by, sum_by, Some, slice_get, slice_index, Bool}
 use Rattle.std.specs.Prelude.{true, false}
-use Rattle.lists.proofs.Members.{Among}
-use Rattle.bench_net.specs.declared.line.Line.{Line}
+use Rattle.list_lemmas.proofs.Members.{Among}
+use Rattle.bench_net.specs.declared.line.NumberedLine.{NumberedLine}
 use Rattle.bench_net.specs.declared.levels.Mark.{Mark}
 use Rattle.bench_net.specs.declared.levels.Mark.TheVariants.{Unknown, Open, Level}
 use Rattle.bench_net.specs.declared.levels.OpenGate.{OpenGate}
@@ -13,7 +13,7 @@ use Rattle.bench_net.specs.Tables.{definition_places}
 pub use Rattle.bench_net.specs.Tables.{pins_in, gate_pins}
 
 -- the line of each signal stands at its place, and each pin reads a signal
-pub record IsGraph (lines : List Line) (definitions : List ℕ) : Type 0 where
+pub record IsGraph (lines : List NumberedLine) (definitions : List ℕ) : Type 0 where
   pub few : length definitions < 2 ^ 31
   pub few_lines : length lines < 2 ^ 32
   pub definitions_are : definitions ≡ definition_places lines

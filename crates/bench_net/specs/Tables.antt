@@ -4,30 +4,30 @@ use Rattle.std.specs.Prelude.{filter, length, Option, Some, None, true, false, i
 use Rattle.std.specs.Prelude.{slice_get, slice_index, slice_index_or, slice_range}
 use Rattle.std.specs.List.{enumerate_from, filter_map}
 use Rattle.bench_net.specs.declared.Kind.{Kind}
-use Rattle.bench_net.specs.declared.line.Line.{Line}
-use Rattle.bench_net.specs.declared.line.Line.TheVariants as line
+use Rattle.bench_net.specs.declared.line.NumberedLine.{NumberedLine}
+use Rattle.bench_net.specs.declared.line.NumberedLine.TheVariants as line
 use Rattle.bench_net.specs.declared.ScanCell.{ScanCell}
 use Rattle.bench_net.specs.declared.Sink.{Sink}
 use Rattle.bench_net.specs.declared.Sink.TheVariants.{Pin, Data, Out}
 use Rattle.bench_net.specs.declared.sinks.Reader.{Reader}
 
 -- the number that an INPUT line defines
-abbrev pub input_number : Line → Option ℕ
+abbrev pub input_number : NumberedLine → Option ℕ
 input_number (line.Input s) = Some s
 input_number _ = None
 
 -- the number that an OUTPUT line observes
-abbrev pub output_number : Line → Option ℕ
+abbrev pub output_number : NumberedLine → Option ℕ
 output_number (line.Output s) = Some s
 output_number _ = None
 
 -- the cell of a flip-flop line
-abbrev pub cell_numbers : Line → Option ScanCell
+abbrev pub cell_numbers : NumberedLine → Option ScanCell
 cell_numbers (line.Dff q d) = Some (record { q = q; d = d })
 cell_numbers _ = None
 
 -- the kind and the pins of a gate line
-abbrev pub line_gate : Option Line → Option (Kind × List ℕ)
+abbrev pub line_gate : Option NumberedLine → Option (Kind × List ℕ)
 line_gate (Some (line.Gate s g)) = Some (g.kind, g.pins.items)
 line_gate _ = None
 
@@ -37,19 +37,19 @@ pins_in None = []
 pins_in (Some gate) = gate.1
 
 -- a line defines a signal: every line but an OUTPUT line does
-abbrev pub defines_number : Line → Bool
+abbrev pub defines_number : NumberedLine → Bool
 defines_number (line.Output s) = false
 defines_number _ = true
 
 -- the places of the lines that define a signal, in order
-abbrev pub place_in : ℕ × Line → Option ℕ
+abbrev pub place_in : ℕ × NumberedLine → Option ℕ
 place_in at = if defines_number at.1 then Some at.0 else None
 
-abbrev pub definition_places : List Line → List ℕ
+abbrev pub definition_places : List NumberedLine → List ℕ
 definition_places lines = filter_map place_in (enumerate_from 0 lines)
 
 -- the numbers that the pins of a signal's gate read
-abbrev pub gate_pins : List Line → ℕ → List ℕ
+abbrev pub gate_pins : List NumberedLine → ℕ → List ℕ
 gate_pins lines s = pins_in (line_gate (slice_get (filter defines_number lines) s))
 
 -- of each signal below a number its place among the first n sources
@@ -78,7 +78,7 @@ abbrev pub output_readers : List ℕ → List Reader
 output_readers outputs = readers_from Out 0 outputs
 
 -- the gate pins and data pins of lines, in order, where the first cell has this number
-abbrev pub line_readers : ℕ → List Line → List Reader
+abbrev pub line_readers : ℕ → List NumberedLine → List Reader
 line_readers cell [] = []
 line_readers cell (line.Input s ∷ lines) = line_readers cell lines
 line_readers cell (line.Output s ∷ lines) = line_readers cell lines
@@ -88,7 +88,7 @@ line_readers cell (line.Dff q d ∷ lines) =
     record { signal = d; sink = Data cell } ∷ line_readers (cell + 1) lines
 
 -- the readers of all signals: gate pins and data pins by their lines, then the outputs
-abbrev pub all_readers : List Line → List ℕ → List Reader
+abbrev pub all_readers : List NumberedLine → List ℕ → List Reader
 all_readers lines outputs = line_readers 0 lines ++ output_readers outputs
 
 -- the reader at a place, and past the last one a reader of nothing
@@ -119,11 +119,11 @@ pub record AreSinkRows (readers : List Reader) (signals : ℕ) (starts : List �
       → HasRow starts sinks s × (row_of starts sinks s ≡ sinks_at readers s)
 
 -- a line's pins can be numbered
-abbrev pub PinsFit : Line → Type 0
+abbrev pub PinsFit : NumberedLine → Type 0
 PinsFit (line.Gate s gate) = length gate.pins.items < 2 ^ 32
 PinsFit _ = Unit {0}
 
 -- the signals of the inputs, and then those of the cells' outputs
-abbrev pub source_signals : List Line → List ℕ
+abbrev pub source_signals : List NumberedLine → List ℕ
 source_signals lines =
     filter_map input_number lines ++ map (λ cell. cell.q) (filter_map cell_numbers lines)

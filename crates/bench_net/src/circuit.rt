@@ -9,7 +9,7 @@ ghost use Rattle.bench_net.specs.Circuit.{IsCircuit};
 ghost use Rattle.bench_net.specs.Level.{HasLevel, HasDepth, IsLevelOrder};
 ghost use Rattle.bench_net.specs.Stored.{statements_of, AreStatements, AreRefused};
 
-use crate::line::{Line, line_of};
+use crate::line::{NumberedLine, line_of};
 use crate::read::Lines;
 use crate::tables::{Tables, tables_of};
 use crate::{BenchFault, GateLine, ScanCell, Sink};
@@ -20,7 +20,7 @@ use std::marker::Model;
 #[derive(Drop)]
 pub struct Circuit {
     names: Vec<String>,
-    lines: Vec<Line>,
+    lines: Vec<NumberedLine>,
     tables: Tables,
 }
 
@@ -107,8 +107,8 @@ impl Circuit {
             ≡ gate_of self.now signal }
     {
         match line_of(&self.lines, &self.tables.definitions, signal) {
-            Line::Gate(_, gate) => Some(gate),
-            Line::Input(_) | Line::Output(_) | Line::Dff(_, _) => None,
+            NumberedLine::Gate(_, gate) => Some(gate),
+            NumberedLine::Input(_) | NumberedLine::Output(_) | NumberedLine::Dff(_, _) => None,
         }
     }
 

@@ -12,7 +12,7 @@ ghost use Rattle.bench_net.specs.Marks.{pins_in, gate_pins, IsGraph, AreLevelsOf
 ghost use Rattle.bench_net.specs.Marks.{HaveLevelsBelow, IsSearch, steps, level_in};
 
 use crate::BenchFault;
-use crate::line::{Line, line_of};
+use crate::line::{NumberedLine, line_of};
 use crate::rows::rows_of;
 use std::alloc::Global;
 
@@ -42,18 +42,18 @@ struct OpenGate {
 }
 
 /// Returns the signals that the pins of a line's gate read; none for a line without a gate.
-fn pins(line: &Line) -> &[u32]
+fn pins(line: &NumberedLine) -> &[u32]
     ensures { result.now ≡ pins_in (line_gate (Some line.now)) }
 {
     match line {
-        Line::Gate(_, driver) => driver.pins.as_slice(),
-        Line::Dff(_, _) => &[],
-        Line::Input(_) | Line::Output(_) => &[],
+        NumberedLine::Gate(_, driver) => driver.pins.as_slice(),
+        NumberedLine::Dff(_, _) => &[],
+        NumberedLine::Input(_) | NumberedLine::Output(_) => &[],
     }
 }
 
 /// Returns the signal that a pin of a signal's gate reads, if there is such a pin.
-fn pin_of(lines: &[Line], definitions: &[usize], signal: u32, pin: u32) -> Option<u32>
+fn pin_of(lines: &[NumberedLine], definitions: &[usize], signal: u32, pin: u32) -> Option<u32>
     requires graph { IsGraph lines.now definitions.now }
     requires below { signal < length definitions.now }
     ensures { result ≡ slice_get (gate_pins lines.now signal) pin }
@@ -67,7 +67,7 @@ fn pin_of(lines: &[Line], definitions: &[usize], signal: u32, pin: u32) -> Optio
 /// to an unknown signal, or out of the gate with a level. A pin that reads an open signal closes a
 /// cycle.
 fn visit(
-    lines: &[Line],
+    lines: &[NumberedLine],
     definitions: &[usize],
     at: &[u64],
     start: u32,
@@ -114,7 +114,7 @@ fn visit(
 /// Marks a signal with its level, and also the lower signals that need one. Each lower signal has a
 /// level.
 fn settle(
-    lines: &[Line],
+    lines: &[NumberedLine],
     definitions: &[usize],
     at: &[u64],
     start: u32,
@@ -163,7 +163,7 @@ fn level_in(mark: &Mark) -> u32
 /// path that meets itself is on a cycle, which feeds the signal that the path started from.
 fn signal_levels(
     alloc: Global,
-    lines: &[Line],
+    lines: &[NumberedLine],
     definitions: &[usize],
     at: &[u64],
 ) -> Result<Vec<u32>, BenchFault>
@@ -186,7 +186,7 @@ fn signal_levels(
 /// cycle of gates or fed by one, with the lowest such line by its number.
 pub fn levels_of(
     alloc: Global,
-    lines: &[Line],
+    lines: &[NumberedLine],
     definitions: &[usize],
     at: &[u64],
 ) -> Result<Levels, BenchFault>

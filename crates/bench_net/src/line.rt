@@ -7,7 +7,7 @@ use crate::GateLine;
 
 /// A statement over signal numbers: each name that it defines or reads is given by its number.
 #[derive(Drop)]
-pub enum Line {
+pub enum NumberedLine {
     Input(u32),
     Output(u32),
     Gate(u32, GateLine),
@@ -15,7 +15,11 @@ pub enum Line {
 }
 
 /// Returns the line that defines a signal, given the place of each signal's line.
-pub fn line_of<'a>(lines: &'a [Line], definitions: &[usize], signal: u32) -> &'a Line
+pub fn line_of<'a>(
+    lines: &'a [NumberedLine],
+    definitions: &[usize],
+    signal: u32,
+) -> &'a NumberedLine
     requires few { length lines.now < 2 ^ 32 }
     requires definitions { definitions.now ≡ definition_places lines.now }
     requires below { signal < length definitions.now }

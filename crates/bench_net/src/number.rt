@@ -12,7 +12,7 @@ ghost use Rattle.bench_net.specs.Statement.{defined, defines, read};
 ghost use Rattle.bench_net.specs.reader.Parsed.{stands_for, names_of, FailsBy};
 ghost use Rattle.bench_net.specs.reader.Entries.{names_in, is_in, MayBeOf};
 
-use crate::line::Line;
+use crate::line::NumberedLine;
 use crate::statement::Stated;
 use crate::{BenchFault, GateLine};
 use indexmap::IndexSet;
@@ -113,7 +113,7 @@ fn number_line(
     next: u32,
     names: &Names,
     refusal: BenchFault,
-) -> Result<Line, BenchFault>
+) -> Result<NumberedLine, BenchFault>
     requires few { length names.now.keys ≤ max_signals }
     requires own { IsNextFor (names_of names.now.keys) next (stands_for statement.now) }
     ensures numbered { IfOk result
@@ -122,19 +122,19 @@ fn number_line(
         (list_all (is_in (names_of names.now.keys)) (read (stands_for statement.now)) ≡ false)) }
 {
     match statement {
-        Stated::Input(_) => Ok(Line::Input(next)),
+        Stated::Input(_) => Ok(NumberedLine::Input(next)),
         Stated::Output(name) => {
             let number = number_of(names, *name, refusal)?;
-            Ok(Line::Output(number))
+            Ok(NumberedLine::Output(number))
         }
         Stated::Gate(_, kind, arguments) => {
             let kind = *kind;
             let pins = number_pins(alloc, arguments.as_slice(), names, refusal)?;
-            Ok(Line::Gate(next, GateLine { kind, pins }))
+            Ok(NumberedLine::Gate(next, GateLine { kind, pins }))
         }
         Stated::Dff(_, data) => {
             let number = number_of(names, *data, refusal)?;
-            Ok(Line::Dff(next, number))
+            Ok(NumberedLine::Dff(next, number))
         }
     }
 }
@@ -151,7 +151,7 @@ pub fn number_lines(
     alloc: Global,
     stated: &[StatedLine],
     names: &Names,
-) -> Result<Vec<Line>, BenchFault>
+) -> Result<Vec<NumberedLine>, BenchFault>
     requires few { length names.now.keys ≤ max_signals }
     requires own { names_of names.now.keys ≡ names_in stated.now }
     requires once { AllPairs (λ m n. m ≢ n) (names_in stated.now) }

@@ -16,7 +16,7 @@ ghost use Rattle.bench_net.specs.reader.Parsed.{stands_for};
 ghost use Rattle.bench_net.specs.Statement.{read};
 ghost use Rattle.bench_net.specs.Stored.{AreLinesOf};
 
-use crate::line::Line;
+use crate::line::NumberedLine;
 use crate::number::{
     StatedLine, defined_count, line_numbers, number_lines, number_names, own_names,
 };
@@ -39,7 +39,7 @@ const MAX_SINKS: usize = 4_000_000;
 #[derive(Drop)]
 pub struct Lines {
     pub names: Vec<String>,
-    pub lines: Vec<Line>,
+    pub lines: Vec<NumberedLine>,
     pub at: Vec<u64>,
 }
 

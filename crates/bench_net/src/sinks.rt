@@ -5,10 +5,10 @@ ghost use Rattle.std.specs.Prelude.{Contains, OnOk, IfOk};
 ghost use Rattle.bench_net.specs.Tables.{pin_readers, output_readers, line_readers, all_readers};
 ghost use Rattle.bench_net.specs.Tables.{signal_read, reader_at, row_of, HasRow, AreSinkRows};
 ghost use Rattle.bench_net.specs.Tables.{PinsFit};
-ghost use Rattle.bench_net.specs.declared.line.Line.{Line};
+ghost use Rattle.bench_net.specs.declared.line.NumberedLine.{NumberedLine};
 
 use crate::Sink;
-use crate::line::Line;
+use crate::line::NumberedLine;
 use crate::rows::rows_of;
 use std::alloc::{AllocError, Global};
 
@@ -74,21 +74,21 @@ fn add_outputs(readers: &mut Vec<Reader>, outputs: &[u32]) -> Result<(), AllocEr
 }
 
 /// Adds the gate pins and data pins of the lines, in order.
-fn add_lines(readers: &mut Vec<Reader>, lines: &[Line]) -> Result<(), AllocError>
+fn add_lines(readers: &mut Vec<Reader>, lines: &[NumberedLine]) -> Result<(), AllocError>
     requires few { length lines.now < 2 ^ 32 }
-    requires pins { (l : Line) → Contains lines.now l → PinsFit l }
+    requires pins { (l : NumberedLine) → Contains lines.now l → PinsFit l }
     ensures { OnOk result (readers.new.items ≡ readers.old.items ++ line_readers 0 lines.now) }
 {
     let mut cell = 0;
     for line in lines {
         match line {
-            Line::Gate(gate, driver) => add_pins(readers, *gate, driver.pins.as_slice())?,
-            Line::Dff(_, d) => {
+            NumberedLine::Gate(gate, driver) => add_pins(readers, *gate, driver.pins.as_slice())?,
+            NumberedLine::Dff(_, d) => {
                 let sink = Sink::Data { cell };
                 readers.push(Reader { signal: *d, sink })?;
                 cell += 1;
             }
-            Line::Input(_) | Line::Output(_) => {}
+            NumberedLine::Input(_) | NumberedLine::Output(_) => {}
         }
     }
     Ok(())
@@ -108,10 +108,14 @@ fn sinks_of(alloc: Global, readers: &[Reader], places: &[u32]) -> Result<Vec<Sin
 }
 
 /// Returns the readers of all signals: gate pins and data pins by their lines, then the outputs.
-pub fn readers_of(alloc: Global, lines: &[Line], outputs: &[u32]) -> Result<Vec<Reader>, AllocError>
+pub fn readers_of(
+    alloc: Global,
+    lines: &[NumberedLine],
+    outputs: &[u32],
+) -> Result<Vec<Reader>, AllocError>
     requires few_lines { length lines.now < 2 ^ 32 }
     requires few_outputs { length outputs.now < 2 ^ 32 }
-    requires pins { (l : Line) → Contains lines.now l → PinsFit l }
+    requires pins { (l : NumberedLine) → Contains lines.now l → PinsFit l }
     ensures { IfOk result (λ readers. readers.items ≡ all_readers lines.now outputs.now) }
 {
     let mut readers = Vec::new(alloc);

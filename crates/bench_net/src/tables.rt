@@ -8,7 +8,7 @@ ghost use Rattle.bench_net.specs.Marks.{IsLevelFault};
 ghost use Rattle.bench_net.specs.Inside.{signals_in, AreTableLines, AreTables};
 
 use crate::levels::{Levels, levels_of};
-use crate::line::Line;
+use crate::line::NumberedLine;
 use crate::sinks::{SinkRows, readers_of, sink_rows};
 use crate::{BenchFault, ScanCell};
 use std::alloc::{AllocError, Global};
@@ -35,53 +35,53 @@ pub struct Tables {
 }
 
 /// Returns whether a line defines a signal: every line but an OUTPUT line does.
-fn defines(line: &Line) -> bool
+fn defines(line: &NumberedLine) -> bool
     ensures { result ≡ defines_number line.now }
 {
-    !matches!(line, Line::Output(_))
+    !matches!(line, NumberedLine::Output(_))
 }
 
 /// Returns the signals of the INPUT lines, in order.
-pub fn input_signals(alloc: Global, lines: &[Line]) -> Result<Vec<u32>, AllocError>
+pub fn input_signals(alloc: Global, lines: &[NumberedLine]) -> Result<Vec<u32>, AllocError>
     ensures { IfOk result (λ v. v.items ≡ filter_map input_number lines.now) }
 {
     lines
         .iter()
         .filter_map(|line| match line {
-            Line::Input(signal) => Some(*signal),
+            NumberedLine::Input(signal) => Some(*signal),
             _ => None,
         })
         .collect(alloc)
 }
 
 /// Returns the signals of the OUTPUT lines, in order.
-pub fn output_signals(alloc: Global, lines: &[Line]) -> Result<Vec<u32>, AllocError>
+pub fn output_signals(alloc: Global, lines: &[NumberedLine]) -> Result<Vec<u32>, AllocError>
     ensures { IfOk result (λ v. v.items ≡ filter_map output_number lines.now) }
 {
     lines
         .iter()
         .filter_map(|line| match line {
-            Line::Output(signal) => Some(*signal),
+            NumberedLine::Output(signal) => Some(*signal),
             _ => None,
         })
         .collect(alloc)
 }
 
 /// Returns the flip-flop cells, in order.
-pub fn cells(alloc: Global, lines: &[Line]) -> Result<Vec<ScanCell>, AllocError>
+pub fn cells(alloc: Global, lines: &[NumberedLine]) -> Result<Vec<ScanCell>, AllocError>
     ensures { IfOk result (λ v. v.items ≡ filter_map cell_numbers lines.now) }
 {
     lines
         .iter()
         .filter_map(|line| match line {
-            Line::Dff(q, d) => Some(ScanCell { q: *q, d: *d }),
+            NumberedLine::Dff(q, d) => Some(ScanCell { q: *q, d: *d }),
             _ => None,
         })
         .collect(alloc)
 }
 
 /// Returns for each signal the place, among all lines, of the line that defines it.
-pub fn definitions(alloc: Global, lines: &[Line]) -> Result<Vec<usize>, AllocError>
+pub fn definitions(alloc: Global, lines: &[NumberedLine]) -> Result<Vec<usize>, AllocError>
     ensures { IfOk result (λ places. places.items ≡ definition_places lines.now) }
 {
     lines
@@ -124,7 +124,7 @@ pub fn source_places(
 
 /// Returns the tables of lines. It fails if a signal is on a cycle of gates or fed by one, with the
 /// lowest such line by its number.
-pub fn tables_of(alloc: Global, lines: &[Line], at: &[u64]) -> Result<Tables, BenchFault>
+pub fn tables_of(alloc: Global, lines: &[NumberedLine], at: &[u64]) -> Result<Tables, BenchFault>
     requires lines { AreTableLines lines.now }
     requires at { length at.now ≡ signals_in lines.now }
     ensures tables { IfOk result (AreTables lines.now) }

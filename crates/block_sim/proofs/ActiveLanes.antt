@@ -8,8 +8,8 @@ use Rattle.std.specs.Int.{trailing_zeros, w128}
 use Rattle.std.proofs.lemmas.Bool.{cases_lt, false≢true, lt-ltb, ltb-true}
 use Rattle.std.proofs.lemmas.Nat.Bits.{bit_at-trailing_zeros}
 use Rattle.bench_net.specs.Statement.{Statement}
-use Rattle.lists.proofs.Members.{contained}
-use Rattle.lists.proofs.Places.{at_place, place_within, within_place}
+use Rattle.list_lemmas.proofs.Members.{contained}
+use Rattle.list_lemmas.proofs.Places.{at_place, place_within, within_place}
 use Rattle.fault_model.specs.declared.Line.{Line}
 use Rattle.fault_model.specs.declared.Model.{Model}
 use Rattle.fault_model.specs.Fault.{Fault, FaultList, faults}

@@ -5,7 +5,7 @@ use Rattle.std.specs.Prelude.{All, Contains, option_map}
 use Rattle.std.proofs.lemmas.List.Elements.{All-map}
 use Rattle.bench_net.specs.Statement.{Statement}
 use Rattle.bench_net.specs.Circuit.{IsWellFormed}
-use Rattle.lists.proofs.Members.{among, contained, among_map}
+use Rattle.list_lemmas.proofs.Members.{among, contained, among_map}
 use Rattle.fault_model.specs.Reordered.{IsReordered, place}
 use Rattle.block_sim.specs.declared.flat.Standing.{Standing}
 use Rattle.block_sim.specs.Events.{Reads, IsLive}

@@ -12,8 +12,8 @@ use Rattle.bench_net.specs.Scan.{names, observers, sources, signal}
 use Rattle.bench_net.specs.Circuit.{IsWellFormed}
 use Rattle.bench_net.specs.Level.{HasDepth, HasLevel}
 use Rattle.bench_net.proofs.Public.{name_of-signal, read_named}
-use Rattle.lists.proofs.Members.{Among, among, among_map}
-use Rattle.lists.proofs.Places.{at_place, place_within, within_place}
+use Rattle.list_lemmas.proofs.Members.{Among, among, among_map}
+use Rattle.list_lemmas.proofs.Places.{at_place, place_within, within_place}
 use Rattle.patterns.specs.Least.{below}
 use Rattle.patterns.proofs.Public.{get_or-below, length-below}
 use Rattle.fault_model.specs.declared.Line.TheVariants as line
@@ -21,8 +21,8 @@ use Rattle.fault_model.specs.Detection.{name_on}
 use Rattle.fault_model.specs.Reordered.{HasSameSignals, IsReordered, place}
 use Rattle.fault_model.proofs.Public.{below_greatest, in_signal_order}
 use Rattle.fault_model.proofs.Public.{same_signals, same_sources, well_reordered}
-use Rattle.block_sim.specs.declared.changes.Changes.{Changes}
-use Rattle.block_sim.specs.Changes.{HasRoomFor}
+use Rattle.block_sim.specs.declared.propagation_state.PropagationState.{PropagationState}
+use Rattle.block_sim.specs.PropagationState.{HasRoomFor}
 use Rattle.block_sim.specs.Arranged.{ArePlaces, IsArranged, IsFlowOrder}
 use Rattle.block_sim.specs.Events.{Reads, IsRising}
 use Rattle.block_sim.proofs.FaultStart.{data_observed, output_observed}
@@ -164,7 +164,7 @@ module _ (c d : List Statement) (well : IsWellFormed c) (arranged : IsArranged c
           )
 
   -- what has room for the circuit has room for it there
-  pub room_there : (changes : Changes) → HasRoomFor c changes → HasRoomFor d changes
+  pub room_there : (changes : PropagationState) → HasRoomFor c changes → HasRoomFor d changes
   room_there changes room = record {
     overlay = omega (arith, room.overlay, count_there);
     gates = omega (arith, room.gates, count_there);

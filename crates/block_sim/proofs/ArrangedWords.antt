@@ -14,7 +14,7 @@ use Rattle.fault_model.specs.Solution.{Solves, Test, shows}
 use Rattle.fault_model.specs.Reordered.{moved_fault, moved_line, place}
 use Rattle.fault_model.proofs.Public.{carries, circuit_reordered, detected_same}
 use Rattle.fault_model.proofs.Public.{detected_same_at, looks_back_same, same_sinks, solved_same}
-use Rattle.lists.proofs.Members.{Among}
+use Rattle.list_lemmas.proofs.Members.{Among}
 use Rattle.block_sim.specs.declared.region.Reach.TheVariants.{Observed}
 use Rattle.block_sim.specs.declared.origin.Origin.{Origin}
 use Rattle.block_sim.specs.declared.words.Stuck.{Stuck}
@@ -22,13 +22,13 @@ use Rattle.block_sim.specs.Arranged.{IsArranged}
 use Rattle.block_sim.specs.Origins.{IsStuckOf, Starts}
 use Rattle.block_sim.specs.Stuck.{stuck_fault}
 use Rattle.block_sim.specs.Regions.{AreLanesFor, IsReached}
-use Rattle.block_sim.specs.First.{AreTold}
-use Rattle.block_sim.specs.Spans.{group_of}
-use Rattle.block_sim.specs.declared.span.Span.{Span}
-use Rattle.block_sim.specs.Spreading.{AreShown}
+use Rattle.block_sim.specs.First.{AreDetectingLanes}
+use Rattle.block_sim.specs.BlockSpans.{group_of}
+use Rattle.block_sim.specs.declared.block_span.BlockSpan.{BlockSpan}
+use Rattle.block_sim.specs.Propagation.{AreShown}
 use Rattle.block_sim.specs.Responses.{AreResponses}
 use Rattle.block_sim.specs.Words.{AreWords, IsFaultFreeWord, test_of}
-use Rattle.block_sim.proofs.EndOfSpread.{told_of_shown}
+use Rattle.block_sim.proofs.EndOfPropagation.{told_of_shown}
 use Rattle.block_sim.proofs.ResponseRows.{observed_named}
 use Rattle.block_sim.proofs.ArrangedSignals.{reordered, signals_there, well_there}
 
@@ -119,11 +119,11 @@ module _ (c d : List Statement) (well : IsWellFormed c) (arranged : IsArranged c
       )
 
   -- what is shown there of the fault that moved is told here of the fault
-  pub told_there : (tests : List Test) (span : Span) (f : Fault) (good : List ℕ)
+  pub told_there : (tests : List Test) (span : BlockSpan) (f : Fault) (good : List ℕ)
       (lanes seen : ℕ) → AreWords d tests (group_of span) None good
       → AreLanesFor tests span c f lanes → (settled : ℕ → Type 0)
       → AreShown d tests (group_of span) (λ _. moved_fault c d f) good lanes settled seen
-      → AreTold c tests span f settled seen
+      → AreDetectingLanes c tests span f settled seen
   told_there tests span f good lanes seen words decides settled shown =
       let same = reordered c d well arranged in
       let there : AreLanesFor tests span d (moved_fault c d f) lanes = λ k lt.
@@ -131,15 +131,15 @@ module _ (c d : List Statement) (well : IsWellFormed c) (arranged : IsArranged c
       let back = looks_back_same c d well same tests f.model f.line f.stuck
       (128 * group_of span + k) in
       (λ e. ((own.0 e).0, back.0 (own.0 e).1), λ e. own.1 (e.0, back.1 e.1)) in
-      let told = told_of_shown d tests span (moved_fault c d f) good lanes seen
+      let detection = told_of_shown d tests span (moved_fault c d f) good lanes seen
       (well_there c d well arranged) words there settled shown in
       record {
         found = λ k lt e. (
-          (told.found k lt e).0,
+          (detection.found k lt e).0,
           (detected_same_at c d well same tests f
-              (128 * group_of span + k)).1 (told.found k lt e).1,
+              (128 * group_of span + k)).1 (detection.found k lt e).1,
         );
-        clear = λ k lt own none still at. told.clear k lt own none still
+        clear = λ k lt own none still at. detection.clear k lt own none still
             ((detected_same_at c d well same tests f (128 * group_of span + k)).0 at);
       }
 

@@ -9,7 +9,7 @@ use Rattle.bench_net.specs.Statement.{Name, Statement, Gate}
 use Rattle.bench_net.specs.Scan.{names, signal, observers}
 use Rattle.bench_net.specs.Circuit.{IsWellFormed}
 use Rattle.bench_net.specs.Level.{HasLevel}
-use Rattle.lists.proofs.Members.{Among, among, contained}
+use Rattle.list_lemmas.proofs.Members.{Among, among, contained}
 use Rattle.fault_model.specs.declared.Line.TheVariants as line
 use Rattle.fault_model.specs.Fault.{branch}
 use Rattle.fault_model.specs.Solution.{Test, Solves, shows}

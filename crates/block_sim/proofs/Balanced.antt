@@ -13,7 +13,7 @@ use Rattle.fault_model.specs.Fault.{Fault}
 use Rattle.fault_model.specs.Solution.{Test, Solves, value}
 use Rattle.block_sim.specs.Words.{lane, lane_bits, pin_bits, test_of, AreWords}
 use Rattle.block_sim.specs.Events.{bits_of, HasEquation, Reads, IsElsewhere, IsLive, AreScheduled}
-use Rattle.block_sim.specs.Spreading.{IsBalanced}
+use Rattle.block_sim.specs.Propagation.{IsBalanced}
 use Rattle.block_sim.proofs.WordsToSolutions.{lane_same}
 use Rattle.block_sim.proofs.SignalEquations.{each_equation, all_equations, equation_same}
 use Rattle.block_sim.proofs.SignalEquations.{equation_elsewhere, equation_kept}

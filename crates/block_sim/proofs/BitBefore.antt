@@ -16,8 +16,8 @@ use Rattle.fault_model.specs.Solution.{Test, Solves}
 use Rattle.fault_model.specs.Detection.{name_on, HasBit, IsInitialized}
 use Rattle.fault_model.proofs.Public.{agree}
 use Rattle.bench_net.proofs.Public.{signal-name_of}
-use Rattle.lists.proofs.Members.{contained}
-use Rattle.lists.proofs.Places.{at_place, within_place}
+use Rattle.list_lemmas.proofs.Members.{contained}
+use Rattle.list_lemmas.proofs.Places.{at_place, within_place}
 use Rattle.block_sim.proofs.ListPlaces.{index_of}
 use Rattle.block_sim.specs.Words.{lane, lane_bits, test_of, AreWords, IsFaultFreeWord}
 use Rattle.block_sim.proofs.Lanes.{lane_and, lane_not, lane_ones}
@@ -144,7 +144,7 @@ fits_where bit before fits k few lt (inr h) = (
 
 module _ (c : List Statement) (tests : List Test) (group k before fits : ℕ) (l : Line) (bit : Bool)
     (lt : k < 128) (listed : 128 * group + k < length tests)
-    (told : (t : ℕ) → suc t ≡ 128 * group + k
+    (detection : (t : ℕ) → suc t ≡ 128 * group + k
     → (lane before k ≡ bit) ↔ HasBit c (slice_index_or tests t []) l bit)
     (fit : (lane fits k ≡ true) ↔ (lane before k ≡ bit)) where
   -- where there is a test before
@@ -156,7 +156,7 @@ module _ (c : List Statement) (tests : List Test) (group k before fits : ℕ) (l
           → Decides (lane fits k) (IsInitialized c tests l bit (128 * group + k))
       go zero e up = absurd (omega (arith, up))
       go (suc t) e up =
-          let bits = told t (sym e) in
+          let bits = detection t (sym e) in
           let looks = looks_at c tests l bit t (128 * group + k) (sym e) (omega (
             arith,
             listed,

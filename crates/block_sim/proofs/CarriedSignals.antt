@@ -9,7 +9,7 @@ use Rattle.bench_net.specs.declared.ScanCell.{ScanCell}
 use Rattle.bench_net.specs.Statement.{Name, Statement, Input, Output, Gate, Dff}
 use Rattle.bench_net.specs.Scan.{names, signal, definition, gate_line, gate_of, cells, outputs}
 use Rattle.bench_net.proofs.Public.{definition_defines}
-use Rattle.lists.proofs.Places.{place_within}
+use Rattle.list_lemmas.proofs.Places.{place_within}
 use Rattle.fault_model.specs.declared.Line.TheVariants as line
 use Rattle.fault_model.specs.Detection.{argument, name_on}
 use Rattle.block_sim.proofs.DataPins.{data_signals}

@@ -5,7 +5,7 @@ use Rattle.std.proofs.Common.{length, arith}
 use Rattle.std.proofs.lemmas.Bool.{false≢true}
 use Rattle.std.specs.Prelude.{Some, slice_get}
 use Rattle.std.specs.Bool.{Decides}
-use Rattle.lists.proofs.Places.{within_place, place_within}
+use Rattle.list_lemmas.proofs.Places.{within_place, place_within}
 use Rattle.bench_net.specs.Statement.{Statement}
 use Rattle.fault_model.specs.Fault.{Fault}
 use Rattle.fault_model.specs.Solution.{Test, Detects}
@@ -13,21 +13,21 @@ use Rattle.fault_model.specs.Detection.{DetectsAt}
 use Rattle.patterns.specs.declared.Outcome.{Outcome}
 use Rattle.patterns.specs.declared.Outcome.TheVariants.{Clear, Hit}
 use Rattle.patterns.specs.Tests.{size_of}
-use Rattle.block_sim.specs.declared.span.Span.{Span}
-use Rattle.block_sim.specs.First.{AreTold, IsOutcome}
+use Rattle.block_sim.specs.declared.block_span.BlockSpan.{BlockSpan}
+use Rattle.block_sim.specs.First.{AreDetectingLanes, IsOutcome}
 use Rattle.block_sim.specs.Regions.{AreLanesFor}
-use Rattle.block_sim.specs.Spans.{AreInSpan, IsInSpan, group_of, one_block}
+use Rattle.block_sim.specs.BlockSpans.{AreInSpan, IsInSpan, group_of, one_block}
 use Rattle.block_sim.specs.ActiveGates.{HasActive, HasActiveIn}
 use Rattle.block_sim.specs.Words.{lane, test_of, IsLeastLane}
 use Rattle.block_sim.proofs.ListPlaces.{index_of}
 
-module _ (c : List Statement) (tests : List Test) (span : Span) (f : Fault) (lanes word : ℕ)
+module _ (c : List Statement) (tests : List Test) (span : BlockSpan) (f : Fault) (lanes word : ℕ)
     (decides : AreLanesFor tests span c f lanes) (settled : ℕ → Type 0)
     (found : (k : ℕ) → k < 128 → lane word k ≡ true
     → (lane lanes k ≡ true) × Detects c (test_of tests (group_of span) k) f)
     (clear : (k : ℕ) → k < 128 → lane lanes k ≡ true → lane word k ≡ false → (settled k → ⊥)
     → Detects c (test_of tests (group_of span) k) f → ⊥) where
-  pub told_of_lanes : AreTold c tests span f settled word
+  pub told_of_lanes : AreDetectingLanes c tests span f settled word
   told_of_lanes = record {
     found = λ k lt e.
         let h = found k lt e in
@@ -45,7 +45,7 @@ module _ (c : List Statement) (tests : List Test) (span : Span) (f : Fault) (lan
 
 module _ (c : List Statement) (tests : List Test) (block : ℕ) (f : Fault) (settled : ℕ
     → Type 0) (word own : ℕ)
-    (told : AreTold c tests (one_block block) f settled word)
+    (detection : AreDetectingLanes c tests (one_block block) f settled word)
     (half : (k j : ℕ) → k < 64 → 64 * block + k ≡ 128 * (block / 2) + j
     → lane own k ≡ lane word j) where
   -- a lane of the block, in the word of its group
@@ -67,14 +67,14 @@ module _ (c : List Statement) (tests : List Test) (block : ℕ) (f : Fault) (set
   found k lt e =
       subst (λ t. IsInSpan (length tests) (one_block block) t × DetectsAt c tests f t)
       (sym (at_place k))
-      (told.found (place k) (low k lt) (sym (same k lt) ∙ e))
+      (detection.found (place k) (low k lt) (sym (same k lt) ∙ e))
 
   clear : (k : ℕ) → k < 64 → lane own k ≡ false → (settled (place k) → ⊥)
       → DetectsAt c tests f (64 * block + k) → ⊥
   clear k lt e unsettled d =
       let listed = place_within tests (64 * block + k) d.0 d.1 in
       let here = at_place k in
-      told.clear (place k) (low k lt)
+      detection.clear (place k) (low k lt)
       (record {
         from = omega (arith, here);
         to = omega (arith, here, lt);
@@ -89,7 +89,7 @@ module _ (c : List Statement) (tests : List Test) (block : ℕ) (f : Fault) (set
   seen_below : (k j : ℕ) → k < 64 → j ≤ place k → lane word j ≡ true
       → (i : ℕ) × (i ≤ k) × (lane own i ≡ true)
   seen_below k j lt le e =
-      let from = (told.found j (let up = low k lt in omega (arith, up, le)) e).0.from in
+      let from = (detection.found j (let up = low k lt in omega (arith, up, le)) e).0.from in
       let here = at_place k in
       let there : 64 * block + (128 * (block / 2) + j - 64 * block) ≡ 128 * (block / 2) + j =
       omega (arith, from) in

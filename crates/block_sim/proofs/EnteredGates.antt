@@ -9,8 +9,8 @@ use Rattle.bench_net.specs.declared.Sink.{Sink}
 use Rattle.bench_net.specs.Statement.{Name, Statement, Gate}
 use Rattle.bench_net.specs.Scan.{names, inputs, cells, sources, signal, observers}
 use Rattle.bench_net.specs.Circuit.{IsWellFormed}
-use Rattle.lists.proofs.Members.{Among, among, contained, among_left, among_right}
-use Rattle.lists.proofs.Places.{placed}
+use Rattle.list_lemmas.proofs.Members.{Among, among, contained, among_left, among_right}
+use Rattle.list_lemmas.proofs.Places.{placed}
 use Rattle.bench_net.proofs.Public.{same_bytes, bytes_refl, read_named}
 use Rattle.fault_model.specs.declared.Line.{Line}
 use Rattle.fault_model.specs.declared.Line.TheVariants as line

@@ -13,9 +13,9 @@ use Rattle.bench_net.specs.Statement.{Name, Statement, Input, Output, Gate, Dff,
 use Rattle.bench_net.specs.Scan.{names, signal, name_of, definition, gate_of, gate_line, inputs}
 use Rattle.bench_net.specs.Scan.{cells, sources}
 use Rattle.bench_net.specs.Circuit.{IsWellFormed, IsCircuit, max_sinks, sink_count}
-use Rattle.lists.proofs.Members.{Among, among, contained, among_left, among_right}
+use Rattle.list_lemmas.proofs.Members.{Among, among, contained, among_left, among_right}
 use Rattle.bench_net.proofs.Public.{definition_defines, name_of-signal, signal-name_of, read_named}
-use Rattle.lists.proofs.Places.{at_place, placed, place_within, within_place}
+use Rattle.list_lemmas.proofs.Places.{at_place, placed, place_within, within_place}
 use Rattle.fault_model.specs.declared.Line.TheVariants as line
 use Rattle.fault_model.specs.Fault.{Fault}
 use Rattle.fault_model.specs.Solution.{Test, value, under}

@@ -9,8 +9,8 @@ use Rattle.bench_net.specs.declared.Kind.{Kind}
 use Rattle.bench_net.specs.Statement.{Name, Statement, Gate}
 use Rattle.bench_net.specs.Scan.{names, signal, name_of, gate_of}
 use Rattle.bench_net.specs.Circuit.{IsWellFormed}
-use Rattle.lists.proofs.Members.{Among, contained}
-use Rattle.lists.proofs.Places.{at_place}
+use Rattle.list_lemmas.proofs.Members.{Among, contained}
+use Rattle.list_lemmas.proofs.Places.{at_place}
 use Rattle.bench_net.proofs.Public.{name_of-signal, signal-name_of}
 use Rattle.fault_model.specs.declared.Line.TheVariants as line
 use Rattle.fault_model.specs.declared.Model.{Model}
@@ -21,7 +21,7 @@ use Rattle.fault_model.proofs.Public.{agree, carries as carries_named, detection
 use Rattle.fault_model.proofs.Public.{has_solutions, pins_agree, under_other}
 use Rattle.event_queue.proofs.Public.{index_zero}
 use Rattle.block_sim.specs.Regions.{Alters, DetectsFlip, HasCome, start_of}
-use Rattle.block_sim.specs.Spreading.{AreShown}
+use Rattle.block_sim.specs.Propagation.{AreShown}
 use Rattle.block_sim.specs.Words.{lane, lane_bits, pin_bits, test_of, AreWords}
 use Rattle.block_sim.proofs.WordsToSolutions.{pins_named}
 use Rattle.block_sim.proofs.EnteredGates.{Enters, arg_named, gate_named, outside}

@@ -14,10 +14,10 @@ use Rattle.bench_net.specs.Statement.{Name, Statement, Gate}
 use Rattle.bench_net.specs.Scan.{names, signal, definition, gate_of, sources, observers, outputs}
 use Rattle.bench_net.specs.Scan.{cells}
 use Rattle.bench_net.specs.Circuit.{IsWellFormed}
-use Rattle.lists.proofs.Members.{Among, among, contained, among_append, among_left, among_right}
-use Rattle.lists.proofs.Members.{among_map, mapped_from}
+use Rattle.list_lemmas.proofs.Members.{Among, among, contained, among_append, among_left}
+use Rattle.list_lemmas.proofs.Members.{among_right, among_map, mapped_from}
 use Rattle.bench_net.proofs.Public.{name_of-signal}
-use Rattle.lists.proofs.Places.{among_numbered, numbered_at, at_place, within_place}
+use Rattle.list_lemmas.proofs.Places.{among_numbered, numbered_at, at_place, within_place}
 use Rattle.fault_model.specs.declared.Line.{Line}
 use Rattle.fault_model.specs.declared.Line.TheVariants as line
 use Rattle.fault_model.specs.Detection.{argument, name_on}
@@ -28,7 +28,7 @@ use Rattle.fault_model.proofs.Public.{defined_among, definition-signal, source_n
 use Rattle.block_sim.specs.Words.{lane, lane_bits, word_over, pin_bits, test_of, AreWords}
 use Rattle.block_sim.specs.ActiveGates.{AreInGroup, IsActiveIn, IsActiveBy}
 use Rattle.block_sim.specs.Events.{bits_of, Reads}
-use Rattle.block_sim.specs.Spreading.{AreShown, IsApart, IsFirstChange}
+use Rattle.block_sim.specs.Propagation.{AreShown, IsApart, IsFirstChange}
 use Rattle.block_sim.proofs.SignalEquations.{equation_of, word_other}
 use Rattle.block_sim.proofs.ListPlaces.{index_of}
 use Rattle.block_sim.proofs.Steps.{changed_to, turned_lanes}

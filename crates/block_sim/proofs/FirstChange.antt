@@ -9,15 +9,16 @@ use Rattle.std.proofs.lemmas.Bool.{cases_eq, false≢true, eqb-true}
 use Rattle.bench_net.specs.Statement.{Statement}
 use Rattle.bench_net.specs.Scan.{names, signal}
 use Rattle.bench_net.specs.Circuit.{IsWellFormed}
-use Rattle.lists.proofs.Members.{among}
+use Rattle.list_lemmas.proofs.Members.{among}
 use Rattle.fault_model.specs.Fault.{Fault}
 use Rattle.fault_model.specs.Solution.{Test}
 use Rattle.block_sim.specs.Words.{lane, test_of, AreWords}
 use Rattle.block_sim.specs.Events.{bits_of, HasEquation, Reads, IsElsewhere, IsLive, AreScheduled}
-use Rattle.block_sim.specs.Spreading.{IsSpreading, IsBalanced, Counts, IsRightIn, ahead, is_ahead}
+use Rattle.block_sim.specs.Propagation.{IsPropagating, IsBalanced, Counts, IsRightIn, pending_gates}
+use Rattle.block_sim.specs.Propagation.{is_pending}
 use Rattle.block_sim.proofs.Lanes.{lane_zero}
 use Rattle.block_sim.proofs.Balanced.{balanced_first}
-use Rattle.block_sim.proofs.GatesAhead.{ahead_cases}
+use Rattle.block_sim.proofs.PendingGates.{pending_cases}
 use Rattle.block_sim.proofs.LiveSignals.{counts_closed, reader_live}
 use Rattle.block_sim.proofs.TrueBelowLevel.{right_by_now}
 
@@ -53,9 +54,9 @@ module _ (c : List Statement) (tests : List Test) (group : ℕ) (f : ℕ
       go (inr h) = h.0
 
   pub count_first : (gates : List ℕ)
-      → ahead lv after (lv start) gates + count_by (λ g. g == start) gates ≤ length gates
-  count_first gates = count_apart (is_ahead lv after (lv start)) (λ g. g == start) gates
-      (λ x a e. go x (eqb-true x start e) (ahead_cases lv after (lv start) x a))
+      → pending_gates lv after (lv start) gates + count_by (λ g. g == start) gates ≤ length gates
+  count_first gates = count_apart (is_pending lv after (lv start)) (λ g. g == start) gates
+      (λ x a e. go x (eqb-true x start e) (pending_cases lv after (lv start) x a))
     where
       go : (x : ℕ) → x ≡ start → (lv start < lv x) ⊎ (slice_index_or after x 0 ≢ 0) → ⊥
       go x e (inl lt) = let same : lv x ≡ lv start = ap lv e in omega (arith, lt, same)
@@ -69,7 +70,7 @@ module _ (c : List Statement) (tests : List Test) (group : ℕ) (f : ℕ
       (bits_of c good (set delta start diff) k) start)
       → start < length delta → diff ≢ 0 → (k : ℕ) × (k < 128) × (lane diff k ≡ true)
       → ((k : ℕ) → k < 128 → lane diff k ≡ true → lane lanes k ≡ true)
-      → IsSpreading c tests group f good lanes lv start lanes (set delta start diff) after
+      → IsPropagating c tests group f good lanes lv start lanes (set delta start diff) after
       (lv start)
   spreading_first diff words clear off holds within differs a_lane in_lanes = record {
     balanced = balanced_now;

@@ -12,9 +12,9 @@ use Rattle.bench_net.specs.declared.Sink.TheVariants as sink
 use Rattle.bench_net.specs.Statement.{Name, Statement}
 use Rattle.bench_net.specs.Scan.{names, name_of, sinks}
 use Rattle.bench_net.specs.Circuit.{IsWellFormed}
-use Rattle.lists.proofs.Members.{Among}
-use Rattle.lists.proofs.Places.{placed, place_within}
-use Rattle.block_sim.specs.declared.flat.Row.{Row}
+use Rattle.list_lemmas.proofs.Members.{Among}
+use Rattle.list_lemmas.proofs.Places.{placed, place_within}
+use Rattle.block_sim.specs.declared.flat.SignalRow.{SignalRow}
 use Rattle.block_sim.specs.Events.{Reads, IsLive}
 use Rattle.block_sim.specs.declared.flat.Standing.{Standing}
 use Rattle.block_sim.specs.Flat.{AreReaders, IsRow, HasMore, AreRows, IsFlat, IsStanding}
@@ -113,7 +113,7 @@ module _ (c : List Statement) (well : IsWellFormed c) (s : ℕ) (n : Name)
 
 -- ---- rows
 pub row_kept : (c : List Statement) (pins more_pins : List ℕ) (readers more_readers : List ℕ)
-    (s : ℕ) (row : Row) → HasMore pins more_pins → HasMore readers more_readers
+    (s : ℕ) (row : SignalRow) → HasMore pins more_pins → HasMore readers more_readers
     → IsRow c pins readers s row → IsRow c more_pins more_readers s row
 row_kept c pins more_pins readers more_readers s row pins_more readers_more h =
     let pins_are : slice_range more_pins row.pins_start row.pins_end
@@ -144,7 +144,7 @@ pub rows_none : (c : List Statement) (pins : List ℕ) (readers : List ℕ)
 rows_none c pins readers s row at = let bad : None ≡ Some row = at in cc
 
 pub rows_with : (c : List Statement) (pins more_pins : List ℕ) (readers more_readers : List ℕ)
-    (rows : List Row) (s : ℕ) (row : Row) → length rows ≡ s
+    (rows : List SignalRow) (s : ℕ) (row : SignalRow) → length rows ≡ s
     → AreRows c pins readers rows → HasMore pins more_pins → HasMore readers more_readers
     → IsRow c more_pins more_readers s row → AreRows c more_pins more_readers (rows ++ row ∷ [])
 rows_with c pins more_pins readers more_readers rows s row count before pins_more readers_more new t
@@ -180,14 +180,14 @@ standings_with c standings s standing count before new t other at =
         (subst (IsStanding c s) h.1 new)
 
 -- the row that is read at a signal's number
-pub row_of : (c : List Statement) (pins : List ℕ) (readers : List ℕ) (rows : List Row)
-    (standings : List Standing) (s : ℕ) (row : Row) → IsFlat c pins readers rows standings
+pub row_of : (c : List Statement) (pins : List ℕ) (readers : List ℕ) (rows : List SignalRow)
+    (standings : List Standing) (s : ℕ) (row : SignalRow) → IsFlat c pins readers rows standings
     → s < length (names c) → row ≡ slice_index_or rows s row → IsRow c pins readers s row
 row_of c pins readers rows standings s row flat lt e =
     flat.numbered s row (got rows s row (omega (arith, lt, flat.count)) e)
 
 -- and where the signal stands
-pub standing_of : (c : List Statement) (pins : List ℕ) (readers : List ℕ) (rows : List Row)
+pub standing_of : (c : List Statement) (pins : List ℕ) (readers : List ℕ) (rows : List SignalRow)
     (standings : List Standing) (s : ℕ) (standing : Standing)
     → IsFlat c pins readers rows standings → s < length (names c)
     → standing ≡ slice_index_or standings s standing → IsStanding c s standing

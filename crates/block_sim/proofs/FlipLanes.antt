@@ -7,19 +7,19 @@ use Rattle.std.proofs.lemmas.Bool.{false≢true}
 use Rattle.bench_net.specs.Statement.{Name, Statement}
 use Rattle.bench_net.specs.Scan.{names, signal, name_of}
 use Rattle.bench_net.specs.Circuit.{IsWellFormed}
-use Rattle.lists.proofs.Members.{Among, contained}
-use Rattle.lists.proofs.Places.{at_place, within_place}
+use Rattle.list_lemmas.proofs.Members.{Among, contained}
+use Rattle.list_lemmas.proofs.Places.{at_place, within_place}
 use Rattle.bench_net.proofs.Public.{signal-name_of}
 use Rattle.fault_model.specs.declared.Line.TheVariants as line
 use Rattle.fault_model.specs.Solution.{Test, Detects}
 use Rattle.fault_model.specs.Detection.{HasBit}
 use Rattle.fault_model.proofs.Public.{detection_is_of_any_solution, has_solutions}
 use Rattle.block_sim.specs.Regions.{DetectsFlip, TellsFirstFlips, flip, flips}
-use Rattle.block_sim.specs.declared.spread.Followed.{Followed}
-use Rattle.block_sim.specs.Spreading.{AreShown, IsFirstChange}
+use Rattle.block_sim.specs.declared.propagation.Followed.{Followed}
+use Rattle.block_sim.specs.Propagation.{AreShown, IsFirstChange}
 use Rattle.block_sim.specs.ActiveGates.{HasActiveIn}
-use Rattle.block_sim.specs.Spans.{AreInSpan, IsInSpan, group_of}
-use Rattle.block_sim.specs.declared.span.Span.{Span}
+use Rattle.block_sim.specs.BlockSpans.{AreInSpan, IsInSpan, group_of}
+use Rattle.block_sim.specs.declared.block_span.BlockSpan.{BlockSpan}
 use Rattle.block_sim.specs.Ways.{HasActiveByFlip}
 use Rattle.block_sim.specs.Words.{lane, lane_bits, test_of, AreWords}
 use Rattle.block_sim.proofs.Flips.{bit_is}
@@ -62,7 +62,7 @@ module _ (c : List Statement) (well : IsWellFormed c) (tests : List Test) (group
   )
 
   -- what the faults that turn it round make active is what it makes active turned round
-  pub flips_activate : (span : Span) (lanes : ℕ) (gates : List ℕ) → group_of span ≡ group
+  pub flips_activate : (span : BlockSpan) (lanes : ℕ) (gates : List ℕ) → group_of span ≡ group
       → AreInSpan tests span lanes
       → HasActiveByFlip c tests span s gates
       → HasActiveIn c tests group lanes (flips good s) gates

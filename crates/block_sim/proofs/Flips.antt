@@ -8,8 +8,8 @@ use Rattle.bench_net.specs.declared.Sink.TheVariants as sink
 use Rattle.bench_net.specs.Statement.{Name, Statement, Gate}
 use Rattle.bench_net.specs.Scan.{names, inputs, cells, sources, signal, name_of, observers}
 use Rattle.bench_net.specs.Circuit.{IsWellFormed}
-use Rattle.lists.proofs.Members.{Among, among, contained, among_left, among_right}
-use Rattle.lists.proofs.Places.{placed}
+use Rattle.list_lemmas.proofs.Members.{Among, among, contained, among_left, among_right}
+use Rattle.list_lemmas.proofs.Places.{placed}
 use Rattle.bench_net.proofs.Public.{same_bytes, bytes_refl, name_of-signal}
 use Rattle.fault_model.specs.declared.Line.{Line}
 use Rattle.fault_model.specs.declared.Line.TheVariants as line
@@ -20,7 +20,7 @@ use Rattle.fault_model.specs.Detection.{HasBit}
 use Rattle.fault_model.proofs.Public.{Driven, IsOn, agree, branch_among, defined_among, driven}
 use Rattle.fault_model.proofs.Public.{has_solutions, listed_on, observes, pin_reads, signal_apart}
 use Rattle.fault_model.proofs.Public.{under_other, under_own}
-use Rattle.block_sim.specs.Regions.{Alters, DetectsFlip, IsReadBy, flip, turned_at}
+use Rattle.block_sim.specs.Regions.{Alters, DetectsFlip, IsReadBy, flip, complemented_at}
 use Rattle.block_sim.proofs.EnteredGates.{Enters, Follows, IsFree, IsOnlyFor, arg_named, free_pins}
 use Rattle.block_sim.proofs.EnteredGates.{free_stem, gate_named, map_alike, outside, same_where}
 use Rattle.block_sim.proofs.EnteredGates.{shows_alike}
@@ -342,7 +342,7 @@ module _ (c : List Statement) (well : IsWellFormed c) (t : Test) (s : ℕ)
     module _ (u v : Name → Bool) (b : Bool) (p : Solves c t None u)
         (q : Solves c t (Some (flip s b)) v) (is : u read ≡ b) where
       -- what the gate reads is as without the fault, but for the signal that is turned round
-      arg_turned : (a : Name) → Among a e.args → v a ≡ turned_at c s u a
+      arg_turned : (a : Name) → Among a e.args → v a ≡ complemented_at c s u a
       arg_turned a h = go (signal c a == s) refl
         where
           here : Among a (names c)
@@ -364,7 +364,7 @@ module _ (c : List Statement) (well : IsWellFormed c) (t : Test) (s : ℕ)
               let bad : true ≡ false = sym yes ∙ other in cc))
               (inl low)
 
-      pub gate_turned : v e.name ≡ value e.kind (map (turned_at c s u) e.args)
+      pub gate_turned : v e.name ≡ value e.kind (map (complemented_at c s u) e.args)
       gate_turned =
           let off : IsFree (Some (flip s b)) (signal c e.name) = (
             λ stems. (let h : line.Stem s ≡ line.Stem (signal c e.name) = stems in
@@ -379,4 +379,4 @@ module _ (c : List Statement) (well : IsWellFormed c) (t : Test) (s : ℕ)
           q.gate e.name e.kind e.args (contained c (Gate e.name e.kind e.args) e.stands)
           ∙ (free_stem (Some (flip s b)) (signal c e.name) _ off
           ∙ ap (value e.kind) (free_pins (Some (flip s b)) v (signal c e.name) 0 e.args off
-          ∙ map_alike v (turned_at c s u) e.args arg_turned))
+          ∙ map_alike v (complemented_at c s u) e.args arg_turned))

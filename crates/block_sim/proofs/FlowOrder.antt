@@ -9,8 +9,8 @@ use Rattle.bench_net.specs.Statement.{Name, Statement, Gate}
 use Rattle.bench_net.specs.Scan.{names, signal}
 use Rattle.bench_net.specs.Circuit.{IsWellFormed}
 use Rattle.bench_net.proofs.Public.{name_of-signal, read_named}
-use Rattle.lists.proofs.Members.{Among, among, contained}
-use Rattle.lists.proofs.Places.{place_within}
+use Rattle.list_lemmas.proofs.Members.{Among, among, contained}
+use Rattle.list_lemmas.proofs.Places.{place_within}
 use Rattle.fault_model.proofs.Public.{Spans, span_within}
 use Rattle.block_sim.specs.Arranged.{IsFlowOrder}
 use Rattle.block_sim.specs.Events.{Reads}

@@ -12,8 +12,8 @@ use Rattle.bench_net.specs.declared.Kind.{Kind}
 use Rattle.fault_model.specs.declared.Line.TheVariants as line
 use Rattle.fault_model.specs.Fault.{Fault}
 use Rattle.fault_model.specs.Solution.{under, is_odd, value}
-use Rattle.block_sim.specs.declared.form.Form.{Form}
-use Rattle.block_sim.specs.Forms.{IsFormOf, inverted_if}
+use Rattle.block_sim.specs.declared.gate_form.GateForm.{GateForm}
+use Rattle.block_sim.specs.GateForms.{IsFormOf, inverted_if}
 use Rattle.block_sim.specs.Words.{lane, word_over, pin_bits}
 use Rattle.block_sim.proofs.Lanes.{lane_and, lane_xor, lane_zero, lane_ones, unlike}
 
@@ -244,7 +244,7 @@ module _ (f : Option Fault) (gate : ℕ) (pins words delta : List ℕ) where
     folds_odd k lt = h.odd_is k lt ∙ ap is_odd (whole k)
 
 -- the word of a form
-pub form_lane : (kind : Kind) (form : Form) (bits : List Bool) (all odd core flips k : ℕ)
+pub form_lane : (kind : Kind) (form : GateForm) (bits : List Bool) (all odd core flips k : ℕ)
     → IsFormOf kind form → lane flips k ≡ form.inverts_output
     → lane all k ≡ list_all (λ b. inverted_if form.inverts_inputs b) bits → lane odd k ≡ is_odd bits
     → ((form.is_xor ≡ true) × (core ≡ odd)) ⊎ ((form.is_xor ≡ false) × (core ≡ all))

@@ -5,36 +5,37 @@ use Rattle.std.proofs.Common.{inl, inr, ◌⊎◌, arith}
 use Rattle.std.specs.Prelude.{bit_and, slice_index_or}
 use Rattle.std.proofs.lemmas.Bool.{cases_eq}
 use Rattle.std.proofs.lemmas.List.{get_or-set_same, get_or-set_other, length-set}
-use Rattle.lists.proofs.Members.{Among, among, among_append, among_left, among_right, contained}
+use Rattle.list_lemmas.proofs.Members.{Among, among, among_append, among_left, among_right}
+use Rattle.list_lemmas.proofs.Members.{contained}
 use Rattle.bench_net.specs.Scan.{names}
 use Rattle.bench_net.specs.Circuit.{IsWellFormed}
-use Rattle.block_sim.specs.declared.span.Span.{Span}
+use Rattle.block_sim.specs.declared.block_span.BlockSpan.{BlockSpan}
 use Rattle.block_sim.specs.First.{TellsFirst}
 use Rattle.block_sim.specs.declared.simulation.Memo.{Memo}
 use Rattle.block_sim.specs.declared.simulation.Memo.TheVariants.{Nothing}
-use Rattle.block_sim.specs.declared.spread.Followed.{Followed}
-use Rattle.block_sim.specs.declared.changes.Changes.{Changes}
-use Rattle.block_sim.specs.Changes.{HasRoomFor, IsAsLarge, IsAtRest, IsClear}
+use Rattle.block_sim.specs.declared.propagation.Followed.{Followed}
+use Rattle.block_sim.specs.declared.propagation_state.PropagationState.{PropagationState}
+use Rattle.block_sim.specs.PropagationState.{HasRoomFor, IsAsLarge, IsAtRest, IsClear}
 use Rattle.block_sim.specs.Parts.{Parts}
 use Rattle.block_sim.specs.Regions.{TellsFirstFlips}
 use Rattle.block_sim.specs.Simulation.{AreFollowed, AreTrueBut, AreTrueMemos, HasArrived}
 use Rattle.block_sim.specs.Simulation.{IsFollowed, IsTrueMemo, TellsFirstIn}
-use Rattle.block_sim.specs.Spans.{AreInSpan, group_of}
+use Rattle.block_sim.specs.BlockSpans.{AreInSpan, group_of}
 use Rattle.block_sim.specs.Words.{lane}
 use Rattle.block_sim.proofs.RegionLanes.{lanes_first, lanes_law}
 
 -- the first test that detects a class that came to a stem in some lanes
-pub arrived_first : (job : Parts) (span : Span) (stem class word seen : ℕ)
+pub arrived_first : (job : Parts) (span : BlockSpan) (stem class word seen : ℕ)
     → HasArrived job span stem class word
     → TellsFirstFlips job.circuit job.tests.tests (group_of span) word stem seen
     → TellsFirstIn job span class (bit_and word seen)
-arrived_first job span stem class word seen a told = (
+arrived_first job span stem class word seen a detection = (
   a.0,
   a.3,
   subst (λ w. TellsFirst job.circuit job.tests.tests span a.0 (bit_and w seen)) (sym a.6)
       (lanes_law job.circuit job.tests.tests span a.0 stem a.1 a.2 seen a.4 a.5
       (subst (λ w. TellsFirstFlips job.circuit job.tests.tests (group_of span) w stem seen) a.6
-      told)),
+      detection)),
 )
 
 -- one memo more
@@ -107,14 +108,14 @@ memo_waits job followed memos one memo count each = record {
         (sym (get_or-set_other memos one.class x memo Nothing other)) (more x (each x))
 
 -- a class came to a stem in lanes of tests alone
-pub arrived_within : (job : Parts) (span : Span) (stem class word : ℕ)
+pub arrived_within : (job : Parts) (span : BlockSpan) (stem class word : ℕ)
     → HasArrived job span stem class word
     → AreInSpan job.tests.tests span word
 arrived_within job span stem class word a k lt own =
     ((a.4 k lt).0 (lanes_first a.1 a.2 k (ap (λ w. lane w k) (sym a.6) ∙ own))).0
 
 -- one class more is followed
-pub followed_more : (job : Parts) (span : Span) (stem : ℕ) (followed : List Followed)
+pub followed_more : (job : Parts) (span : BlockSpan) (stem : ℕ) (followed : List Followed)
     (one : Followed)
     → AreFollowed job span stem followed → one.class < length job.classes.representative
     → HasArrived job span stem one.class one.lanes
@@ -132,7 +133,8 @@ followed_more job span stem followed one before within at x there =
     go (inr (inr bad)) = absurd bad
 
 -- what is at rest has room for a circuit that it has words for
-pub room_at_rest : (job : Parts) (changes : Changes) → IsWellFormed job.circuit → IsAtRest changes
+pub room_at_rest : (job : Parts) (changes : PropagationState) → IsWellFormed job.circuit
+    → IsAtRest changes
     → length (names job.circuit) ≤ length changes.overlay → HasRoomFor job.circuit changes
 room_at_rest job changes well rest room = record {
   overlay = room;
@@ -140,7 +142,8 @@ room_at_rest job changes well rest room = record {
 }
 
 -- after a call nothing waits, and there is as much room
-pub rest_after : (before after : Changes) → IsAtRest before → IsAsLarge before after → IsClear after
+pub rest_after : (before after : PropagationState) → IsAtRest before → IsAsLarge before after
+    → IsClear after
     → IsAtRest after
 rest_after before after rest large clear = record {
   clear = clear;

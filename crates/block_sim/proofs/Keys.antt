@@ -11,13 +11,13 @@ use Rattle.bench_net.specs.Scan.{names, signal, sources, definition, gate_line, 
 use Rattle.bench_net.specs.Circuit.{IsWellFormed}
 use Rattle.bench_net.specs.Level.{GoesBefore, HasLevel, IsLevelOrder}
 use Rattle.bench_net.proofs.Public.{signal-name_of}
-use Rattle.lists.proofs.Members.{among, among_map, contained}
-use Rattle.lists.proofs.Places.{at_place}
+use Rattle.list_lemmas.proofs.Members.{among, among_map, contained}
+use Rattle.list_lemmas.proofs.Places.{at_place}
 use Rattle.fault_model.specs.Reordered.{IsSourceAt}
 use Rattle.fault_model.proofs.Public.{IsSource, definition-signal}
 use Rattle.fault_model.proofs.Public.{source_definition}
 use Rattle.block_sim.specs.Events.{Reads}
-use Rattle.block_sim.specs.Order.{HaveKeys, IsKeyOf}
+use Rattle.block_sim.specs.SignalOrder.{HaveKeys, IsKeyOf}
 use Rattle.block_sim.proofs.Equations.{nothing}
 use Rattle.block_sim.proofs.LevelOrder.{order_within}
 use Rattle.block_sim.proofs.LevelsRise.{level_is}

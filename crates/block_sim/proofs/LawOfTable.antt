@@ -6,7 +6,7 @@ use Rattle.std.specs.Prelude.{Option, Some, None, map}
 use Rattle.std.proofs.lemmas.Bool.{cases_lt}
 use Rattle.bench_net.specs.Statement.{Statement}
 use Rattle.bench_net.specs.Circuit.{IsWellFormed, HaveArities}
-use Rattle.lists.proofs.Places.{place_within}
+use Rattle.list_lemmas.proofs.Places.{place_within}
 use Rattle.fault_model.specs.declared.Model.{Model}
 use Rattle.fault_model.specs.Fault.{Fault}
 use Rattle.fault_model.specs.Solution.{Test}

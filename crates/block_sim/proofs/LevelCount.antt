@@ -11,9 +11,9 @@ use Rattle.bench_net.specs.Statement.{Name, Statement, Gate}
 use Rattle.bench_net.specs.Scan.{names, inputs, cells, sources}
 use Rattle.bench_net.specs.Circuit.{IsWellFormed}
 use Rattle.bench_net.specs.Level.{AreLevels, HasLevel, greatest}
-use Rattle.lists.proofs.Members.{Among, among, contained, among_left, among_right, among_map}
-use Rattle.lists.proofs.Members.{mapped_from}
-use Rattle.lists.proofs.Places.{at_place}
+use Rattle.list_lemmas.proofs.Members.{Among, among, contained, among_left, among_right, among_map}
+use Rattle.list_lemmas.proofs.Members.{mapped_from}
+use Rattle.list_lemmas.proofs.Places.{at_place}
 use Rattle.bench_net.proofs.Public.{read_named}
 use Rattle.fault_model.proofs.Public.{Driven, driven}
 

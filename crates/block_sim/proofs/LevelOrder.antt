@@ -10,10 +10,10 @@ use Rattle.bench_net.specs.Statement.{Name, Statement, Gate}
 use Rattle.bench_net.specs.Scan.{names, signal, sources, inputs, cells}
 use Rattle.bench_net.specs.Circuit.{IsWellFormed}
 use Rattle.bench_net.specs.Level.{AreLevels, HasLevel, IsLevelOrder, GoesBefore, greatest}
-use Rattle.lists.proofs.Members.{Among, among, contained, among_left, among_right}
-use Rattle.lists.proofs.Members.{among_map}
+use Rattle.list_lemmas.proofs.Members.{Among, among, contained, among_left, among_right}
+use Rattle.list_lemmas.proofs.Members.{among_map}
 use Rattle.bench_net.proofs.Public.{name_of-signal, read_named}
-use Rattle.lists.proofs.Places.{place_within}
+use Rattle.list_lemmas.proofs.Places.{place_within}
 use Rattle.fault_model.proofs.Public.{Driven, driven, below_fold, defined_among, signal_apart}
 use Rattle.fault_model.proofs.Public.{Spans, span_within}
 

@@ -6,9 +6,9 @@ use Rattle.bench_net.specs.Statement.{Name, Statement, Gate}
 use Rattle.bench_net.specs.Scan.{names, name_of, signal}
 use Rattle.bench_net.specs.Circuit.{IsWellFormed}
 use Rattle.bench_net.specs.Level.{AreLevels, HasLevel}
-use Rattle.lists.proofs.Members.{among, contained, among_map}
+use Rattle.list_lemmas.proofs.Members.{among, contained, among_map}
 use Rattle.bench_net.proofs.Public.{name_of-signal, read_named}
-use Rattle.lists.proofs.Places.{at_place, within_place}
+use Rattle.list_lemmas.proofs.Places.{at_place, within_place}
 use Rattle.fault_model.proofs.Public.{below_greatest, defined_among}
 use Rattle.block_sim.specs.Events.{Reads}
 use Rattle.block_sim.proofs.LevelOrder.{one_level}

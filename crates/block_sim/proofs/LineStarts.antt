@@ -9,8 +9,8 @@ use Rattle.bench_net.specs.Statement.{Name, Statement, Gate}
 use Rattle.bench_net.specs.Scan.{names, signal, name_of, definition, gate_of, gate_line}
 use Rattle.bench_net.specs.Circuit.{IsWellFormed}
 use Rattle.bench_net.proofs.Public.{definition_defines, name_of-signal, signal-name_of}
-use Rattle.lists.proofs.Members.{contained}
-use Rattle.lists.proofs.Places.{at_place, place_within}
+use Rattle.list_lemmas.proofs.Members.{contained}
+use Rattle.list_lemmas.proofs.Places.{at_place, place_within}
 use Rattle.fault_model.specs.declared.Line.TheVariants as line
 use Rattle.fault_model.specs.declared.Model.{Model}
 use Rattle.fault_model.specs.Detection.{argument, name_on}
@@ -19,11 +19,11 @@ use Rattle.fault_model.specs.Solution.{Test, value}
 use Rattle.fault_model.proofs.Public.{carries}
 use lib.Bits.{and_le_r}
 use Rattle.block_sim.specs.ActiveGates.{AreInGroup, HasActiveIn}
-use Rattle.block_sim.specs.Spreading.{IsFirstChange}
+use Rattle.block_sim.specs.Propagation.{IsFirstChange}
 use Rattle.block_sim.specs.Words.{lane, pin_bits, AreWords}
 use Rattle.block_sim.proofs.CarriedSignals.{pin_of, gate_within}
 use Rattle.block_sim.proofs.FaultStart.{first_on_pin, pin_active, stem_change, turned_is}
-use Rattle.block_sim.proofs.GatesAhead.{count_one}
+use Rattle.block_sim.proofs.PendingGates.{count_one}
 use Rattle.block_sim.proofs.Readers.{no_loop}
 use Rattle.block_sim.proofs.Steps.{some_lane}
 

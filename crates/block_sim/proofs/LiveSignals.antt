@@ -10,11 +10,11 @@ use Rattle.bench_net.specs.Statement.{Name, Statement}
 use Rattle.bench_net.specs.Scan.{names, name_of, sinks}
 use Rattle.bench_net.specs.Circuit.{IsWellFormed}
 use Rattle.bench_net.specs.Level.{IsLevelOrder}
-use Rattle.lists.proofs.Members.{Among}
-use Rattle.lists.proofs.Places.{placed, place_within, within_place}
+use Rattle.list_lemmas.proofs.Members.{Among}
+use Rattle.list_lemmas.proofs.Places.{placed, place_within, within_place}
 use Rattle.block_sim.specs.Events.{Reads, IsLive, observed, through}
 use Rattle.block_sim.specs.Flat.{AreLive, IsLiveAt}
-use Rattle.block_sim.specs.Spreading.{Counts}
+use Rattle.block_sim.specs.Propagation.{Counts}
 use Rattle.block_sim.proofs.LevelOrder.{order_within}
 use Rattle.block_sim.proofs.ListPlaces.{index_of}
 use Rattle.block_sim.proofs.Readers.{read_sink, reader_within}

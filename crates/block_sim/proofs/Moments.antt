@@ -15,21 +15,22 @@ use Rattle.bench_net.specs.Circuit.{IsWellFormed}
 use Rattle.fault_model.specs.Fault.{Fault}
 use Rattle.fault_model.specs.Solution.{Test, value}
 use Rattle.event_queue.proofs.Public.{index_zero}
-use Rattle.block_sim.specs.declared.changes.Changes.{Changes}
-use Rattle.block_sim.specs.Changes.{HasRoomFor, IsAsLarge, IsClear, IsTaken}
+use Rattle.block_sim.specs.declared.propagation_state.PropagationState.{PropagationState}
+use Rattle.block_sim.specs.PropagationState.{HasRoomFor, IsAsLarge, IsClear, IsTaken}
 use Rattle.block_sim.specs.Events.{AreScheduled, IsLive, IsObserved, IsRising, Reads}
 use Rattle.block_sim.specs.Moments.{Case, Leads, Moment, Spreads, left, moment}
-use Rattle.block_sim.specs.Spreading.{IsFirstChange, IsSpreading, AreSeen, ahead}
+use Rattle.block_sim.specs.Propagation.{IsFirstChange, IsPropagating, AreSeen, pending_gates}
 use Rattle.block_sim.specs.Words.{lane, pin_bits}
-use Rattle.block_sim.proofs.GatesAhead.{ahead_cleared, ahead_higher}
+use Rattle.block_sim.proofs.PendingGates.{pending_cleared, pending_higher}
 use Rattle.block_sim.proofs.FirstChange.{spreading_first, count_first}
 use Rattle.block_sim.proofs.SignalEquations.{gate_named}
 use Rattle.block_sim.proofs.Readers.{no_loop, reader_within}
 use Rattle.block_sim.proofs.SeenLanes.{seen_changed, seen_first, seen_like, seen_narrower}
 use Rattle.block_sim.proofs.SeenLanes.{from_none}
 use Rattle.block_sim.proofs.SeenLanes.{with_none}
-use Rattle.block_sim.proofs.Spreading.{ahead_changed, ahead_same, evaluated_changed, evaluated_same}
-use Rattle.block_sim.proofs.Spreading.{level_done, spreading_cleared, spreading_narrower}
+use Rattle.block_sim.proofs.PropagationSteps.{pending_changed, pending_same, evaluated_changed}
+use Rattle.block_sim.proofs.PropagationSteps.{evaluated_same, level_done, spreading_cleared}
+use Rattle.block_sim.proofs.PropagationSteps.{spreading_narrower}
 use Rattle.block_sim.proofs.Steps.{restored}
 
 -- a moment, by all that it has
@@ -91,7 +92,7 @@ module _ (c : List Statement) (good : List ℕ) (lanes : ℕ) where
         level_done c case.tests case.group case.fault good lanes (λ s. s)
         case.start kept delta at level next le above h;
     counted = λ case gates h all. let less =
-        ahead_higher (λ s. s) at level next gates le in omega (arith, less);
+        pending_higher (λ s. s) at level next gates le in omega (arith, less);
     seen = λ h. h;
     more = λ s ne. ne;
     grown = omega arith;
@@ -120,7 +121,7 @@ module _ (c : List Statement) (good : List ℕ) (lanes : ℕ) where
         spreading_cleared c case.tests case.group case.fault good lanes (λ s. s) case.start kept
         delta at idle level clear stop h;
     counted = λ case gates h all.
-        let less = ahead_cleared (λ s. s) at idle level gates clear in omega (arith, less);
+        let less = pending_cleared (λ s. s) at idle level gates clear in omega (arith, less);
     seen = λ h. h;
     more = λ s ne. ne;
     grown = omega arith;
@@ -154,15 +155,17 @@ module _ (c : List Statement) (good : List ℕ) (lanes : ℕ) where
       leads_same same = record {
         spreading = λ case h.
             let lv : ℕ → ℕ = (λ s. s) in
-            subst (λ x. IsSpreading c case.tests case.group case.fault good lanes lv case.start kept
+            subst (λ x. IsPropagating c case.tests case.group case.fault good lanes lv case.start
+            kept
             delta x gate) back
             (evaluated_same c case.tests case.group case.fault good lanes lv case.start kept well
             case.rising case.elsewhere
             delta taken_at gate gate h taken refl in_taken in_delta kind pins is word valued same);
         counted = λ case gates h all.
             let lv : ℕ → ℕ = (λ s. s) in
-            let less = subst (λ x. ahead lv x gate gates + 1 ≤ ahead lv taken_at gate gates) back
-            (ahead_same c case.tests case.group case.fault good lanes lv case.start kept well
+            let less = subst (λ x. pending_gates lv x gate gates + 1 ≤ pending_gates lv taken_at
+            gate gates) back
+            (pending_same c case.tests case.group case.fault good lanes lv case.start kept well
             case.rising case.elsewhere
             delta taken_at gate gate h taken refl in_taken in_delta kind pins is word valued gates
             all) in
@@ -197,7 +200,7 @@ module _ (c : List Statement) (good : List ℕ) (lanes : ℕ) where
                 new
                 differs a_lane in_kept changed scheduled_now;
             counted = λ case gates h all.
-                let less = ahead_changed c case.tests case.group case.fault good lanes
+                let less = pending_changed c case.tests case.group case.fault good lanes
                 (λ s. s) case.start kept well
                 case.rising case.elsewhere
                 delta taken_at gate gate h taken refl in_taken in_delta kind pins is word valued
@@ -233,7 +236,7 @@ case_of c tests group f good lanes delta start diff first rising = record {
 }
 
 module _ (c : List Statement) (tests : List Test) (group : ℕ) (f : ℕ
-    → Fault) (good : List ℕ) (lanes : ℕ) (before after : Changes) (start diff : ℕ)
+    → Fault) (good : List ℕ) (lanes : ℕ) (before after : PropagationState) (start diff : ℕ)
     (well : IsWellFormed c)
     (first : IsFirstChange c tests group f good lanes before.overlay start diff)
     (rising : IsRising c) (clear : IsClear before)
@@ -247,7 +250,7 @@ module _ (c : List Statement) (tests : List Test) (group : ℕ) (f : ℕ
   first_spreads changed within differs a_lane in_lanes narrow =
       spreading_narrower c tests group f good lanes (λ s. s) start lanes after.overlay
       after.waiting start kept narrow
-      (subst (λ x. IsSpreading c tests group f good lanes (λ s. s) start lanes x
+      (subst (λ x. IsPropagating c tests group f good lanes (λ s. s) start lanes x
       after.waiting start) (sym changed)
       (spreading_first c tests group f good lanes (λ s. s) start well
       rising before.overlay before.waiting after.waiting
@@ -264,7 +267,7 @@ module _ (c : List Statement) (tests : List Test) (group : ℕ) (f : ℕ
       (λ t. index_zero before.waiting t clear.gates) scheduled gates
 
 -- what is seen of the first change, and of the lanes that are then followed
-pub first_seen : (c : List Statement) (lanes : ℕ) (before after : Changes)
+pub first_seen : (c : List Statement) (lanes : ℕ) (before after : PropagationState)
     (start diff seen kept : ℕ) → IsClear before
     → after.overlay ≡ set before.overlay start diff → start < length before.overlay
     → ((k : ℕ) → k < 128 → Decides (lane seen k) (IsObserved c start × (lane diff k ≡ true)))
@@ -282,7 +285,7 @@ first_seen c lanes before after start diff seen kept rest changed within shown n
 
 -- a gate that waits, and is taken
 pub taken_now : (c : List Statement) (good : List ℕ) (lanes : ℕ) (well : IsWellFormed c)
-    (case : Case c) (at : List ℕ) (level kept seen gate : ℕ) (t : Changes)
+    (case : Case c) (at : List ℕ) (level kept seen gate : ℕ) (t : PropagationState)
     → Spreads c good lanes case (moment_of t.overlay at t.evaluations level kept seen)
     → gate < length at → slice_index_or at gate 0 ≡ 1 → t.waiting ≡ set at gate 0
     → IsTaken c t gate
@@ -329,17 +332,17 @@ taken_behind c good lanes case m h idle g ne = let le = h.not_below g ne in
     omega (arith, le, other)
 
 -- as large as it is
-pub large_none : (m : Changes) → IsAsLarge m m
+pub large_none : (m : PropagationState) → IsAsLarge m m
 large_none m = record { overlay = refl; gates = refl }
 
 -- as large, one after another
-pub large_on : (l m n : Changes) → IsAsLarge l m → IsAsLarge m n → IsAsLarge l n
+pub large_on : (l m n : PropagationState) → IsAsLarge l m → IsAsLarge m n → IsAsLarge l n
 large_on l m n a b = record {
   overlay = b.overlay ∙ a.overlay;
   gates = b.gates ∙ a.gates;
 }
 
-pub large_enough : (c : List Statement) (m n : Changes) → HasRoomFor c m → IsAsLarge m n
+pub large_enough : (c : List Statement) (m n : PropagationState) → HasRoomFor c m → IsAsLarge m n
     → HasRoomFor c n
 large_enough c m n room large = record {
   overlay = (let a = room.overlay in let b = large.overlay in omega (arith, a, b));

@@ -7,8 +7,8 @@ use Rattle.bench_net.specs.declared.Sink.TheVariants as sink
 use Rattle.bench_net.specs.Statement.{Name, Statement, Gate}
 use Rattle.bench_net.specs.Scan.{names, name_of, signal, sinks}
 use Rattle.bench_net.specs.Circuit.{IsWellFormed}
-use Rattle.lists.proofs.Members.{Among, among, contained}
-use Rattle.lists.proofs.Places.{at_place, placed}
+use Rattle.list_lemmas.proofs.Members.{Among, among, contained}
+use Rattle.list_lemmas.proofs.Places.{at_place, placed}
 use Rattle.bench_net.proofs.Public.{read_named, signal-name_of}
 use Rattle.fault_model.specs.Known.{only_gate}
 use Rattle.fault_model.proofs.Public.{observes, pin_among, pin_reads, signal_apart}

@@ -4,20 +4,20 @@
 use Rattle.std.proofs.Common.{◌≡◌, ◌<◌, ◌≤◌, ℕ, ◌+◌, ◌*◌, ◌-◌, min, sym, subst, true, false, List}
 use Rattle.std.proofs.Common.{[]}
 use Rattle.std.proofs.Common.{length, arith}
-use Rattle.lists.proofs.Places.{within_place}
+use Rattle.list_lemmas.proofs.Places.{within_place}
 use Rattle.bench_net.specs.Statement.{Statement}
 use Rattle.fault_model.specs.Fault.{Fault}
 use Rattle.fault_model.specs.Solution.{Test, Detects}
 use Rattle.fault_model.specs.Detection.{DetectsAt}
 use Rattle.patterns.specs.declared.Outcome.TheVariants.{Clear, Hit}
-use Rattle.block_sim.specs.declared.span.Span.{Span}
+use Rattle.block_sim.specs.declared.block_span.BlockSpan.{BlockSpan}
 use Rattle.block_sim.specs.First.{IsOutcome, TellsFirst}
 use Rattle.block_sim.specs.Regions.{AreLanesFor}
-use Rattle.block_sim.specs.Spans.{IsSpan, group_of}
+use Rattle.block_sim.specs.BlockSpans.{IsSpan, group_of}
 use Rattle.block_sim.specs.Words.{lane, test_of}
 use Rattle.block_sim.proofs.ListPlaces.{index_of}
 
-module _ (c : List Statement) (tests : List Test) (span : Span) (f : Fault) (lanes word : ℕ)
+module _ (c : List Statement) (tests : List Test) (span : BlockSpan) (f : Fault) (lanes word : ℕ)
     (decides : AreLanesFor tests span c f lanes)
     (found : (k : ℕ) → k < 128 → lane word k ≡ true
     → (lane lanes k ≡ true) × Detects c (test_of tests (group_of span) k) f)
@@ -38,7 +38,7 @@ module _ (c : List Statement) (tests : List Test) (span : Span) (f : Fault) (lan
         clear k lt ((decides k lt).1 (own, d.3)) none (subst (λ t. Detects c t f) (sym same) d.2);
   }
 
-module _ (c : List Statement) (tests : List Test) (span : Span) (f : Fault) (word : ℕ)
+module _ (c : List Statement) (tests : List Test) (span : BlockSpan) (f : Fault) (word : ℕ)
     (is_span : IsSpan (length tests) span) (first : TellsFirst c tests span f word) where
   -- no test of a block detects the fault before which no lane is 1
   pub clear_before : (block : ℕ) → span.first ≤ block → block ≤ span.last

@@ -4,7 +4,7 @@ use Rattle.std.specs.Prelude.{map}
 use Rattle.bench_net.specs.Scan.{sources}
 use Rattle.patterns.specs.Tests.{IsTestList, TestList}
 use Rattle.block_sim.specs.Job.{AreFaultFree, IsJob}
-use Rattle.block_sim.specs.Spans.{groups}
+use Rattle.block_sim.specs.BlockSpans.{groups}
 use Rattle.block_sim.specs.Parts.{Parts}
 use Rattle.block_sim.specs.declared.job.JobParts.{JobParts}
 

@@ -5,8 +5,8 @@ use Rattle.std.specs.Prelude.{slice_index_or}
 use Rattle.std.proofs.lemmas.Option.{slice_get-get_or, get_or_from_slice_get}
 use Rattle.bench_net.specs.Statement.{Statement}
 use Rattle.bench_net.specs.Circuit.{IsWellFormed}
-use Rattle.lists.proofs.Members.{among}
-use Rattle.lists.proofs.Places.{placed, place_within}
+use Rattle.list_lemmas.proofs.Members.{among}
+use Rattle.list_lemmas.proofs.Places.{placed, place_within}
 use Rattle.fault_model.specs.Reordered.{place, in_order}
 use Rattle.fault_model.proofs.Public.{in_signal_order}
 use Rattle.block_sim.specs.Arranged.{ArePlaces, IsFlowOrder}

@@ -8,14 +8,15 @@ use Rattle.std.proofs.lemmas.Bool.{cases_eq}
 use Rattle.std.proofs.lemmas.List.{length-set, length-take-le}
 use Rattle.std.proofs.lemmas.List.Sums.{sum_by-append}
 use Rattle.std.proofs.lemmas.Option.{get_or_from_slice_get, slice_get-get_or, slice_get_within}
-use Rattle.lists.proofs.Members.{Among, among, among_append, among_left, among_right, contained}
+use Rattle.list_lemmas.proofs.Members.{Among, among, among_append, among_left, among_right}
+use Rattle.list_lemmas.proofs.Members.{contained}
 use Rattle.bench_net.specs.Statement.{Statement}
 use Rattle.fault_model.specs.Detection.{DetectsAt}
 use Rattle.fault_model.specs.Fault.{Fault}
 use Rattle.fault_model.specs.Solution.{Test}
-use Rattle.block_sim.specs.declared.origin.Listed.{Listed}
-use Rattle.block_sim.specs.declared.span.Span.{Span}
-use Rattle.block_sim.specs.declared.spread.Followed.{Followed}
+use Rattle.block_sim.specs.declared.origin.ListedClass.{ListedClass}
+use Rattle.block_sim.specs.declared.block_span.BlockSpan.{BlockSpan}
+use Rattle.block_sim.specs.declared.propagation.Followed.{Followed}
 use Rattle.block_sim.specs.First.{TellsFirst}
 use Rattle.block_sim.specs.Origins.{IsListed}
 use Rattle.block_sim.specs.Parts.{Parts}
@@ -25,7 +26,7 @@ use Rattle.block_sim.specs.Regions.{TellsFirstFlips}
 use Rattle.block_sim.specs.RegionHits.{IsFirstOn, IsFollowedAt, IsFoundOrFollowed}
 use Rattle.block_sim.specs.RegionHits.{IsTestOf, open_between, open_classes}
 use Rattle.block_sim.specs.Simulation.{AreFollowed, HasArrived, TellsFirstIn}
-use Rattle.block_sim.specs.Spans.{IsInSpan, IsSpan, group_of}
+use Rattle.block_sim.specs.BlockSpans.{IsInSpan, IsSpan, group_of}
 use Rattle.block_sim.proofs.KeptOutcomes.{arrived_first}
 
 -- ---- a write to a list
@@ -45,13 +46,14 @@ set_there (y ∷ xs) (suc i) zero x ne = refl
 set_there (y ∷ xs) (suc i) (suc k) x ne = set_there xs i k x (λ e. ne (ap suc e))
 
 -- ---- the test of the least lane is the first one
-pub first_of_lane : (c : List Statement) (tests : List Test) (span : Span) (f : Fault) (word : ℕ)
+pub first_of_lane : (c : List Statement) (tests : List Test) (span : BlockSpan) (f : Fault)
+    (word : ℕ)
     (hit : Option ℕ) → IsSpan (length tests) span → TellsFirst c tests span f word
     → IsTestOf span word hit → IsFirstIn c tests span f hit
-first_of_lane c tests span f word (Some t) is told h =
+first_of_lane c tests span f word (Some t) is detection h =
     let k = h.0 in
     let at : t ≡ 128 * group_of span + k = h.2 in
-    let found = told.found k h.1 h.3 in (
+    let found = detection.found k h.1 h.3 in (
       subst (IsInSpan (length tests) span) (sym at) found.0,
       subst (DetectsAt c tests f) (sym at) found.1,
       λ earlier own lt.
@@ -61,11 +63,11 @@ first_of_lane c tests span f word (Some t) is told h =
           let low : j < k = omega (arith, from, lt, at) in
           let below = h.1 in
           subst (λ n. ¬ DetectsAt c tests f n) same
-          (told.clear j (omega (arith, low, below))
+          (detection.clear j (omega (arith, low, below))
           (subst (IsInSpan (length tests) span) (sym same) own)
           (λ i le. h.4 i (omega (arith, le, low)))),
     )
-first_of_lane c tests span f word None is told h = λ t own.
+first_of_lane c tests span f word None is detection h = λ t own.
     let from = own.from in
     let to = own.to in
     let one = is.one_group in
@@ -73,21 +75,22 @@ first_of_lane c tests span f word None is told h = λ t own.
     let same : 128 * group_of span + j ≡ t = omega (arith, from) in
     let low : j < 128 = omega (arith, from, to, one) in
     subst (λ n. ¬ DetectsAt c tests f n) same
-    (told.clear j low (subst (IsInSpan (length tests) span) (sym same) own)
+    (detection.clear j low (subst (IsInSpan (length tests) span) (sym same) own)
     (λ i le. h i (omega (arith, le, low))))
 
-pub first_of_word : (job : Parts) (span : Span) (class word : ℕ) (hit : Option ℕ)
+pub first_of_word : (job : Parts) (span : BlockSpan) (class word : ℕ) (hit : Option ℕ)
     → IsSpan (length job.tests.tests) span → TellsFirstIn job span class word
     → IsTestOf span word hit → IsFirstOn job span class hit
-first_of_word job span class word hit is told h = (
-  told.0,
-  told.1,
-  first_of_lane job.circuit job.tests.tests span told.0 word hit is told.2 h,
+first_of_word job span class word hit is detection h = (
+  detection.0,
+  detection.1,
+  first_of_lane job.circuit job.tests.tests span detection.0 word hit is detection.2 h,
 )
 
 -- ---- one row more
-module _ (job : Parts) (span : Span) (rows : List Listed) (firsts : List (Option ℕ)) (from p : ℕ)
-    (row : Listed) (was followed : List Followed) (old hits : List (Option ℕ))
+module _ (job : Parts) (span : BlockSpan) (rows : List ListedClass) (firsts : List (Option ℕ))
+    (from p : ℕ)
+    (row : ListedClass) (was followed : List Followed) (old hits : List (Option ℕ))
     (is : slice_get rows p ≡ Some row) (low : p < length old) (after : from ≤ p)
     (step : IsFoundOrFollowed job span row p was followed old hits) where
   -- those that were followed are still
@@ -144,7 +147,8 @@ module _ (job : Parts) (span : Span) (rows : List Listed) (firsts : List (Option
           let both : Some other ≡ Some row = sym idle.row_is ∙ (ap (slice_get rows) same ∙ is) in
           let one : other ≡ row = cc in
           subst (λ n. HasFirst job span other hits n ⊎ IsFollowedAt followed n) (sym same)
-          (subst (λ (r : Listed). HasFirst job span r hits p ⊎ IsFollowedAt followed p) (sym one)
+          (subst (λ (r : ListedClass). HasFirst job span r hits p
+          ⊎ IsFollowedAt followed p) (sym one)
           here)
       go (inr ne) = keep ne (before place other le (omega (arith, lt, ne)) idle)
 
@@ -152,13 +156,13 @@ module _ (job : Parts) (span : Span) (rows : List Listed) (firsts : List (Option
   at_more before one there = go step
     where
       old_one : Contains was one → (from ≤ one.place) × (one.place < p + 1)
-          × (r : Listed) × (slice_get rows one.place ≡ Some r) × (r.class ≡ one.class)
+          × (r : ListedClass) × (slice_get rows one.place ≡ Some r) × (r.class ≡ one.class)
       old_one h = let b = before one h in let lt = b.1 in (b.0, omega (arith, lt), b.2, b.3, b.4)
 
       new_one : (s : Followed) → s.class ≡ row.class → s.place ≡ p
           → Among one was ⊎ Among one (s ∷ [])
           → (from ≤ one.place) × (one.place < p + 1)
-          × (r : Listed) × (slice_get rows one.place ≡ Some r) × (r.class ≡ one.class)
+          × (r : ListedClass) × (slice_get rows one.place ≡ Some r) × (r.class ≡ one.class)
       new_one s class place (inl h) = old_one (contained was one h)
       new_one s class place (inr (inl same)) =
           let e : one.place ≡ p = ap (λ (x : Followed). x.place) (sym same) ∙ place in (
@@ -172,7 +176,7 @@ module _ (job : Parts) (span : Span) (rows : List Listed) (firsts : List (Option
 
       go : IsFoundOrFollowed job span row p was followed old hits
           → (from ≤ one.place) × (one.place < p + 1)
-          × (r : Listed) × (slice_get rows one.place ≡ Some r) × (r.class ≡ one.class)
+          × (r : ListedClass) × (slice_get rows one.place ≡ Some r) × (r.class ≡ one.class)
       go (inl s) = old_one (subst (λ l. Contains l one) s.0 there)
       go (inr s) = new_one s.1 s.2 s.3 (among_append was (s.1 ∷ []) one
           (among (was ++ s.1 ∷ []) one (subst (λ l. Contains l one) s.5 there)))
@@ -278,7 +282,7 @@ range_long xs from p le =
     let rest = length-drop from xs in
     length-take-le (p - from) (drop from xs) (omega (arith, rest, le))
 
-open_push : (rows : List Listed) (firsts : List (Option ℕ)) (row : Listed)
+open_push : (rows : List ListedClass) (firsts : List (Option ℕ)) (row : ListedClass)
     → length rows ≡ length firsts
     → open_classes (rows ++ row ∷ []) (firsts ++ None ∷ [])
     ≡ open_classes rows firsts ++ row.class ∷ []
@@ -289,7 +293,7 @@ open_push (r ∷ rows) (None ∷ firsts) row e =
     ap (λ l. r.class ∷ l) (open_push rows firsts row (omega (arith, e)))
 open_push (r ∷ rows) (Some t ∷ firsts) row e = open_push rows firsts row (omega (arith, e))
 
-open_skip : (rows : List Listed) (firsts : List (Option ℕ)) (row : Listed) (test : ℕ)
+open_skip : (rows : List ListedClass) (firsts : List (Option ℕ)) (row : ListedClass) (test : ℕ)
     → length rows ≡ length firsts
     → open_classes (rows ++ row ∷ []) (firsts ++ Some test ∷ []) ≡ open_classes rows firsts
 open_skip [] [] row test e = refl
@@ -300,8 +304,8 @@ open_skip (r ∷ rows) (None ∷ firsts) row test e =
 open_skip (r ∷ rows) (Some t ∷ firsts) row test e =
     open_skip rows firsts row test (omega (arith, e))
 
-module _ (way : ℕ → ℕ) (rows : List Listed) (firsts : List (Option ℕ)) (from p : ℕ)
-    (row : Listed) (long : length firsts ≡ length rows) (le : from ≤ p)
+module _ (way : ℕ → ℕ) (rows : List ListedClass) (firsts : List (Option ℕ)) (from p : ℕ)
+    (row : ListedClass) (long : length firsts ≡ length rows) (le : from ≤ p)
     (is : slice_get rows p ≡ Some row) where
   as_long : length (slice_range rows from p) ≡ length (slice_range firsts from p)
   as_long =
@@ -332,14 +336,15 @@ module _ (way : ℕ → ℕ) (rows : List Listed) (firsts : List (Option ℕ)) (
       (Some test) le some)
       ∙ open_skip (slice_range rows from p) (slice_range firsts from p) row test as_long)
 
-pub ways_none : (way : ℕ → ℕ) (rows : List Listed) (firsts : List (Option ℕ)) (from : ℕ)
+pub ways_none : (way : ℕ → ℕ) (rows : List ListedClass) (firsts : List (Option ℕ)) (from : ℕ)
     → sum_by way (open_between rows firsts from from) ≡ 0
 ways_none way rows firsts from =
     let none : from - from ≡ 0 = omega arith in
     ap (λ n. sum_by way (open_classes (take n (drop from rows)) (take n (drop from firsts)))) none
 
 -- a place whose first test is known is none of those that are open
-pub found_known : (job : Parts) (span : Span) (rows : List Listed) (firsts : List (Option ℕ))
+pub found_known : (job : Parts) (span : BlockSpan) (rows : List ListedClass)
+    (firsts : List (Option ℕ))
     (followed : List Followed) (from p test : ℕ) (hits : List (Option ℕ))
     → slice_get firsts p ≡ Some (Some test)
     → HaveFirstsBut job span rows firsts followed from p hits
@@ -365,17 +370,17 @@ place_of_member xs x there =
     (there.0, slice_get-get_or xs there.0 x there.1 ∙ ap Some there.2)
 
 -- the first so many of those that are followed have been told
-pub record AreToldBelow (span : Span) (seen : ℕ) (followed : List Followed) (n : ℕ)
+pub record AreToldBelow (span : BlockSpan) (seen : ℕ) (followed : List Followed) (n : ℕ)
     (first hits : List (Option ℕ)) : Type 0 where
   pub count : length hits ≡ length first
   pub kept : (place : ℕ) → ((i : ℕ) (one : Followed) → i < n → slice_get followed i ≡ Some one
       → one.place ≡ place → ⊥) → slice_get hits place ≡ slice_get first place
-  pub told : (i : ℕ) (one : Followed) → i < n → slice_get followed i ≡ Some one
+  pub detection : (i : ℕ) (one : Followed) → i < n → slice_get followed i ≡ Some one
       → (other : Followed) × Contains followed other × (other.place ≡ one.place)
       × (hit : Option ℕ) × (slice_get hits one.place ≡ Some hit)
       × IsTestOf span (bit_and other.lanes seen) hit
 
-pub told_more : (span : Span) (seen : ℕ) (followed : List Followed) (n : ℕ)
+pub told_more : (span : BlockSpan) (seen : ℕ) (followed : List Followed) (n : ℕ)
     (first hits : List (Option ℕ)) (now : Followed) (hit : Option ℕ)
     → slice_get followed n ≡ Some now → now.place < length hits
     → IsTestOf span (bit_and now.lanes seen) hit
@@ -386,7 +391,7 @@ told_more span seen followed n first hits now hit at low test before = record {
   kept = λ place none.
       set_there hits now.place place hit (λ e. none n now (omega arith) at (sym e))
       ∙ before.kept place (λ i one lt is e. none i one (omega (arith, lt)) is e);
-  told = λ i one lt is. go i one lt is (cases_eq one.place now.place);
+  detection = λ i one lt is. go i one lt is (cases_eq one.place now.place);
 }
   where
     go : (i : ℕ) (one : Followed) → i < n + 1 → slice_get followed i ≡ Some one
@@ -406,7 +411,7 @@ told_more span seen followed n first hits now hit at low test before = record {
         let other : i ≢ n = λ e. ne (let both : Some one ≡ Some now = sym is
         ∙ (ap (slice_get followed) e ∙ at) in let same : one ≡ now = cc in
         ap (λ (x : Followed). x.place) same) in
-        let b = before.told i one (omega (arith, lt, other)) is in (
+        let b = before.detection i one (omega (arith, lt, other)) is in (
           b.0,
           b.1,
           b.2,
@@ -444,7 +449,7 @@ followed_or_not (one ∷ followed) place = go (cases_eq one.place place)
         out x at (inr there) = none (x, contained followed x there, at)
 
 -- all of them are concluded
-pub concluded : (job : Parts) (span : Span) (stem : ℕ) (rows : List Listed)
+pub concluded : (job : Parts) (span : BlockSpan) (stem : ℕ) (rows : List ListedClass)
     (firsts : List (Option ℕ)) (followed : List Followed) (from to seen : ℕ)
     (old hits : List (Option ℕ)) → IsSpan (length job.tests.tests) span
     → HaveFirstsBut job span rows firsts followed from to old → AreFollowedAt rows from to followed
@@ -454,7 +459,8 @@ pub concluded : (job : Parts) (span : Span) (stem : ℕ) (rows : List Listed)
     → ((place : ℕ) → (IsFollowedAt followed place → ⊥) → slice_get hits place ≡ slice_get old place)
     → AreConcluded span seen followed hits
     → HaveFirsts job span rows firsts from to hits
-concluded job span stem rows firsts followed from to seen old hits is before at came told kept are
+concluded job span stem rows firsts followed from to seen old hits is before at came detection kept
+    are
     place row le lt idle = go (followed_or_not followed place)
   where
     kept_first : (IsFollowedAt followed place → ⊥)
@@ -472,17 +478,19 @@ concluded job span stem rows firsts followed from to seen old hits is before at 
         let own = at one t.1 in
         let both : Some own.2 ≡ Some row = sym own.3 ∙ (ap (slice_get rows) t.2 ∙ idle.row_is) in
         let same : own.2 ≡ row = cc in
-        let class : one.class ≡ row.class = sym own.4 ∙ ap (λ (r : Listed). r.class) same in (
+        let class : one.class ≡ row.class = sym own.4 ∙ ap (λ (r : ListedClass). r.class) same in (
           t.3,
           t.4,
           subst (λ n. IsFirstOn job span n t.3) class
               (first_of_word job span one.class (bit_and one.lanes seen) t.3 is
-              (arrived_first job span stem one.class one.lanes seen (came one t.1).1 (told one t.1))
+              (arrived_first job span stem one.class one.lanes seen (came one t.1).1
+              (detection one t.1))
               t.5),
         )
 
 -- each row stands for its class
-pub listed_at : (job : Parts) (rows : List Listed) (i : ℕ) (row : Listed) → All (IsListed job) rows
+pub listed_at : (job : Parts) (rows : List ListedClass) (i : ℕ) (row : ListedClass)
+    → All (IsListed job) rows
     → slice_get rows i ≡ Some row → IsListed job row
 listed_at job rows i row all e =
     subst (IsListed job) (get_or_from_slice_get rows i row row e)

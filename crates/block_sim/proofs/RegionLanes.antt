@@ -13,22 +13,23 @@ use Rattle.bench_net.specs.declared.Kind.{Kind}
 use Rattle.bench_net.specs.Statement.{Name, Statement, Gate}
 use Rattle.bench_net.specs.Scan.{names, signal, definition, gate_of}
 use Rattle.bench_net.specs.Circuit.{IsWellFormed}
-use Rattle.lists.proofs.Members.{among, contained}
-use Rattle.lists.proofs.Places.{place_within}
+use Rattle.list_lemmas.proofs.Members.{among, contained}
+use Rattle.list_lemmas.proofs.Places.{place_within}
 use Rattle.bench_net.proofs.Public.{name_of-signal, read_named}
 use Rattle.fault_model.specs.declared.Line.TheVariants as line
 use Rattle.fault_model.specs.Fault.{Fault}
 use Rattle.fault_model.specs.Solution.{Test, Solves, Detects, under, value}
 use Rattle.fault_model.proofs.Public.{agree, defined_among, definition-signal, signal_apart}
 use Rattle.block_sim.specs.Events.{bits_of, Reads}
-use Rattle.block_sim.specs.Regions.{DetectsFlip, HasCome, IsReadBy, LanesLaw, Passes, turned_at}
+use Rattle.block_sim.specs.Regions.{DetectsFlip, HasCome, IsReadBy, LanesLaw, Passes}
+use Rattle.block_sim.specs.Regions.{complemented_at}
 use Rattle.block_sim.specs.Words.{lane, lane_bits, word_over, pin_bits, test_of, AreWords}
 use Rattle.block_sim.proofs.WordsToSolutions.{lane_same}
 use Rattle.block_sim.proofs.EnteredGates.{free_pins, map_alike}
 use Rattle.block_sim.proofs.SignalEquations.{gate_named}
 use Rattle.block_sim.proofs.Lanes.{lane_and, lane_xor, unlike}
 use Rattle.block_sim.proofs.Outcomes.{first_of_told}
-use Rattle.block_sim.specs.Spans.{group_of}
+use Rattle.block_sim.specs.BlockSpans.{group_of}
 use Rattle.block_sim.proofs.Regions.{step_law}
 use Rattle.block_sim.proofs.Steps.{lane_of_zero, left_of, only_lanes, turned_lanes}
 
@@ -83,7 +84,7 @@ unlike_true false b e = e
 -- by any solution
 passes_is : (c : List Statement) (t : Test) (s : ℕ) (u : Name → Bool) (name : Name) (kind : Kind)
     (args : List Name) → IsWellFormed c → Solves c t None u → Contains c (Gate name kind args)
-    → Passes c t s (signal c name) ↔ (value kind (map (turned_at c s u) args) ≢ u name)
+    → Passes c t s (signal c name) ↔ (value kind (map (complemented_at c s u) args) ≢ u name)
 passes_is c t s u name kind args well p at = (
   λ h same. go h same,
   λ ne. record {
@@ -102,7 +103,7 @@ passes_is c t s u name kind args well p at = (
     named = contained (names c) name (defined_among c (Gate name kind args) name
         (among c (Gate name kind args) at) refl)
 
-    go : Passes c t s (signal c name) → value kind (map (turned_at c s u) args) ≡ u name → ⊥
+    go : Passes c t s (signal c name) → value kind (map (complemented_at c s u) args) ≡ u name → ⊥
     go h same =
         let one : h.name ≡ name = signal_apart c h.name name
         (contained (names c) h.name (defined_among c (Gate h.name h.kind h.args) h.name
@@ -114,12 +115,12 @@ passes_is c t s u name kind args well p at = (
         ∙ definition-signal c (Gate name kind args) name well at refl)) in
         let kinds : h.kind ≡ kind = cc in
         let lists : h.args ≡ args = cc in
-        let alike : map (turned_at c s h.bits) args ≡ map (turned_at c s u) args =
-        map_alike (turned_at c s h.bits) (turned_at c s u) args (λ a b.
+        let alike : map (complemented_at c s h.bits) args ≡ map (complemented_at c s u) args =
+        map_alike (complemented_at c s h.bits) (complemented_at c s u) args (λ a b.
         ap (λ x. if signal c a == s then not x else x) (agree c t None h.bits u well h.solves p a
         (read_named c (Gate name kind args) a well (among c (Gate name kind args) at) b))) in
-        h.differs (ap (λ k. value k (map (turned_at c s h.bits) h.args)) kinds
-        ∙ (ap (λ x. value kind (map (turned_at c s h.bits) x)) lists
+        h.differs (ap (λ k. value k (map (complemented_at c s h.bits) h.args)) kinds
+        ∙ (ap (λ x. value kind (map (complemented_at c s h.bits) x)) lists
         ∙ (ap (value kind) alike ∙ (same ∙ (sym (agree c t None h.bits u well h.solves p name named)
         ∙ ap h.bits (sym one))))))
 
@@ -148,7 +149,7 @@ module _ (c : List Statement) (well : IsWellFormed c) (tests : List Test) (group
         (slice_index_or delta (signal c a) 0) (elsewhere (signal c a) ne)
 
     now_turned : (k : ℕ) (a : Name) → lane diff k ≡ true
-        → bits_of c good delta k a ≡ turned_at c s (lane_bits c good k) a
+        → bits_of c good delta k a ≡ complemented_at c s (lane_bits c good k) a
     now_turned k a e = go (signal c a == s) refl
       where
         go : (x : Bool) → (signal c a == s) ≡ x
@@ -190,9 +191,9 @@ module _ (c : List Statement) (well : IsWellFormed c) (tests : List Test) (group
         let both = passes_is c (test_of tests group k) s (lane_bits c good k) h.reads.name
         h.reads.kind h.reads.args well (words k lt) h.reads.gate in
         let is : lane word k ≡ value h.reads.kind
-        (map (turned_at c s (lane_bits c good k)) h.reads.args) =
+        (map (complemented_at c s (lane_bits c good k)) h.reads.args) =
         read_as k lt ∙ ap (value h.reads.kind)
-        (map_alike (bits_of c good delta k) (turned_at c s (lane_bits c good k)) h.reads.args
+        (map_alike (bits_of c good delta k) (complemented_at c s (lane_bits c good k)) h.reads.args
         (λ a b. now_turned k a e)) in (
           λ p same. both.0 (subst (Passes c (test_of tests group k) s) (sym h.reads.number) p)
               (sym is

@@ -8,8 +8,8 @@ use Rattle.bench_net.specs.declared.Sink.TheVariants as sink
 use Rattle.bench_net.specs.Statement.{Name, Statement, Gate}
 use Rattle.bench_net.specs.Scan.{names, signal, name_of, cells, definition, observers, outputs}
 use Rattle.bench_net.specs.Circuit.{IsWellFormed}
-use Rattle.lists.proofs.Members.{Among, among, among_append, contained, mapped_from}
-use Rattle.lists.proofs.Places.{at_place, numbered_at}
+use Rattle.list_lemmas.proofs.Members.{Among, among, among_append, contained, mapped_from}
+use Rattle.list_lemmas.proofs.Places.{at_place, numbered_at}
 use Rattle.bench_net.proofs.Public.{name_of-signal, signal-name_of}
 use Rattle.fault_model.specs.declared.Line.{Line}
 use Rattle.fault_model.specs.declared.Line.TheVariants as line
@@ -21,7 +21,7 @@ use Rattle.fault_model.proofs.Public.{IsOn, defined_among, definition-signal, ha
 use Rattle.fault_model.proofs.Public.{listed_on, observes, same_lines, signal_apart, under_own}
 use Rattle.block_sim.specs.Regions.{Alters, Arrives, there, over, DetectsFlip, FaultLaw, IsReadBy}
 use Rattle.block_sim.specs.Regions.{ObserverLaw, Passes, RegionLaw, RunsTo, here, onward, StemLaw}
-use Rattle.block_sim.specs.Regions.{StepLaw, flip, start_of, turned_at}
+use Rattle.block_sim.specs.Regions.{StepLaw, flip, start_of, complemented_at}
 use Rattle.block_sim.proofs.EnteredGates.{Enters, IsFree, arg_named, gate_named, same_where}
 use Rattle.block_sim.proofs.FaultStart.{data_observed, output_observed}
 use Rattle.block_sim.proofs.Flips.{altered, bit_is, entered_back, entered_there, gate_turned}
@@ -104,14 +104,14 @@ module _ (c : List Statement) (well : IsWellFormed c) (t : Test) (s g : ℕ)
           ∙ (ap (λ n. definition c (signal c n)) one
           ∙ definition-signal c (Gate e.name e.kind e.args) e.name well stands refl)
 
-      differs : value e.kind (map (turned_at c s p.bits) e.args) ≢ p.bits e.name
+      differs : value e.kind (map (complemented_at c s p.bits) e.args) ≢ p.bits e.name
       differs is =
           let same : Gate p.name p.kind p.args ≡ Gate e.name e.kind e.args =
           ap (λ o. unwrap_or o (Gate p.name p.kind p.args)) gates in
           let kinds : p.kind ≡ e.kind = cc in
           let args : p.args ≡ e.args = cc in
-          p.differs (ap (λ k. value k (map (turned_at c s p.bits) p.args)) kinds
-          ∙ (ap (λ x. value e.kind (map (turned_at c s p.bits) x)) args
+          p.differs (ap (λ k. value k (map (complemented_at c s p.bits) p.args)) kinds
+          ∙ (ap (λ x. value e.kind (map (complemented_at c s p.bits) x)) args
           ∙ (is ∙ ap p.bits (sym one))))
 
       w : (v : Name → Bool) × Solves c t (Some (flip s (p.bits read))) v

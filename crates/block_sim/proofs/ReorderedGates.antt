@@ -4,7 +4,7 @@ use Rattle.std.specs.Prelude.{◌↔◌, Contains, Some, None}
 use Rattle.bench_net.specs.Statement.{Statement, Gate}
 use Rattle.bench_net.specs.Scan.{names, signal}
 use Rattle.bench_net.specs.Circuit.{IsWellFormed}
-use Rattle.lists.proofs.Members.{among, contained, among_map}
+use Rattle.list_lemmas.proofs.Members.{among, contained, among_map}
 use Rattle.fault_model.specs.declared.Line.TheVariants as line
 use Rattle.fault_model.specs.Fault.{Fault}
 use Rattle.fault_model.specs.Solution.{Test, sees, under}
@@ -16,7 +16,7 @@ use Rattle.block_sim.specs.Regions.{flip, DetectsFlip, HasCome, TellsFirstFlips}
 use Rattle.block_sim.specs.Ways.{HasActiveByFlip}
 use Rattle.block_sim.specs.Words.{test_of}
 use Rattle.block_sim.specs.Reordered.{HasSameActive, HasSameFlips}
-use Rattle.block_sim.specs.declared.span.Span.{Span}
+use Rattle.block_sim.specs.declared.block_span.BlockSpan.{BlockSpan}
 
 module _ (c d : List Statement) (well : IsWellFormed c) (is : IsReordered c d) where
   signals : HasSameSignals c d
@@ -79,7 +79,7 @@ module _ (c d : List Statement) (well : IsWellFormed c) (is : IsReordered c d) w
       let own = active_back a.1 (f a.0) gate a.5 in
       named_there gates gate own.0 own.1 (has own.0 (a.0, a.1, a.2, a.3, a.4, own.2))
 
-  by_flip : (tests : List Test) (span : Span) (s : ℕ) (gates : List ℕ)
+  by_flip : (tests : List Test) (span : BlockSpan) (s : ℕ) (gates : List ℕ)
       → HasActiveByFlip c tests span s gates
       → HasActiveByFlip d tests span (place c d s) (map (place c d) gates)
   by_flip tests span s gates has gate a =
@@ -125,10 +125,10 @@ module _ (c d : List Statement) (well : IsWellFormed c) (is : IsReordered c d) w
     ),
   )
 
-  told : (tests : List Test) (group mask s word : ℕ)
+  detection : (tests : List Test) (group mask s word : ℕ)
       → TellsFirstFlips c tests group mask s word
       ↔ TellsFirstFlips d tests group mask (place c d s) word
-  told tests group mask s word = (
+  detection tests group mask s word = (
     λ h. record {
       found = λ k lt on one. (detected (test_of tests group k) s).0 (h.found k lt on one);
       clear = λ k lt on none x.
@@ -142,4 +142,4 @@ module _ (c d : List Statement) (well : IsWellFormed c) (is : IsReordered c d) w
   )
 
   pub same_flips : HasSameFlips c d
-  same_flips = record { detected = detected; come = come; told = told }
+  same_flips = record { detected = detected; come = come; detection = detection }

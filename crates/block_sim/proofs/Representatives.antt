@@ -3,8 +3,8 @@ use Rattle.std.proofs.Common.{◌≡◌, ◌<◌, ℕ, zero, suc, refl, sym, ◌
 use Rattle.std.proofs.Common.{◌∷◌, ◌++◌, ◌⊎◌, inl, inr, length}
 use Rattle.std.specs.Prelude.{Contains, Option, Some, None, IfSome, map, slice_get, unwrap_or}
 use Rattle.bench_net.specs.Statement.{Statement}
-use Rattle.lists.proofs.Members.{contained}
-use Rattle.lists.proofs.Places.{at_place, place_within}
+use Rattle.list_lemmas.proofs.Members.{contained}
+use Rattle.list_lemmas.proofs.Places.{at_place, place_within}
 use Rattle.fault_model.specs.declared.Line.{Line}
 use Rattle.fault_model.specs.declared.Model.{Model}
 use Rattle.fault_model.specs.Fault.{Fault, FaultList, fault_list, faults}

@@ -17,8 +17,9 @@ use Rattle.bench_net.specs.Statement.{Name, Statement, Input, Output, Gate, Dff,
 use Rattle.bench_net.specs.Scan.{names, signal, observers, outputs, cells}
 use Rattle.bench_net.specs.Circuit.{IsCircuit, IsWellFormed, sink_count}
 use Rattle.bench_net.proofs.Public.{name_of-signal}
-use Rattle.lists.proofs.Members.{Among, among, contained, among_append, among_right, mapped_from}
-use Rattle.lists.proofs.Places.{at_place, numbered_at, place_within}
+use Rattle.list_lemmas.proofs.Members.{Among, among, contained, among_append, among_right}
+use Rattle.list_lemmas.proofs.Members.{mapped_from}
+use Rattle.list_lemmas.proofs.Places.{at_place, numbered_at, place_within}
 use Rattle.fault_model.specs.Solution.{Test, Solves, shows}
 use Rattle.fault_model.proofs.Public.{agree}
 use Rattle.patterns.specs.Least.{below}

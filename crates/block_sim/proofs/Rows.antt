@@ -8,9 +8,9 @@ use Rattle.std.proofs.lemmas.Option.{get_or_from_slice_get}
 use Rattle.bench_net.specs.Statement.{Statement}
 use Rattle.bench_net.specs.Scan.{names}
 use Rattle.fault_model.specs.Solution.{Test}
-use Rattle.lists.proofs.Places.{place_within}
+use Rattle.list_lemmas.proofs.Places.{place_within}
 use Rattle.block_sim.specs.GroupRows.{AreRowsFrom}
-use Rattle.block_sim.specs.Spans.{groups}
+use Rattle.block_sim.specs.BlockSpans.{groups}
 use Rattle.block_sim.specs.Words.{AreWords}
 use Rattle.block_sim.specs.Job.{AreFaultFree}
 

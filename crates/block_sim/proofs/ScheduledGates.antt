@@ -10,9 +10,9 @@ use Rattle.bench_net.specs.declared.Sink.TheVariants as sink
 use Rattle.bench_net.specs.Statement.{Name, Statement, Input, Output, Gate, Dff}
 use Rattle.bench_net.specs.Scan.{names, signal, name_of, sinks, cells}
 use Rattle.bench_net.specs.Circuit.{IsWellFormed}
-use Rattle.lists.proofs.Members.{Among, among, contained}
+use Rattle.list_lemmas.proofs.Members.{Among, among, contained}
 use Rattle.bench_net.proofs.Public.{name_of-signal, signal-name_of}
-use Rattle.lists.proofs.Places.{at_place, placed, place_within, within_place}
+use Rattle.list_lemmas.proofs.Places.{at_place, placed, place_within, within_place}
 use Rattle.fault_model.proofs.Public.{observes, data_reads, out_reads}
 use Rattle.block_sim.specs.Events.{Reads, IsLive, IsObserved, AreScheduled}
 use Rattle.block_sim.specs.Flat.{AreReaders}

@@ -8,7 +8,7 @@ use Rattle.std.proofs.lemmas.Bool.{cases_eq, false≢true, or_left, or_right, or
 use Rattle.bench_net.specs.Statement.{Statement}
 use Rattle.block_sim.specs.Words.{lane}
 use Rattle.block_sim.specs.Events.{IsObserved}
-use Rattle.block_sim.specs.Spreading.{AreSeen}
+use Rattle.block_sim.specs.Propagation.{AreSeen}
 use Rattle.block_sim.proofs.Lanes.{lane_or, lane_zero}
 
 none_in_zero : (d k : ℕ) → d ≡ 0 → lane d k ≡ true → ⊥

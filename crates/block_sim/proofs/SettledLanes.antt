@@ -4,13 +4,13 @@ use Rattle.std.proofs.Common.{false, ◌&&◌, ◌||◌, List, inl, inr, ◌⊎�
 use Rattle.std.specs.Prelude.{Contains, Some, bit_and, bit_or, nat_lt, slice_get, unwrap_or}
 use Rattle.std.specs.Int.{w128, trailing_zeros}
 use Rattle.std.proofs.lemmas.Bool.{false≢true, and_from, or_cases, or_left}
-use Rattle.lists.proofs.Members.{contained}
-use Rattle.lists.proofs.Places.{at_place}
-use Rattle.block_sim.specs.declared.spread.Extent.{Extent}
-use Rattle.block_sim.specs.declared.spread.Extent.TheVariants.{WholeBlock, FirstHits}
-use Rattle.block_sim.specs.Spreading.{IsSettled, LeavesSettled}
+use Rattle.list_lemmas.proofs.Members.{contained}
+use Rattle.list_lemmas.proofs.Places.{at_place}
+use Rattle.block_sim.specs.declared.propagation.Extent.{Extent}
+use Rattle.block_sim.specs.declared.propagation.Extent.TheVariants.{WholeBlock, FirstHits}
+use Rattle.block_sim.specs.Propagation.{IsSettled, LeavesSettled}
 use Rattle.block_sim.specs.Words.{lane}
-use Rattle.block_sim.specs.declared.spread.Followed.{Followed}
+use Rattle.block_sim.specs.declared.propagation.Followed.{Followed}
 use Rattle.block_sim.proofs.Lanes.{lane_and, lane_or}
 use Rattle.block_sim.proofs.ScheduledGates.{at_end}
 use Rattle.block_sim.proofs.Steps.{left_behind, left_of, left_out, only_lanes}

@@ -9,9 +9,9 @@ use Rattle.bench_net.specs.declared.Kind.{Kind}
 use Rattle.bench_net.specs.Statement.{Name, Statement, Input, Output, Gate, Dff}
 use Rattle.bench_net.specs.Scan.{names, signal, definition, gate_of, gate_line, sources}
 use Rattle.bench_net.specs.Circuit.{IsWellFormed}
-use Rattle.lists.proofs.Members.{Among, among, contained}
+use Rattle.list_lemmas.proofs.Members.{Among, among, contained}
 use Rattle.bench_net.proofs.Public.{name_of-signal}
-use Rattle.lists.proofs.Places.{at_place, place_within}
+use Rattle.list_lemmas.proofs.Places.{at_place, place_within}
 use Rattle.fault_model.specs.declared.Line.TheVariants as line
 use Rattle.fault_model.specs.Fault.{Fault}
 use Rattle.fault_model.specs.Solution.{Test, Solves, under, value, sees, pins_see}

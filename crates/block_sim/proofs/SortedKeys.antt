@@ -19,13 +19,13 @@ use Rattle.std.proofs.lemmas.Map.Made.{AllPairs-from_IsDistinct, IsDistinct-from
 use Rattle.std.proofs.lemmas.Option.{get_or_from_slice_get, slice_get_within}
 use Rattle.bench_net.specs.Statement.{Statement}
 use Rattle.bench_net.specs.Scan.{names}
-use Rattle.lists.proofs.Members.{among, among_map, contained}
-use Rattle.lists.proofs.Places.{at_place, within_place}
+use Rattle.list_lemmas.proofs.Members.{among, among_map, contained}
+use Rattle.list_lemmas.proofs.Places.{at_place, within_place}
 use Rattle.fault_model.specs.Reordered.{IsSourceAt}
-use Rattle.block_sim.specs.declared.order.Keyed.{Keyed}
+use Rattle.block_sim.specs.declared.signal_order.Keyed.{Keyed}
 use Rattle.block_sim.specs.Arranged.{IsFlowOrder}
 use Rattle.block_sim.specs.Events.{Reads}
-use Rattle.block_sim.specs.Order.{AreKeysOf, HaveKeys}
+use Rattle.block_sim.specs.SignalOrder.{AreKeysOf, HaveKeys}
 
 -- ---- the order of a sort
 abbrev pub key_cmp : Keyed → Keyed → Ordering

@@ -11,8 +11,8 @@ use Rattle.bench_net.specs.Scan.{names, signal, name_of}
 use Rattle.bench_net.specs.Circuit.{IsWellFormed}
 use Rattle.bench_net.specs.Level.{GoesBefore, IsLevelOrder, greatest}
 use Rattle.bench_net.proofs.Public.{name_of-signal, read_named}
-use Rattle.lists.proofs.Members.{among, among_map, contained, filtered_from}
-use Rattle.lists.proofs.Places.{at_place, place_within, within_place}
+use Rattle.list_lemmas.proofs.Members.{among, among_map, contained, filtered_from}
+use Rattle.list_lemmas.proofs.Places.{at_place, place_within, within_place}
 use Rattle.fault_model.specs.declared.Line.{Line}
 use Rattle.fault_model.specs.declared.Line.TheVariants as line
 use Rattle.fault_model.specs.declared.Model.{Model}

@@ -6,8 +6,8 @@ use Rattle.std.proofs.lemmas.Bool.{cases_eq}
 use Rattle.bench_net.specs.Statement.{Name, Statement, Gate}
 use Rattle.bench_net.specs.Scan.{names, signal, sources, inputs, cells}
 use Rattle.bench_net.specs.Circuit.{IsWellFormed}
-use Rattle.lists.proofs.Members.{Among, among, contained, among_left, among_right}
-use Rattle.lists.proofs.Places.{placed}
+use Rattle.list_lemmas.proofs.Members.{Among, among, contained, among_left, among_right}
+use Rattle.list_lemmas.proofs.Places.{placed}
 use Rattle.bench_net.proofs.Public.{read_named}
 use Rattle.fault_model.specs.declared.Line.TheVariants as line
 use Rattle.fault_model.specs.Fault.{Fault}
@@ -15,7 +15,7 @@ use Rattle.fault_model.specs.Solution.{Test, Solves, under, value}
 use Rattle.fault_model.proofs.Public.{Driven, driven, pins_agree}
 use Rattle.block_sim.specs.Words.{lane, test_of}
 use Rattle.block_sim.specs.Events.{bits_of, HasEquation, Reads}
-use Rattle.block_sim.specs.Spreading.{IsBalanced}
+use Rattle.block_sim.specs.Propagation.{IsBalanced}
 
 module _ (c : List Statement) (counts : ℕ → Type 0) (closed : (g s : ℕ) → Reads c g s → counts g
     → counts s) (tests : List Test) (group : ℕ) (f : ℕ → Fault) (good : List ℕ) (mask : ℕ)

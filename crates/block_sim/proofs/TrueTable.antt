@@ -9,8 +9,8 @@ use Rattle.bench_net.specs.declared.Sink.{Sink}
 use Rattle.bench_net.specs.Statement.{Name, Statement}
 use Rattle.bench_net.specs.Scan.{names, observers}
 use Rattle.bench_net.specs.Circuit.{IsWellFormed}
-use Rattle.lists.proofs.Members.{contained, filtered_from}
-use Rattle.lists.proofs.Places.{at_place, within_place}
+use Rattle.list_lemmas.proofs.Members.{contained, filtered_from}
+use Rattle.list_lemmas.proofs.Places.{at_place, within_place}
 use Rattle.fault_model.specs.declared.Line.{Line}
 use Rattle.fault_model.specs.declared.Model.{Model}
 use Rattle.fault_model.specs.declared.Model.TheVariants.{StuckAt, Transition, TransitionPairs}
@@ -192,16 +192,16 @@ module _ (c : List Statement) (tests : List Test) (well : IsWellFormed c) where
 pub which_detect : (m : Model) (c : List Statement) (tests : List Test) (class : ℕ) (r : Fault)
     → IsWellFormed c → slice_get (representatives m c) class ≡ Some r
     → (detects : ℕ → Bool) × ((t : ℕ) → Decides (detects t) (DetectsAt c tests r t))
-which_detect m c tests class r well at = (λ t. told (or t), λ t. decided (or t))
+which_detect m c tests class r well at = (λ t. detection (or t), λ t. decided (or t))
   where
     or : (t : ℕ) → Or (DetectsAt c tests r t)
     or t = at_or c tests well m r t (class_listed c tests well m r class at)
 
-    told : {P : Type 0} → Or P → Bool
-    told (inl p) = true
-    told (inr not) = false
+    detection : {P : Type 0} → Or P → Bool
+    detection (inl p) = true
+    detection (inr not) = false
 
-    decided : {P : Type 0} (d : Or P) → Decides (told d) P
+    decided : {P : Type 0} (d : Or P) → Decides (detection d) P
     decided (inl p) = (λ e. p, λ q. refl)
     decided (inr not) = (λ e. absurd (cc), λ q. absurd (not q))
 

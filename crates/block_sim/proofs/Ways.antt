@@ -19,8 +19,8 @@ use Rattle.block_sim.specs.declared.simulation.Memo.TheVariants.{Nothing}
 use Rattle.block_sim.specs.Regions.{IsStem, IsStemOf, IsStemOfLine, LeadsTo, here, lone_reader}
 use Rattle.block_sim.specs.Regions.{onward}
 use Rattle.fault_model.specs.Solution.{Test}
-use Rattle.block_sim.specs.declared.span.Span.{Span}
-use Rattle.block_sim.specs.Spans.{IsSpan, span_from}
+use Rattle.block_sim.specs.declared.block_span.BlockSpan.{BlockSpan}
+use Rattle.block_sim.specs.BlockSpans.{IsSpan, span_from}
 use Rattle.block_sim.specs.Ways.{HasActiveByFlip, IsWay, IsWayOfLine, OneWayLaw, SomeWayLaw}
 use Rattle.block_sim.specs.Ways.{is_between, is_on, known_ways, steps}
 use Rattle.block_sim.proofs.Stems.{class_has_stem}
@@ -161,7 +161,7 @@ module _ (way : ℕ → ℕ) (block : ℕ) (memos : List Memo) (class : ℕ) (me
 
 -- a span that begins at a block, and below the third one has it alone, has no other blocks than
 -- these
-span_within : (tests : ℕ) (span : Span) (block : ℕ) → IsSpan tests span → span.first ≡ block
+span_within : (tests : ℕ) (span : BlockSpan) (block : ℕ) → IsSpan tests span → span.first ≡ block
     → (block < 2 → span.last ≡ block)
     → span.last ≤ (span_from block).last
 span_within tests span block is first alone = go (cases_lt block 2)
@@ -177,7 +177,7 @@ span_within tests span block is first alone = go (cases_lt block 2)
         (omega (arith, one, first))
 
 -- and makes no more gates active than they do
-pub active_wider : (c : List Statement) (tests : List Test) (span : Span) (block s : ℕ)
+pub active_wider : (c : List Statement) (tests : List Test) (span : BlockSpan) (block s : ℕ)
     (gates : List ℕ) → IsSpan (length tests) span → span.first ≡ block
     → (block < 2 → span.last ≡ block) → HasActiveByFlip c tests (span_from block) s gates
     → HasActiveByFlip c tests span s gates

@@ -10,9 +10,9 @@ use Rattle.bench_net.specs.declared.Kind.{Kind}
 use Rattle.bench_net.specs.Statement.{Name, Statement, Gate}
 use Rattle.bench_net.specs.Scan.{names, signal, name_of, inputs, cells, sources}
 use Rattle.bench_net.specs.Circuit.{IsWellFormed}
-use Rattle.lists.proofs.Members.{Among, among, contained, among_left, among_right}
+use Rattle.list_lemmas.proofs.Members.{Among, among, contained, among_left, among_right}
 use Rattle.bench_net.proofs.Public.{name_of-signal, signal-name_of, read_named}
-use Rattle.lists.proofs.Places.{at_place, placed, place_within}
+use Rattle.list_lemmas.proofs.Places.{at_place, placed, place_within}
 use Rattle.fault_model.specs.declared.Line.TheVariants as line
 use Rattle.fault_model.specs.Fault.{Fault}
 use Rattle.fault_model.specs.Solution.{Test, Solves, value, under, sees, pins_see}

@@ -10,10 +10,10 @@ use Rattle.bench_net.specs.Scan.{names, gate_of}
 use Rattle.bench_net.specs.Circuit.{IsCircuit}
 use Rattle.fault_model.specs.Reordered.{in_order}
 use Rattle.block_sim.specs.declared.flat.Driver.{Driver}
-use Rattle.block_sim.specs.declared.flat.Row.{Row}
+use Rattle.block_sim.specs.declared.flat.SignalRow.{SignalRow}
 use Rattle.block_sim.specs.declared.flat.Standing.{Standing}
 use Rattle.block_sim.specs.Events.{Reads, IsObserved, IsLive}
-use Rattle.block_sim.specs.Forms.{IsFormOf}
+use Rattle.block_sim.specs.GateForms.{IsFormOf}
 use Rattle.block_sim.specs.Arranged.{ArePlaces, IsFlowOrder}
 use Rattle.block_sim.specs.Regions.{lone_reader}
 
@@ -35,7 +35,7 @@ HasEnds pins first last =
     (slice_index_or pins 0 0 ≡ first) × (slice_index_or pins (length pins - 1) 0 ≡ last)
 
 -- a row says what drives a signal, what reads it, and whether an observer observes it
-pub record IsRow (c : List Statement) (pins readers : List ℕ) (s : ℕ) (row : Row) :
+pub record IsRow (c : List Statement) (pins readers : List ℕ) (s : ℕ) (row : SignalRow) :
     Type 0 where
   pub pins_in : (row.pins_start ≤ row.pins_end) × (row.pins_end ≤ length pins)
   pub readers_in : (row.readers_start ≤ row.readers_end) × (row.readers_end ≤ length readers)
@@ -65,8 +65,8 @@ IsDriver c s before after driver =
     × IfSome driver (λ d. IsFormOf d.kind d.form)
 
 -- the rows of the first signals
-abbrev pub AreRows : List Statement → List ℕ → List ℕ → List Row → Type 0
-AreRows c pins readers rows = (s : ℕ) (row : Row) → slice_get rows s ≡ Some row
+abbrev pub AreRows : List Statement → List ℕ → List ℕ → List SignalRow → Type 0
+AreRows c pins readers rows = (s : ℕ) (row : SignalRow) → slice_get rows s ≡ Some row
     → IsRow c pins readers s row
 
 -- where the first signals stand
@@ -75,7 +75,7 @@ AreStandings c standings = (s : ℕ) (standing : Standing) → slice_get standin
     → IsStanding c s standing
 
 -- the lists are those of the circuit: a row for each signal, and where it stands
-pub record IsFlat (c : List Statement) (pins readers : List ℕ) (rows : List Row)
+pub record IsFlat (c : List Statement) (pins readers : List ℕ) (rows : List SignalRow)
     (standings : List Standing) : Type 0 where
   pub count : length rows ≡ length (names c)
   pub numbered : AreRows c pins readers rows
@@ -94,7 +94,7 @@ pub record ArePlaced (c : List Statement) (order places : List ℕ) (live : List
 
 -- the same without what is live, and the flat lists of the circuit in that order
 pub record IsArrangedFlat (c : List Statement) (order places pins readers : List ℕ)
-    (rows : List Row) (standings : List Standing) : Type 0 where
+    (rows : List SignalRow) (standings : List Standing) : Type 0 where
   pub ordered : IsFlowOrder c order
   pub room : length places ≡ length (names c)
   pub placed : ArePlaces c (in_order c order) places

@@ -4,7 +4,7 @@ use Rattle.std.specs.Prelude.{slice_get}
 use Rattle.bench_net.specs.Statement.{Statement}
 use Rattle.bench_net.specs.Scan.{names}
 use Rattle.fault_model.specs.Solution.{Test}
-use Rattle.block_sim.specs.Spans.{groups}
+use Rattle.block_sim.specs.BlockSpans.{groups}
 use Rattle.block_sim.specs.Words.{AreWords}
 use Rattle.block_sim.specs.declared.fault_free.GroupRows.{GroupRows}
 

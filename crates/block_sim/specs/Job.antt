@@ -6,7 +6,7 @@ use Rattle.fault_model.specs.Solution.{Test}
 use Rattle.block_sim.specs.Origins.{HaveRepresentatives}
 use Rattle.block_sim.specs.Parts.{Parts, BelongTogether}
 use Rattle.block_sim.specs.Regions.{HaveStems}
-use Rattle.block_sim.specs.Spans.{groups}
+use Rattle.block_sim.specs.BlockSpans.{groups}
 use Rattle.block_sim.specs.declared.words.Stuck.{Stuck}
 use Rattle.block_sim.specs.Words.{AreWords}
 

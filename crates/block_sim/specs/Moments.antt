@@ -3,9 +3,9 @@ use Rattle.std.specs.Prelude.{◌≢◌, ℕ, ◌+◌, ◌≤◌, List, slice_in
 use Rattle.bench_net.specs.Statement.{Statement}
 use Rattle.fault_model.specs.Fault.{Fault}
 use Rattle.fault_model.specs.Solution.{Test}
-use Rattle.block_sim.specs.declared.changes.Changes.{Changes}
+use Rattle.block_sim.specs.declared.propagation_state.PropagationState.{PropagationState}
 use Rattle.block_sim.specs.Events.{IsElsewhere, IsRising}
-use Rattle.block_sim.specs.Spreading.{IsSpreading, AreSeen, HasTouched, ahead}
+use Rattle.block_sim.specs.Propagation.{IsPropagating, AreSeen, HasTouched, pending_gates}
 
 -- What a simulation has at a moment: the lanes in which each signal differs; for each gate 0, or
 -- another number where it waits; the evaluations that were counted; the place that it works at;
@@ -18,7 +18,7 @@ pub record Moment : Type 0 where
   pub kept : ℕ
   pub seen : ℕ
 
-abbrev pub moment : Changes → ℕ → ℕ → ℕ → Moment
+abbrev pub moment : PropagationState → ℕ → ℕ → ℕ → Moment
 moment changes level kept seen = record {
   delta = changes.overlay;
   at = changes.waiting;
@@ -51,12 +51,12 @@ pub record Case (c : List Statement) : Type 0 where
 
 -- what is true at a moment of a case, where these lanes were asked for
 abbrev pub Spreads : (c : List Statement) → List ℕ → ℕ → Case c → Moment → Type 0
-Spreads c good lanes case m = IsSpreading c case.tests case.group case.fault good lanes
+Spreads c good lanes case m = IsPropagating c case.tests case.group case.fault good lanes
     (λ s. s) case.start m.kept m.delta m.at m.level
 
 -- how many of the gates are still ahead at a moment of a case
 abbrev pub left : (c : List Statement) → Case c → Moment → List ℕ → ℕ
-left c case m gates = ahead (λ s. s) m.at m.level gates
+left c case m gates = pending_gates (λ s. s) m.at m.level gates
 
 -- From one moment to a later one: what is true in each case stays so, and where a list names each
 -- gate that reads a signal that differs, no more gates of it were evaluated than were ahead and

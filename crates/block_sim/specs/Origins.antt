@@ -8,7 +8,7 @@ use Rattle.fault_model.specs.Collapse.{representatives}
 use Rattle.fault_model.specs.Detection.{name_on}
 use Rattle.fault_model.specs.Fault.{Fault, faults}
 use Rattle.fault_model.specs.Reordered.{moved_fault}
-use Rattle.block_sim.specs.declared.origin.Listed.{Listed}
+use Rattle.block_sim.specs.declared.origin.ListedClass.{ListedClass}
 use Rattle.block_sim.specs.declared.origin.Origin.{Origin}
 use Rattle.block_sim.specs.declared.words.Stuck.{Stuck}
 use Rattle.block_sim.specs.Parts.{Parts}
@@ -46,7 +46,7 @@ HaveRepresentatives m c stucks = (class : ℕ) (stuck : Stuck) → slice_get stu
     → IsRepresentativeIn m c class stuck
 
 -- a class of the job, with the stem of its region and its representative
-pub record IsListed (job : Parts) (row : Listed) : Type 0 where
+pub record IsListed (job : Parts) (row : ListedClass) : Type 0 where
   pub within : row.class < length job.classes.representative
   pub stem : IsStemOfClass job.list.model job.circuit row.class row.stem
   pub named : row.stem < length (names job.circuit)

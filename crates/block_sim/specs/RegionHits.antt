@@ -9,16 +9,16 @@ use Rattle.fault_model.specs.Collapse.{representatives}
 use Rattle.fault_model.specs.Detection.{DetectsAt}
 use Rattle.fault_model.specs.Fault.{Fault}
 use Rattle.fault_model.specs.Solution.{Test}
-use Rattle.block_sim.specs.declared.origin.Listed.{Listed}
-use Rattle.block_sim.specs.declared.span.Span.{Span}
-use Rattle.block_sim.specs.declared.spread.Followed.{Followed}
+use Rattle.block_sim.specs.declared.origin.ListedClass.{ListedClass}
+use Rattle.block_sim.specs.declared.block_span.BlockSpan.{BlockSpan}
+use Rattle.block_sim.specs.declared.propagation.Followed.{Followed}
 use Rattle.block_sim.specs.Parts.{Parts}
 use Rattle.block_sim.specs.Simulation.{HasArrived}
-use Rattle.block_sim.specs.Spans.{IsInSpan, group_of}
+use Rattle.block_sim.specs.BlockSpans.{IsInSpan, group_of}
 use Rattle.block_sim.specs.Words.{lane}
 
 -- the first test of a span that detects the fault, or none where no test of it does
-abbrev pub IsFirstIn : List Statement → List Test → Span → Fault → Option ℕ → Type 0
+abbrev pub IsFirstIn : List Statement → List Test → BlockSpan → Fault → Option ℕ → Type 0
 IsFirstIn c tests span f (Some t) = IsInSpan (length tests) span t × DetectsAt c tests f t
     × ((earlier : ℕ) → IsInSpan (length tests) span earlier → earlier < t
     → ¬ DetectsAt c tests f earlier)
@@ -26,32 +26,34 @@ IsFirstIn c tests span f None = (t : ℕ) → IsInSpan (length tests) span t
     → ¬ DetectsAt c tests f t
 
 -- that of a class is that of its representative
-abbrev pub IsFirstOn : Parts → Span → ℕ → Option ℕ → Type 0
+abbrev pub IsFirstOn : Parts → BlockSpan → ℕ → Option ℕ → Type 0
 IsFirstOn job span class hit = (r : Fault)
     × (slice_get (representatives job.list.model job.circuit) class ≡ Some r)
     × IsFirstIn job.circuit job.tests.tests span r hit
 
 -- the test of the least lane of a word that is 1, or none where none is
-abbrev pub IsTestOf : Span → ℕ → Option ℕ → Type 0
+abbrev pub IsTestOf : BlockSpan → ℕ → Option ℕ → Type 0
 IsTestOf span word (Some t) = (k : ℕ) × (k < 128) × (t ≡ 128 * group_of span + k)
     × (lane word k ≡ true) × ((j : ℕ) → j < k → lane word j ≡ false)
 IsTestOf span word None = (k : ℕ) → k < 128 → lane word k ≡ false
 
 -- the row at a place of a list is of a class whose first test isn't known
-pub record IsOpenAt (rows : List Listed) (firsts : List (Option ℕ)) (place : ℕ) (row : Listed) :
+pub record IsOpenAt (rows : List ListedClass) (firsts : List (Option ℕ)) (place : ℕ)
+    (row : ListedClass) :
     Type 0 where
   pub row_is : slice_get rows place ≡ Some row
   pub unknown : slice_get firsts place ≡ Some None
 
 -- what was found out at a place is the first test of the class there
-abbrev pub HasFirst : Parts → Span → Listed → List (Option ℕ) → ℕ → Type 0
+abbrev pub HasFirst : Parts → BlockSpan → ListedClass → List (Option ℕ) → ℕ → Type 0
 HasFirst job span row hits place = (hit : Option ℕ) × (slice_get hits place ≡ Some hit)
     × IsFirstOn job span row.class hit
 
 -- so it is at each place from one up to another whose class is open
-abbrev pub HaveFirsts : Parts → Span → List Listed → List (Option ℕ) → ℕ → ℕ → List (Option ℕ)
+abbrev pub HaveFirsts : Parts → BlockSpan → List ListedClass → List (Option ℕ) → ℕ → ℕ
+    → List (Option ℕ)
     → Type 0
-HaveFirsts job span rows firsts from to hits = (place : ℕ) (row : Listed) → from ≤ place
+HaveFirsts job span rows firsts from to hits = (place : ℕ) (row : ListedClass) → from ≤ place
     → place < to → IsOpenAt rows firsts place row → HasFirst job span row hits place
 
 -- the place is that of one of those that are followed
@@ -59,15 +61,16 @@ abbrev pub IsFollowedAt : List Followed → ℕ → Type 0
 IsFollowedAt followed place = (one : Followed) × Contains followed one × (one.place ≡ place)
 
 -- so it is, but at the places of those that are followed
-abbrev pub HaveFirstsBut : Parts → Span → List Listed → List (Option ℕ) → List Followed → ℕ → ℕ
+abbrev pub HaveFirstsBut : Parts → BlockSpan → List ListedClass → List (Option ℕ) → List Followed
+    → ℕ → ℕ
     → List (Option ℕ) → Type 0
-HaveFirstsBut job span rows firsts followed from to hits = (place : ℕ) (row : Listed)
+HaveFirstsBut job span rows firsts followed from to hits = (place : ℕ) (row : ListedClass)
     → from ≤ place → place < to → IsOpenAt rows firsts place row
     → HasFirst job span row hits place ⊎ IsFollowedAt followed place
 
 -- One row more is followed alone: what was found out of its class is kept at its place, or it came
 -- to the stem and is followed with the others.
-abbrev pub IsFoundOrFollowed : Parts → Span → Listed → ℕ → List Followed → List Followed
+abbrev pub IsFoundOrFollowed : Parts → BlockSpan → ListedClass → ℕ → List Followed → List Followed
     → List (Option ℕ) → List (Option ℕ) → Type 0
 IsFoundOrFollowed job span row place was followed old hits =
     ((followed ≡ was) × (hit : Option ℕ) × IsFirstOn job span row.class hit
@@ -77,40 +80,40 @@ IsFoundOrFollowed job span row place was followed old hits =
 
 -- what is kept at each place of those that are followed is told by the lanes in which one of them
 -- came and those in which the stem is seen
-abbrev pub AreConcluded : Span → ℕ → List Followed → List (Option ℕ) → Type 0
+abbrev pub AreConcluded : BlockSpan → ℕ → List Followed → List (Option ℕ) → Type 0
 AreConcluded span seen followed hits = (place : ℕ) → IsFollowedAt followed place
     → (one : Followed) × Contains followed one × (one.place ≡ place)
     × (hit : Option ℕ) × (slice_get hits place ≡ Some hit)
     × IsTestOf span (bit_and one.lanes seen) hit
 
 -- each that is followed is of the class at its place, which is one of those from one up to another
-abbrev pub AreFollowedAt : List Listed → ℕ → ℕ → List Followed → Type 0
+abbrev pub AreFollowedAt : List ListedClass → ℕ → ℕ → List Followed → Type 0
 AreFollowedAt rows from to followed = (one : Followed) → Contains followed one
     → (from ≤ one.place) × (one.place < to)
-    × (row : Listed) × (slice_get rows one.place ≡ Some row) × (row.class ≡ one.class)
+    × (row : ListedClass) × (slice_get rows one.place ≡ Some row) × (row.class ≡ one.class)
 
 -- the rows from one place up to another have this stem
-abbrev pub HaveStem : List Listed → ℕ → ℕ → ℕ → Type 0
-HaveStem rows from to stem = (place : ℕ) (row : Listed) → from ≤ place → place < to
+abbrev pub HaveStem : List ListedClass → ℕ → ℕ → ℕ → Type 0
+HaveStem rows from to stem = (place : ℕ) (row : ListedClass) → from ≤ place → place < to
     → slice_get rows place ≡ Some row → row.stem ≡ stem
 
 -- the rows from one place up to another are the first of them and all behind it that have its stem
-pub record IsEndOfRegion (rows : List Listed) (from to : ℕ) : Type 0 where
+pub record IsEndOfRegion (rows : List ListedClass) (from to : ℕ) : Type 0 where
   pub some : from < to
   pub within : to ≤ length rows
-  pub same : (first : Listed) → slice_get rows from ≡ Some first
+  pub same : (first : ListedClass) → slice_get rows from ≡ Some first
       → HaveStem rows from to first.stem
-  pub whole : (first row : Listed) → slice_get rows from ≡ Some first
+  pub whole : (first row : ListedClass) → slice_get rows from ≡ Some first
       → slice_get rows to ≡ Some row → row.stem ≢ first.stem
 
 -- the classes of rows whose first test isn't known
-abbrev pub open_classes : List Listed → List (Option ℕ) → List ℕ
+abbrev pub open_classes : List ListedClass → List (Option ℕ) → List ℕ
 open_classes (row ∷ rows) (None ∷ firsts) = row.class ∷ open_classes rows firsts
 open_classes (row ∷ rows) (Some test ∷ firsts) = open_classes rows firsts
 open_classes rows firsts = []
 
 -- those from one place up to another
-abbrev pub open_between : List Listed → List (Option ℕ) → ℕ → ℕ → List ℕ
+abbrev pub open_between : List ListedClass → List (Option ℕ) → ℕ → ℕ → List ℕ
 open_between rows firsts from to =
     open_classes (slice_range rows from to) (slice_range firsts from to)
 

@@ -19,9 +19,9 @@ use Rattle.fault_model.specs.Known.{only_gate}
 use Rattle.fault_model.specs.Detection.{HasBit, LooksBack, name_on}
 use Rattle.block_sim.specs.Events.{Reads, IsObserved}
 use Rattle.block_sim.specs.First.{TellsFirst}
-use Rattle.block_sim.specs.Spans.{IsInSpan, group_of}
+use Rattle.block_sim.specs.BlockSpans.{IsInSpan, group_of}
 use Rattle.block_sim.specs.Words.{lane, test_of}
-use Rattle.block_sim.specs.declared.span.Span.{Span}
+use Rattle.block_sim.specs.declared.block_span.BlockSpan.{BlockSpan}
 use Rattle.block_sim.specs.declared.region.Reach.{Reach}
 use Rattle.block_sim.specs.declared.region.Reach.TheVariants.{Observed, Stem}
 
@@ -119,8 +119,8 @@ abbrev pub DetectsFlip : List Statement → Test → ℕ → Type 0
 DetectsFlip c t s = (bit : Bool) × HasBit c t (line.Stem s) bit × Detects c t (flip s bit)
 
 -- the bits of a valuation, but one signal turned round
-abbrev pub turned_at : List Statement → ℕ → (Name → Bool) → Name → Bool
-turned_at c s v n = if signal c n == s then not (v n) else v n
+abbrev pub complemented_at : List Statement → ℕ → (Name → Bool) → Name → Bool
+complemented_at c s v n = if signal c n == s then not (v n) else v n
 
 -- The gate gives another bit where one signal is turned round and all others have the bits that
 -- they have without a fault.
@@ -132,7 +132,7 @@ pub record Passes (c : List Statement) (t : Test) (s g : ℕ) : Type 0 where
   pub solves : Solves c t None bits
   pub stands : Contains c (Gate name kind args)
   pub number : signal c name ≡ g
-  pub differs : value kind (map (turned_at c s bits) args) ≢ bits name
+  pub differs : value kind (map (complemented_at c s bits) args) ≢ bits name
 
 -- a signal that is turned round turns the next, and so on up to this one
 pub data Arrives (c : List Statement) (t : Test) : ℕ → ℕ → Type 0 where
@@ -200,7 +200,7 @@ HasCome c tests group f mask s word = (k : ℕ) → k < 128 → lane mask k ≡ 
     ↔ ((lane word k ≡ true) × DetectsFlip c (test_of tests group k) s)
 
 -- the lanes are those of a span's tests that look back as the fault asks
-abbrev pub AreLanesFor : List Test → Span → List Statement → Fault → ℕ → Type 0
+abbrev pub AreLanesFor : List Test → BlockSpan → List Statement → Fault → ℕ → Type 0
 AreLanesFor tests span c f lanes = (k : ℕ) → k < 128 → Decides (lane lanes k)
     (IsInSpan (length tests) span (128 * group_of span + k)
     × LooksBack c tests f.model f.line f.stuck (128 * group_of span + k))
@@ -209,7 +209,7 @@ AreLanesFor tests span c f lanes = (k : ℕ) → k < 128 → Decides (lane lanes
 -- detected turned round, whatever the word says in other lanes. The least of them is the first test
 -- of the span that detects the fault.
 abbrev pub LanesLaw : List Statement → Type 0
-LanesLaw c = (tests : List Test) (span : Span) (f : Fault) (s lanes arrived seen : ℕ)
+LanesLaw c = (tests : List Test) (span : BlockSpan) (f : Fault) (s lanes arrived seen : ℕ)
     → AreLanesFor tests span c f lanes → HasCome c tests (group_of span) f lanes s arrived
     → TellsFirstFlips c tests (group_of span) (bit_and lanes arrived) s seen
     → TellsFirst c tests span f (bit_and (bit_and lanes arrived) seen)

@@ -11,7 +11,7 @@ use Rattle.block_sim.specs.Events.{Reads, IsObserved, IsLive}
 use Rattle.block_sim.specs.Regions.{lone_reader, IsStemOf, IsStemOfLine, DetectsFlip, HasCome}
 use Rattle.block_sim.specs.Regions.{TellsFirstFlips}
 use Rattle.block_sim.specs.Ways.{IsWayOfLine, HasActiveByFlip}
-use Rattle.block_sim.specs.declared.span.Span.{Span}
+use Rattle.block_sim.specs.declared.block_span.BlockSpan.{BlockSpan}
 
 -- the same gates read a signal, observers observe it, and it is live in both or in none
 pub record HasSameReaders (c d : List Statement) : Type 0 where
@@ -37,7 +37,7 @@ pub record HasSameActive (c d : List Statement) : Type 0 where
   pub in_lanes : (tests : List Test) (group lanes : ℕ) (f : ℕ → Fault) (gates : List ℕ)
       → HasActiveIn c tests group lanes f gates
       → HasActiveIn d tests group lanes (λ k. moved_fault c d (f k)) (map (place c d) gates)
-  pub by_flip : (tests : List Test) (span : Span) (s : ℕ) (gates : List ℕ)
+  pub by_flip : (tests : List Test) (span : BlockSpan) (s : ℕ) (gates : List ℕ)
       → HasActiveByFlip c tests span s gates
       → HasActiveByFlip d tests span (place c d s) (map (place c d) gates)
 
@@ -47,6 +47,6 @@ pub record HasSameFlips (c d : List Statement) : Type 0 where
   pub come : (tests : List Test) (group : ℕ) (f : Fault) (mask s word : ℕ)
       → HasCome c tests group f mask s word
       ↔ HasCome d tests group (moved_fault c d f) mask (place c d s) word
-  pub told : (tests : List Test) (group mask s word : ℕ)
+  pub detection : (tests : List Test) (group mask s word : ℕ)
       → TellsFirstFlips c tests group mask s word
       ↔ TellsFirstFlips d tests group mask (place c d s) word

@@ -6,15 +6,15 @@ use Rattle.bench_net.specs.Statement.{Statement}
 use Rattle.bench_net.specs.Scan.{names}
 use Rattle.fault_model.specs.Solution.{Test}
 use Rattle.fault_model.specs.Reordered.{place}
-use Rattle.block_sim.specs.declared.changes.Changes.{Changes}
+use Rattle.block_sim.specs.declared.propagation_state.PropagationState.{PropagationState}
 use Rattle.block_sim.specs.declared.sensitized.Sensitized.{Sensitized}
-use Rattle.block_sim.specs.declared.span.Span.{Span}
-use Rattle.block_sim.specs.declared.view.BlockView.{BlockView}
+use Rattle.block_sim.specs.declared.block_span.BlockSpan.{BlockSpan}
+use Rattle.block_sim.specs.declared.block_view.BlockView.{BlockView}
 use Rattle.block_sim.specs.Arranged.{IsArranged}
-use Rattle.block_sim.specs.Changes.{IsAtRest}
+use Rattle.block_sim.specs.PropagationState.{IsAtRest}
 use Rattle.block_sim.specs.Parts.{Parts, BelongTogether}
 use Rattle.block_sim.specs.Regions.{DetectsFlip, lone_reader}
-use Rattle.block_sim.specs.Spans.{IsInSpan, group_of}
+use Rattle.block_sim.specs.BlockSpans.{IsInSpan, group_of}
 use Rattle.block_sim.specs.Words.{lane, test_of, AreWords}
 
 -- In the lanes of a mask a test detects a signal turned round exactly where the word has a 1 and
@@ -64,7 +64,7 @@ IsPathTo c (t ∷ path) s = (lone_reader c t ≡ Some (on_from path s)) × IsPat
 
 -- the circuit as a job's simulation reads it, with the words of a span's group and the lanes of the
 -- span's tests
-pub record IsViewOf (job : Parts) (span : Span) (view : BlockView) : Type 0 where
+pub record IsViewOf (job : Parts) (span : BlockSpan) (view : BlockView) : Type 0 where
   pub part : view.circuit.now.statements ≡ job.circuit
   pub arranged : IsArranged job.circuit view.circuit.now.arranged
   pub together : BelongTogether job
@@ -83,6 +83,6 @@ pub record HasBegun (job : Parts) (view : BlockView) (stem : ℕ) (region : Sens
 
 -- Between two calls no word differs and no gate waits, and there is room for the regions of as many
 -- signals.
-pub record IsReady (changes : Changes) (region : Sensitized) : Type 0 where
+pub record IsReady (changes : PropagationState) (region : Sensitized) : Type 0 where
   pub rest : IsAtRest changes
   pub room : HasRoomForRegions (length changes.overlay) region

@@ -11,12 +11,12 @@ use Rattle.block_sim.specs.declared.simulation.Approach.TheVariants.{Known, Stem
 use Rattle.block_sim.specs.declared.simulation.Memo.{Memo}
 use Rattle.block_sim.specs.declared.simulation.Memo.TheVariants.{Nothing, Pending}
 use Rattle.block_sim.specs.declared.simulation.Memo.TheVariants as memo
-use Rattle.block_sim.specs.declared.spread.Followed.{Followed}
-use Rattle.block_sim.specs.declared.span.Span.{Span}
+use Rattle.block_sim.specs.declared.propagation.Followed.{Followed}
+use Rattle.block_sim.specs.declared.block_span.BlockSpan.{BlockSpan}
 use Rattle.block_sim.specs.First.{IsTrueOutcome, TellsFirst}
 use Rattle.block_sim.specs.Parts.{Parts}
 use Rattle.block_sim.specs.Regions.{AreLanesFor, HasCome}
-use Rattle.block_sim.specs.Spans.{group_of}
+use Rattle.block_sim.specs.BlockSpans.{group_of}
 
 -- the true outcome of a class of the job on a block
 abbrev pub IsOutcomeIn : Parts → ℕ → ℕ → Outcome → Type 0
@@ -29,7 +29,7 @@ AreClear job class first last = (block : ℕ) → first ≤ block → block ≤ 
     → IsOutcomeIn job class block outcome.Clear
 
 -- the least lane of a word that is 1 has the first test of the span that detects the class
-abbrev pub TellsFirstIn : Parts → Span → ℕ → ℕ → Type 0
+abbrev pub TellsFirstIn : Parts → BlockSpan → ℕ → ℕ → Type 0
 TellsFirstIn job span class word =
     (r : Fault) × (slice_get (representatives job.list.model job.circuit) class ≡ Some r)
     × TellsFirst job.circuit job.tests.tests span r word
@@ -60,7 +60,7 @@ pub record AreTrueBut (job : Parts) (followed : List Followed) (memos : List Mem
 
 -- In these lanes of a span a class came to a signal: they are those of the span's tests that look
 -- back as its representative asks and in which that came there.
-abbrev pub HasArrived : Parts → Span → ℕ → ℕ → ℕ → Type 0
+abbrev pub HasArrived : Parts → BlockSpan → ℕ → ℕ → ℕ → Type 0
 HasArrived job span signal class word =
     (r : Fault) × (lanes arrived : ℕ)
     × (slice_get (representatives job.list.model job.circuit) class ≡ Some r)
@@ -69,13 +69,13 @@ HasArrived job span signal class word =
     × (word ≡ bit_and lanes arrived)
 
 -- all that are followed on a span are classes of the job that came to one signal
-abbrev pub AreFollowed : Parts → Span → ℕ → List Followed → Type 0
+abbrev pub AreFollowed : Parts → BlockSpan → ℕ → List Followed → Type 0
 AreFollowed job span signal followed = (one : Followed) → Contains followed one
     → (one.class < length job.classes.representative)
     × HasArrived job span signal one.class one.lanes
 
 -- a class was followed by itself: it is known which test is the first, or it came to a signal
-abbrev pub IsApproach : Parts → ℕ → Span → Approach → Type 0
+abbrev pub IsApproach : Parts → ℕ → BlockSpan → Approach → Type 0
 IsApproach job class span (Known word) = TellsFirstIn job span class word
 IsApproach job class span (Stem at) =
     (at.signal < length (names job.circuit)) × HasArrived job span at.signal class at.lanes

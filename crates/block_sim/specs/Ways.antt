@@ -16,8 +16,8 @@ use Rattle.block_sim.specs.declared.simulation.Memo.{Memo}
 use Rattle.block_sim.specs.declared.simulation.Memo.TheVariants.{Nothing, Pending, Clear, Hit}
 use Rattle.block_sim.specs.Parts.{Parts}
 use Rattle.block_sim.specs.Regions.{Chain, IsStemOf, flip, here, onward}
-use Rattle.block_sim.specs.declared.span.Span.{Span}
-use Rattle.block_sim.specs.Spans.{IsInSpan}
+use Rattle.block_sim.specs.declared.block_span.BlockSpan.{BlockSpan}
+use Rattle.block_sim.specs.BlockSpans.{IsInSpan}
 use Rattle.block_sim.specs.ActiveGates.{IsActiveBy}
 
 -- the number of steps of a chain
@@ -72,13 +72,13 @@ known_ways way block memos =
     sum_by (λ at. if is_on block at.1 then way at.0 else 0) (enumerate_from 0 memos)
 
 -- some test of the span makes the gate active, where the signal is turned round
-abbrev pub IsActiveByFlip : List Statement → List Test → Span → ℕ → ℕ → Type 0
+abbrev pub IsActiveByFlip : List Statement → List Test → BlockSpan → ℕ → ℕ → Type 0
 IsActiveByFlip c tests span s gate =
     (number : ℕ) × (t : Test) × (bit : Bool) × IsInSpan (length tests) span number
     × (slice_get tests number ≡ Some t) × HasBit c t (line.Stem s) bit
     × IsActiveBy c t (flip s bit) gate
 
 -- the list names each gate that a signal makes active on the span where it is turned round
-abbrev pub HasActiveByFlip : List Statement → List Test → Span → ℕ → List ℕ → Type 0
+abbrev pub HasActiveByFlip : List Statement → List Test → BlockSpan → ℕ → List ℕ → Type 0
 HasActiveByFlip c tests span s gates = (gate : ℕ) → IsActiveByFlip c tests span s gate
     → Contains gates gate

@@ -7,12 +7,12 @@ ghost use Rattle.fault_model.specs.Detection.{HasBit};
 ghost use Rattle.fault_model.specs.Fault.{Fault};
 ghost use Rattle.block_sim.specs.Activation.{ActivatesAt, IsActivated};
 ghost use Rattle.block_sim.specs.Origins.{IsStuckOf};
-ghost use Rattle.block_sim.specs.Spans.{groups};
+ghost use Rattle.block_sim.specs.BlockSpans.{groups};
 ghost use Rattle.block_sim.specs.Words.{lane, test_of};
 
 use crate::block_lanes::lanes_below;
 use crate::job::Job;
-use crate::look_back::lanes_that_fit;
+use crate::launch_condition::launch_lanes;
 use crate::origin::origin_of;
 use crate::words::Stuck;
 
@@ -49,7 +49,7 @@ fn activating_lanes(job: &Job, group: u32, stuck: Stuck) -> u128
         (ActivatesAt job.now.circuit job.now.tests.tests f (128 * group + k)) }
 {
     let size = (job.tests().count() - 128 * group).min(128);
-    lanes_below(size) & lanes_that_fit(job, group, stuck) & opposite_lanes(job, group, stuck)
+    lanes_below(size) & launch_lanes(job, group, stuck) & opposite_lanes(job, group, stuck)
 }
 
 /// Returns the lanes of a group whose tests give the line of a fault the complement of the stuck

@@ -4,7 +4,7 @@ ghost use Rattle.std.specs.Prelude.{◌≡◌, ◌+◌, ◌<◌, ◌≤◌, ℕ,
 ghost use Rattle.bench_net.specs.Scan.{sources};
 ghost use Rattle.block_sim.specs.GroupRows.{AreRowsFrom, HasRows, HaveRows};
 ghost use Rattle.block_sim.specs.Job.{AreFaultFree};
-ghost use Rattle.block_sim.specs.Spans.{groups};
+ghost use Rattle.block_sim.specs.BlockSpans.{groups};
 
 use crate::flat::FlatCircuit;
 use crate::words::evaluate;

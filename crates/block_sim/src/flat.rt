@@ -16,14 +16,14 @@ ghost use Rattle.fault_model.specs.Reordered.{in_order, moved_line, place};
 ghost use Rattle.block_sim.specs.Events.{IsLive, IsObserved, IsRising};
 ghost use Rattle.block_sim.specs.Flat.{ArePlaced, AreReaders, HasMore, IsDriver, IsFlat, IsRow};
 ghost use Rattle.block_sim.specs.Flat.{HasEnds, IsStanding};
-ghost use Rattle.block_sim.specs.Forms.{IsFormOf};
+ghost use Rattle.block_sim.specs.GateForms.{IsFormOf};
 ghost use Rattle.block_sim.specs.Arranged.{ArePlaces, IsArranged, IsFlowOrder};
 ghost use Rattle.block_sim.specs.Regions.{lone_reader};
 
-use crate::form::Form;
+use crate::gate_form::GateForm;
 use crate::live::live_signals;
-use crate::order::flow_order;
-use crate::places::places_of;
+use crate::signal_order::flow_order;
+use crate::signal_places::places_of;
 use bench_net::{Circuit, Kind, Sink};
 use fault_model::Line;
 use std::alloc::{AllocError, Global};
@@ -32,9 +32,9 @@ use std::marker::Model;
 /// A gate that drives a signal: its kind and its form, and the signal that each of its pins reads,
 /// in order. The first and the last of these are fields of their own.
 #[derive(Clone, Copy)]
-pub struct Gate<'a> {
+pub struct FlatGate<'a> {
     pub kind: Kind,
-    pub form: Form,
+    pub form: GateForm,
     pub first: u32,
     pub last: u32,
     pub pins: &'a [u32],
@@ -44,7 +44,7 @@ pub struct Gate<'a> {
 #[derive(Clone, Copy)]
 struct Driver {
     kind: Kind,
-    form: Form,
+    form: GateForm,
 }
 
 /// The row of a signal: what the simulation reads each time that it comes to the signal. The pins
@@ -61,7 +61,7 @@ struct Driver {
 ///
 /// That is 29 bytes; 3 are empty, because the next row begins at a multiple of 4.
 #[derive(Clone, Copy)]
-struct Row {
+struct SignalRow {
     /// `None` for a source.
     driver: Option<Driver>,
     observed: bool,
@@ -86,7 +86,7 @@ struct Standing {
 /// The rows of all signals, with their pins and readers, and their positions.
 #[derive(Drop)]
 struct Lists {
-    rows: Vec<Row>,
+    rows: Vec<SignalRow>,
     standings: Vec<Standing>,
     pins: Vec<u32>,
     readers: Vec<u32>,
@@ -245,7 +245,7 @@ impl FlatCircuit {
 
     /// Returns the gate that drives a signal; `None` for a source.
     #[inline(always)]
-    pub fn gate_of(&self, signal: u32) -> Option<Gate<'_>>
+    pub fn gate_of(&self, signal: u32) -> Option<FlatGate<'_>>
         requires { signal < length (names self.now.arranged) }
         ensures gate { option_map {U = Kind × List ℕ} (λ g. (g.kind, g.pins.now)) result
             ≡ gate_of self.now.arranged signal }
@@ -254,7 +254,7 @@ impl FlatCircuit {
     {
         let row = &self.lists.rows[signal as usize];
         match row.driver {
-            Some(driver) => Some(Gate {
+            Some(driver) => Some(FlatGate {
                 kind: driver.kind,
                 form: driver.form,
                 first: row.first,
@@ -413,7 +413,7 @@ fn add_row(
     signal: u32,
     pins: &mut Vec<u32>,
     readers: &mut Vec<u32>,
-) -> Result<Row, AllocError>
+) -> Result<SignalRow, AllocError>
     requires placed { ArePlaced placed.circuit.now placed.order.now placed.places.now
         placed.live.now }
     requires signal { signal < length (names placed.circuit.now) }
@@ -432,7 +432,7 @@ fn add_row(
     let last = at(pins.as_slice(), last_place as usize);
     let readers_start = place_of(readers.len())?;
     let observed = add_readers(placed, signal, readers)?;
-    Ok(Row {
+    Ok(SignalRow {
         driver,
         observed,
         first,
@@ -463,7 +463,7 @@ fn add_pins(
         Some(gate) => {
             push_places(placed.places, gate.pins.as_slice(), pins)?;
             let kind = gate.kind;
-            let form = Form::of(kind);
+            let form = GateForm::of(kind);
             Ok(Some(Driver { kind, form }))
         }
         None => Ok(None),

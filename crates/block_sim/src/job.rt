@@ -10,16 +10,16 @@ ghost use Rattle.block_sim.specs.Arranged.{ArePlaces, IsArranged};
 ghost use Rattle.block_sim.specs.Origins.{IsListed, IsRepresentativeOf};
 ghost use Rattle.block_sim.specs.Parts.{BelongTogether, piece_count, with_tests};
 ghost use Rattle.block_sim.specs.Regions.{IsStemOfClass};
-ghost use Rattle.block_sim.specs.Spans.{groups, span_of};
+ghost use Rattle.block_sim.specs.BlockSpans.{groups, span_of};
 ghost use Rattle.block_sim.specs.Words.{IsFaultFreeWord};
 
 use crate::block_lanes::block_word;
+use crate::block_span::BlockSpan;
+use crate::block_view::GroupWords;
 use crate::fault_free::{fault_free_rows, fault_free_rows_in_threads};
 use crate::flat::FlatCircuit;
-use crate::origin::{Listed, representatives_of};
+use crate::origin::{ListedClass, representatives_of};
 use crate::region_classes::{class_stems, next_with_stem};
-use crate::span::Span;
-use crate::view::GroupWords;
 use crate::words::Stuck;
 use bench_net::Circuit;
 use fault_model::{Classes, Faults};
@@ -436,12 +436,12 @@ impl Job {
     }
 
     /// Returns a class as an entry of a list of classes.
-    pub fn listed(&self, class: u32) -> Listed
+    pub fn listed(&self, class: u32) -> ListedClass
         requires { class < length self.now.classes.representative }
         ensures class { result.class ≡ class }
         ensures listed { IsListed self.now result }
     {
-        Listed {
+        ListedClass {
             class,
             stem: self.stem_of_class(class),
             representative: self.representative(class),
@@ -454,7 +454,7 @@ impl Job {
         requires { block < blocks (length self.now.tests.tests) }
         ensures { result ≡ (span_of (length self.now.tests.tests) block).last }
     {
-        Span::from(&self.parts.tests, block).last
+        BlockSpan::from(&self.parts.tests, block).last
     }
 
     /// Returns the number of the signal that is the stem of a class, from 0: the stem of the

@@ -29,7 +29,7 @@ pub struct Origin {
 /// list of classes keeps an entry for each of them, in the order of the list, and reads no other
 /// data of a class.
 #[derive(Clone, Copy)]
-pub struct Listed {
+pub struct ListedClass {
     pub class: u32,
     pub stem: u32,
     pub representative: Stuck,

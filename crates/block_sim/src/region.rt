@@ -8,21 +8,21 @@ ghost use Rattle.std.specs.Bool.{Decides};
 ghost use Rattle.bench_net.specs.Scan.{names};
 ghost use Rattle.fault_model.specs.Fault.{Fault, faults};
 ghost use Rattle.fault_model.specs.Solution.{Test};
-ghost use Rattle.block_sim.specs.Changes.{HasRoomFor, IsAsLarge, IsClear};
+ghost use Rattle.block_sim.specs.PropagationState.{HasRoomFor, IsAsLarge, IsClear};
 ghost use Rattle.block_sim.specs.Origins.{Carries};
 ghost use Rattle.block_sim.specs.Regions.{HasCome, IsReached, IsReadBy, IsStemOf, IsStemOfLine};
 ghost use Rattle.block_sim.specs.Regions.{Passes, TellsFirstFlips, way_from};
-ghost use Rattle.block_sim.specs.Spans.{AreInSpan, group_of};
-ghost use Rattle.block_sim.specs.declared.span.Span.{Span};
+ghost use Rattle.block_sim.specs.BlockSpans.{AreInSpan, group_of};
+ghost use Rattle.block_sim.specs.declared.block_span.BlockSpan.{BlockSpan};
 ghost use Rattle.block_sim.specs.Stuck.{stuck_fault};
 ghost use Rattle.block_sim.specs.Ways.{HasActiveByFlip, IsWay, IsWayOfLine};
 ghost use Rattle.block_sim.specs.Words.{lane, test_of, AreWords, HasWords};
 
-use crate::changes::Changes;
-use crate::effect::gate_change;
+use crate::block_view::BlockView;
+use crate::fault_site::gate_change;
 use crate::origin::Origin;
-use crate::spread::{Extent, Followed, spread};
-use crate::view::BlockView;
+use crate::propagation::{Extent, Followed, propagate};
+use crate::propagation_state::PropagationState;
 use crate::words::evaluate_gate;
 use fault_model::Line;
 
@@ -36,7 +36,7 @@ pub struct Arrival {
 /// Returns the lanes in which a fault passes the only gate that reads a signal, among the lanes in
 /// which it has reached the signal. There is at least one of these.
 #[inline(always)]
-pub fn cross(view: BlockView<'_>, at: Arrival, gate: u32, changes: &mut Changes) -> u128
+pub fn cross(view: BlockView<'_>, at: Arrival, gate: u32, changes: &mut PropagationState) -> u128
     requires view { HasWords view.circuit.now.arranged view.good.now }
     requires room { HasRoomFor view.circuit.now.arranged changes.old }
     requires clear { IsClear changes.old }
@@ -73,7 +73,7 @@ pub fn cross(view: BlockView<'_>, at: Arrival, gate: u32, changes: &mut Changes)
 /// Follows a fault from a signal that it has reached to the stem of that signal, over gates that
 /// are the only readers of the signals before them. It stops early if the fault passes in no lane,
 /// as from a signal that isn't live.
-pub fn arrive(view: BlockView<'_>, from: Arrival, changes: &mut Changes) -> Arrival
+pub fn arrive(view: BlockView<'_>, from: Arrival, changes: &mut PropagationState) -> Arrival
     requires view { HasWords view.circuit.now.arranged view.good.now }
     requires room { HasRoomFor view.circuit.now.arranged changes.old }
     requires clear { IsClear changes.old }
@@ -131,7 +131,7 @@ pub enum Reach {
 /// that signal, a fault on a gate's pin to the gate's signal. A fault on an observer's line is
 /// detected if it complements that line.
 #[inline(always)]
-pub fn set_out(view: BlockView<'_>, origin: Origin, changes: &mut Changes) -> Reach
+pub fn set_out(view: BlockView<'_>, origin: Origin, changes: &mut PropagationState) -> Reach
     requires view { HasWords view.circuit.now.arranged view.good.now }
     requires words { (tests : List Test) × (group : ℕ)
         × AreWords view.circuit.now.arranged tests group None view.good.now }
@@ -184,7 +184,7 @@ pub fn set_out(view: BlockView<'_>, origin: Origin, changes: &mut Changes) -> Re
 /// Follows a fault from its line to the stem of its region: a fault on a signal from that signal, a
 /// fault on a gate's pin from the gate's signal. A fault on an observer's line is detected if it
 /// complements that line.
-pub fn follow(view: BlockView<'_>, origin: Origin, changes: &mut Changes) -> Reach
+pub fn follow(view: BlockView<'_>, origin: Origin, changes: &mut PropagationState) -> Reach
     requires view { HasWords view.circuit.now.arranged view.good.now }
     requires words { (tests : List Test) × (group : ℕ)
         × AreWords view.circuit.now.arranged tests group None view.good.now }
@@ -229,18 +229,23 @@ fn all_lanes(followed: &[Followed]) -> u128
 
 /// Complements a signal in the lanes in which some of the followed classes reached it, and returns
 /// lanes in which an observer shows that: for each class up to the least.
-pub fn flip(view: BlockView<'_>, followed: &[Followed], signal: u32, changes: &mut Changes) -> u128
+pub fn flip(
+    view: BlockView<'_>,
+    followed: &[Followed],
+    signal: u32,
+    changes: &mut PropagationState,
+) -> u128
     requires view { HasWords view.circuit.now.arranged view.good.now }
     requires words { (tests : List Test) × (group : ℕ)
         × AreWords view.circuit.now.arranged tests group None view.good.now }
     requires room { HasRoomFor view.circuit.now.arranged changes.old }
     requires clear { IsClear changes.old }
     requires signal { signal < length (names view.circuit.now.arranged) }
-    ensures told { (tests : List Test) (group : ℕ)
+    ensures detection { (tests : List Test) (group : ℕ)
         → AreWords view.entry.circuit.now.arranged tests group None view.entry.good.now
         → (one : Followed) → Contains followed.now one
         → TellsFirstFlips view.entry.circuit.now.arranged tests group one.lanes signal result }
-    ensures counted { (tests : List Test) (span : Span) (gates : List ℕ)
+    ensures counted { (tests : List Test) (span : BlockSpan) (gates : List ℕ)
         → AreWords view.entry.circuit.now.arranged tests (group_of span) None view.entry.good.now
         → ((one : Followed) → Contains followed.now one → AreInSpan tests span one.lanes)
         → HasActiveByFlip view.entry.circuit.now.arranged tests span signal gates
@@ -255,5 +260,5 @@ pub fn flip(view: BlockView<'_>, followed: &[Followed], signal: u32, changes: &m
         good: view.good,
         lanes,
     };
-    spread(view, Extent::FirstHits(followed), signal, lanes, changes)
+    propagate(view, Extent::FirstHits(followed), signal, lanes, changes)
 }

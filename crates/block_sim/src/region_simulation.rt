@@ -6,7 +6,7 @@ ghost use Rattle.std.specs.Prelude.{vec_len};
 ghost use Rattle.std.specs.List.{sum_by};
 ghost use Rattle.bench_net.specs.Scan.{names};
 ghost use Rattle.patterns.specs.Tests.{blocks};
-ghost use Rattle.block_sim.specs.Changes.{HasRoomFor, IsAsLarge, IsClear};
+ghost use Rattle.block_sim.specs.PropagationState.{HasRoomFor, IsAsLarge, IsClear};
 ghost use Rattle.block_sim.specs.Origins.{IsListed};
 ghost use Rattle.block_sim.specs.RegionHits.{AreConcluded, AreFollowedAt, HaveFirsts};
 ghost use Rattle.block_sim.specs.RegionHits.{HaveFirstsBut, HaveStem, IsEndOfRegion, IsFollowedAt};
@@ -14,19 +14,19 @@ ghost use Rattle.block_sim.specs.RegionHits.{IsFoundOrFollowed, IsTestOf, Serves
 ghost use Rattle.block_sim.specs.RegionHits.{open_between};
 ghost use Rattle.block_sim.specs.Sensitized.{HasBegun, IsSameRegion, IsViewOf};
 ghost use Rattle.block_sim.specs.Simulation.{AreFollowed, IsApproach};
-ghost use Rattle.block_sim.specs.Spans.{IsSpan, group_of, span_of};
+ghost use Rattle.block_sim.specs.BlockSpans.{IsSpan, group_of, span_of};
 ghost use Rattle.block_sim.specs.Ways.{AreWays, HasActiveByFlip, IsWayOfClass};
 
-use crate::changes::Changes;
+use crate::block_span::BlockSpan;
+use crate::block_view::BlockView;
 use crate::job::Job;
-use crate::look_back::lanes_that_fit;
-use crate::origin::{Listed, origin_of};
+use crate::launch_condition::launch_lanes;
+use crate::origin::{ListedClass, origin_of};
+use crate::propagation::Followed;
+use crate::propagation_state::PropagationState;
 use crate::region::{Arrival, Reach};
 use crate::sensitized::{Sensitized, follow_within};
 use crate::simulation::{Approach, flip_stem};
-use crate::span::Span;
-use crate::spread::Followed;
-use crate::view::BlockView;
 use std::alloc::{AllocError, Global};
 use std::marker::Model;
 
@@ -38,7 +38,7 @@ use std::marker::Model;
 /// It keeps the last test that it found for the class at each place of the list.
 #[derive(Drop)]
 pub struct RegionSimulation {
-    changes: Changes,
+    changes: PropagationState,
     followed: Vec<Followed>,
     hits: Vec<Option<u32>>,
     region: Sensitized,
@@ -71,7 +71,7 @@ impl RegionSimulation {
     {
         let classes = job.classes().count() as usize;
         let signals = job.circuit().signals();
-        let changes = Changes::new(alloc, signals)?;
+        let changes = PropagationState::new(alloc, signals)?;
         let followed = Vec::with_capacity(alloc, classes)?;
         let hits = vec![in alloc; None; classes]?;
         let region = Sensitized::new(alloc, signals)?;
@@ -107,11 +107,11 @@ impl RegionSimulation {
     /// At most it evaluates the gates on the ways of the open classes to the stem, and once each
     /// the gates that the complemented stem makes active: gates with a pin that then sees another
     /// bit, under some test of these blocks.
-    pub fn find_out(
+    pub fn simulate_region(
         &mut self,
         job: &Job,
         block: u32,
-        rows: &[Listed],
+        rows: &[ListedClass],
         from: usize,
         firsts: &[Option<u32>],
     ) -> usize
@@ -129,7 +129,7 @@ impl RegionSimulation {
         ensures known { (place test : ℕ) → slice_get firsts.now place ≡ Some (Some test)
             → slice_get self.new.hits place ≡ slice_get self.old.hits place }
         ensures serves { ServesRegions self.new job.now }
-        ensures counted { (way : ℕ → ℕ) (first : Listed) (gates : List ℕ) → AreWays job.now way
+        ensures counted { (way : ℕ → ℕ) (first : ListedClass) (gates : List ℕ) → AreWays job.now way
             → slice_get rows.now from ≡ Some first
             → HasActiveByFlip job.now.circuit job.now.tests.tests
             (span_of (length job.now.tests.tests) block) first.stem gates
@@ -137,7 +137,7 @@ impl RegionSimulation {
             + sum_by way (open_between rows.now firsts.now from result) + length gates }
         ensures grown { self.old.evaluations ≤ self.new.evaluations }
     {
-        let span = Span::from(job.tests(), block);
+        let span = BlockSpan::from(job.tests(), block);
         let stem = row_at(rows, from).stem;
         let end = end_of_region(rows, from);
         let view = view_of(job, span);
@@ -158,7 +158,7 @@ impl RegionSimulation {
 }
 
 /// Returns the class at a place of a list.
-fn row_at(rows: &[Listed], place: usize) -> Listed
+fn row_at(rows: &[ListedClass], place: usize) -> ListedClass
     requires { place < length rows.now }
     ensures { slice_get rows.now place ≡ Some result }
 {
@@ -166,7 +166,7 @@ fn row_at(rows: &[Listed], place: usize) -> Listed
 }
 
 /// Returns the place after the last class of a region, the first of which is at this place.
-fn end_of_region(rows: &[Listed], from: usize) -> usize
+fn end_of_region(rows: &[ListedClass], from: usize) -> usize
     requires { from < length rows.now }
     ensures { IsEndOfRegion rows.now from result }
 {
@@ -182,7 +182,7 @@ fn end_of_region(rows: &[Listed], from: usize) -> usize
 
 /// Returns the circuit as the job's simulation reads it, with the words of a span's group and the
 /// lanes of its tests.
-fn view_of(job: &Job, span: Span) -> BlockView<'_>
+fn view_of(job: &Job, span: BlockSpan) -> BlockView<'_>
     requires { IsSpan (length job.now.tests.tests) span }
     ensures { IsViewOf job.now span result }
 {
@@ -198,13 +198,13 @@ fn view_of(job: &Job, span: Span) -> BlockView<'_>
 fn follow_region(
     job: &Job,
     view: BlockView<'_>,
-    span: Span,
-    rows: &[Listed],
+    span: BlockSpan,
+    rows: &[ListedClass],
     from: usize,
     to: usize,
     firsts: &[Option<u32>],
     region: &mut Sensitized,
-    changes: &mut Changes,
+    changes: &mut PropagationState,
     followed: &mut Vec<Followed>,
     hits: &mut [Option<u32>],
 )
@@ -266,11 +266,11 @@ fn first_at(firsts: &[Option<u32>], place: usize) -> Option<u32>
 fn follow_row(
     job: &Job,
     view: BlockView<'_>,
-    span: Span,
-    row: Listed,
+    span: BlockSpan,
+    row: ListedClass,
     place: usize,
     region: &mut Sensitized,
-    changes: &mut Changes,
+    changes: &mut PropagationState,
     followed: &mut Vec<Followed>,
     hits: &mut [Option<u32>],
 )
@@ -309,10 +309,10 @@ fn follow_row(
 fn follow_listed(
     job: &Job,
     view: BlockView<'_>,
-    span: Span,
-    row: Listed,
+    span: BlockSpan,
+    row: ListedClass,
     region: &mut Sensitized,
-    changes: &mut Changes,
+    changes: &mut PropagationState,
 ) -> Approach
     requires span { IsSpan (length job.now.tests.tests) span }
     requires room { HasRoomFor job.now.circuit changes.old }
@@ -330,7 +330,7 @@ fn follow_listed(
     ensures room { IsAsLarge changes.old changes.new }
     ensures clear { IsClear changes.new }
 {
-    let lanes = view.lanes & lanes_that_fit(job, span.first / 2, row.representative);
+    let lanes = view.lanes & launch_lanes(job, span.first / 2, row.representative);
     let own = BlockView {
         circuit: view.circuit,
         good: view.good,
@@ -353,13 +353,13 @@ fn follow_listed(
 }
 
 /// Keeps the first tests of all followed classes.
-fn conclude(span: Span, seen: u128, followed: &[Followed], hits: &mut [Option<u32>])
+fn conclude(span: BlockSpan, seen: u128, followed: &[Followed], hits: &mut [Option<u32>])
     requires span { span.first < 2 ^ 20 }
     requires places { (one : Followed) → Contains followed.now one → one.place < length hits.old }
     ensures places { length hits.new ≡ length hits.old }
     ensures kept { (place : ℕ) → (IsFollowedAt followed.now place → ⊥)
         → slice_get hits.new place ≡ slice_get hits.old place }
-    ensures told { AreConcluded span seen followed.now hits.new }
+    ensures detection { AreConcluded span seen followed.now hits.new }
 {
     for one in followed {
         keep(hits, one.place, test_of(span, one.lanes & seen));
@@ -375,7 +375,7 @@ fn keep(hits: &mut [Option<u32>], place: usize, hit: Option<u32>)
 }
 
 /// Returns the test of the least lane of a word that is 1.
-fn test_of(span: Span, word: u128) -> Option<u32>
+fn test_of(span: BlockSpan, word: u128) -> Option<u32>
     requires { span.first < 2 ^ 20 }
     ensures { IsTestOf span word result }
 {

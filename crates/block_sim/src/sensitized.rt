@@ -6,7 +6,7 @@ ghost use Rattle.std.specs.Prelude.{true, length, slice_index_or, vec_capacity, 
 ghost use Rattle.bench_net.specs.Scan.{names};
 ghost use Rattle.fault_model.specs.Fault.{faults};
 ghost use Rattle.fault_model.specs.Solution.{Test};
-ghost use Rattle.block_sim.specs.Changes.{HasRoomFor, IsAsLarge, IsClear};
+ghost use Rattle.block_sim.specs.PropagationState.{HasRoomFor, IsAsLarge, IsClear};
 ghost use Rattle.block_sim.specs.Origins.{Carries};
 ghost use Rattle.block_sim.specs.Regions.{IsReached, IsStem, IsStemOf, IsStemOfLine};
 ghost use Rattle.block_sim.specs.Regions.{lone_reader};
@@ -16,12 +16,12 @@ ghost use Rattle.block_sim.specs.Stuck.{stuck_fault};
 ghost use Rattle.block_sim.specs.Ways.{IsWay, IsWayOfLine};
 ghost use Rattle.block_sim.specs.Words.{lane, AreWords, HasWords};
 
-use crate::changes::Changes;
+use crate::block_view::BlockView;
 use crate::flat::FlatCircuit;
 use crate::known_words::KnownWords;
 use crate::origin::Origin;
+use crate::propagation_state::PropagationState;
 use crate::region::{Arrival, Reach, cross, set_out};
-use crate::view::BlockView;
 use std::alloc::{AllocError, Global};
 
 /// For signals of a region, and some tests of a group, the lanes in which the complemented signal
@@ -77,14 +77,14 @@ impl Sensitized {
     /// Returns the lanes of a signal of the region. It evaluates the gates on its way to the stem,
     /// up to the first signal whose lanes are known.
     #[inline(always)]
-    fn lanes_of(&mut self, view: BlockView<'_>, signal: u32, changes: &mut Changes) -> u128
+    fn lanes_of(&mut self, view: BlockView<'_>, signal: u32, changes: &mut PropagationState) -> u128
         requires view { HasWords view.circuit.now.arranged view.good.now }
         requires room { HasRoomFor view.circuit.now.arranged changes.old }
         requires clear { IsClear changes.old }
         requires sensitized { AreSensitized view.circuit.now.arranged view.good.now self.old }
         requires within { signal < length (names view.circuit.now.arranged) }
         requires leads { IsStemOf view.circuit.now.arranged self.old.stem signal }
-        ensures told { (tests : List Test) (group : ℕ)
+        ensures detection { (tests : List Test) (group : ℕ)
             → AreWords view.entry.circuit.now.arranged tests group None view.entry.good.now
             → CarriesFlip view.entry.circuit.now.arranged tests group self.old.lanes signal
             self.old.stem result }
@@ -149,14 +149,14 @@ fn descend(
     from: Arrival,
     known: &mut KnownWords,
     path: &mut Vec<u32>,
-    changes: &mut Changes,
+    changes: &mut PropagationState,
 ) -> u128
     requires view { HasWords view.circuit.now.arranged view.good.now }
     requires room { HasRoomFor view.circuit.now.arranged changes.old }
     requires clear { IsClear changes.old }
     requires signals { length (names view.circuit.now.arranged) ≤ length known.old }
     requires path { IsPathTo view.circuit.now.arranged path.old.items from.signal }
-    ensures told { (mask stem : ℕ) → AreKnownFlips view.entry.circuit.now.arranged
+    ensures detection { (mask stem : ℕ) → AreKnownFlips view.entry.circuit.now.arranged
         view.entry.good.now mask stem known.old
         → slice_index_or known.old from.signal None ≡ Some from.lanes
         → (tests : List Test) (group : ℕ)
@@ -185,12 +185,17 @@ fn descend(
 
 /// Returns the lanes of a signal, from the lanes of the only gate that reads it.
 #[inline(always)]
-fn lanes_before(view: BlockView<'_>, gate: Arrival, signal: u32, changes: &mut Changes) -> u128
+fn lanes_before(
+    view: BlockView<'_>,
+    gate: Arrival,
+    signal: u32,
+    changes: &mut PropagationState,
+) -> u128
     requires view { HasWords view.circuit.now.arranged view.good.now }
     requires room { HasRoomFor view.circuit.now.arranged changes.old }
     requires clear { IsClear changes.old }
     requires read { lone_reader view.circuit.now.arranged signal ≡ Some gate.signal }
-    ensures told { (tests : List Test) (group mask stem : ℕ)
+    ensures detection { (tests : List Test) (group mask stem : ℕ)
         → AreWords view.entry.circuit.now.arranged tests group None view.entry.good.now
         → CarriesFlip view.entry.circuit.now.arranged tests group mask gate.signal stem gate.lanes
         → CarriesFlip view.entry.circuit.now.arranged tests group mask signal stem result }
@@ -221,7 +226,7 @@ pub fn follow_within(
     view: BlockView<'_>,
     origin: Origin,
     region: &mut Sensitized,
-    changes: &mut Changes,
+    changes: &mut PropagationState,
 ) -> Reach
     requires view { HasWords view.circuit.now.arranged view.good.now }
     requires words { (tests : List Test) × (group : ℕ)

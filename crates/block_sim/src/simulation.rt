@@ -5,25 +5,25 @@ ghost use Rattle.std.specs.Prelude.{None, true, false, length, slice_index_or};
 ghost use Rattle.std.specs.Prelude.{vec_capacity, vec_len};
 ghost use Rattle.bench_net.specs.Scan.{names};
 ghost use Rattle.patterns.specs.Tests.{blocks};
-ghost use Rattle.block_sim.specs.Changes.{HasRoomFor, IsAsLarge, IsClear};
+ghost use Rattle.block_sim.specs.PropagationState.{HasRoomFor, IsAsLarge, IsClear};
 ghost use Rattle.block_sim.specs.First.{IsTrueOutcome};
 ghost use Rattle.block_sim.specs.Origins.{IsRepresentativeOf};
 ghost use Rattle.block_sim.specs.Regions.{IsStemOfClass, TellsFirstFlips};
 ghost use Rattle.block_sim.specs.Parts.{Parts};
-ghost use Rattle.block_sim.specs.Spans.{IsSpan, group_of, span_from};
+ghost use Rattle.block_sim.specs.BlockSpans.{IsSpan, group_of, span_from};
 ghost use Rattle.block_sim.specs.Simulation.{AreFollowed, AreTrueBut, AreTrueMemos, HasArrived};
 ghost use Rattle.block_sim.specs.Simulation.{IsApproach, IsOutcomeIn, IsTrueMemo, Serves};
 ghost use Rattle.block_sim.specs.Simulation.{TellsFirstIn};
 ghost use Rattle.block_sim.specs.Ways.{AreWays, HasActiveByFlip, IsWayOfClass, is_on, known_ways};
 
-use crate::changes::Changes;
+use crate::block_span::BlockSpan;
+use crate::block_view::BlockView;
 use crate::job::Job;
-use crate::look_back::lanes_that_fit;
+use crate::launch_condition::launch_lanes;
 use crate::origin::origin_of;
+use crate::propagation::Followed;
+use crate::propagation_state::PropagationState;
 use crate::region::{Arrival, Reach, flip, follow};
-use crate::span::Span;
-use crate::spread::Followed;
-use crate::view::BlockView;
 use crate::words::Stuck;
 use patterns::Outcome;
 use std::alloc::{AllocError, Global};
@@ -36,9 +36,9 @@ pub enum Memo {
     Nothing,
     /// It is followed on these blocks, and gets its outcome when its region is simulated. No class
     /// waits from one call to the next.
-    Pending { span: Span },
+    Pending { span: BlockSpan },
     /// No test of these blocks detects it.
-    Clear { span: Span },
+    Clear { span: BlockSpan },
     /// This test of a block, counted from 0, is the first from the first block on that detects it.
     Hit { first: u32, block: u32, test: u32 },
 }
@@ -46,8 +46,8 @@ pub enum Memo {
 impl Memo {
     /// Makes the memo of a word. The least lane that is 1 is the first test of some blocks that
     /// detects a class.
-    fn of(span: Span, word: u128) -> Memo
-        requires told { (job : Parts) × (class : ℕ) × IsSpan (length job.tests.tests) span
+    fn of(span: BlockSpan, word: u128) -> Memo
+        requires detection { (job : Parts) × (class : ℕ) × IsSpan (length job.tests.tests) span
             × TellsFirstIn job span class word }
         ensures truth { (job : Parts) (class : ℕ) → IsSpan (length job.tests.tests) span
             → TellsFirstIn job span class word → IsTrueMemo job class result }
@@ -106,14 +106,14 @@ pub enum Approach {
 /// outcome.
 #[derive(Drop)]
 pub struct Simulation {
-    changes: Changes,
+    changes: PropagationState,
     memos: Vec<Memo>,
     followed: Vec<Followed>,
 }
 
 impl Model for Simulation {
     ghost use Rattle.std.specs.Prelude.{length, vec_capacity};
-    ghost use Rattle.block_sim.specs.Changes.{IsAtRest};
+    ghost use Rattle.block_sim.specs.PropagationState.{IsAtRest};
     ghost use Rattle.block_sim.specs.Simulation.{Simulated};
 
     ghost Value = { Simulated };
@@ -136,7 +136,7 @@ impl Simulation {
         ensures fresh { IfOk result (λ simulation. simulation.evaluations ≡ 0) }
     {
         let classes = job.classes().count() as usize;
-        let changes = Changes::new(alloc, job.circuit().signals())?;
+        let changes = PropagationState::new(alloc, job.circuit().signals())?;
         let memos = vec![in alloc; Memo::Nothing; classes]?;
         let followed = Vec::with_capacity(alloc, classes)?;
         Ok(Simulation {
@@ -183,7 +183,7 @@ impl Simulation {
         if let Some(outcome) = self.memos[class as usize].on(block) {
             return outcome;
         }
-        let span = Span::from(job.tests(), block);
+        let span = BlockSpan::from(job.tests(), block);
         match follow_alone(job, class, span, &mut self.changes) {
             Approach::Known(word) => {
                 let memo = Memo::of(span, word);
@@ -199,7 +199,7 @@ impl Simulation {
                 let followed = &mut self.followed;
                 let memos = &mut self.memos;
                 let changes = &mut self.changes;
-                let seen = find_out_region(job, span, at.signal, own, changes, memos, followed);
+                let seen = simulate_stem(job, span, at.signal, own, changes, memos, followed);
                 first_outcome(Memo::of(span, at.lanes & seen), block)
             }
         }
@@ -221,12 +221,12 @@ fn first_outcome(memo: Memo, block: u32) -> Outcome
 
 /// Simulates a class that reached the stem of its region, together with the others that the block
 /// will likely need. Returns lanes in which the complemented stem is detected.
-fn find_out_region(
+fn simulate_stem(
     job: &Job,
-    span: Span,
+    span: BlockSpan,
     stem: u32,
     own: Followed,
-    changes: &mut Changes,
+    changes: &mut PropagationState,
     memos: &mut [Memo],
     followed: &mut Vec<Followed>,
 ) -> u128
@@ -240,7 +240,8 @@ fn find_out_region(
     requires region { IsStemOfClass job.now.list.model job.now.circuit own.class stem }
     requires idle { is_on span.first (slice_index_or memos.old own.class Memo.Nothing) ≡ false }
     requires capacity { 0 < vec_capacity followed.old }
-    ensures told { TellsFirstFlips job.now.circuit job.now.tests.tests (group_of span) own.lanes
+    ensures detection { TellsFirstFlips job.now.circuit job.now.tests.tests (group_of span)
+        own.lanes
         stem result }
     ensures memos { AreTrueMemos job.now memos.new }
     ensures counted { (way : ℕ → ℕ) (gates : List ℕ) → AreWays job.now way
@@ -263,7 +264,12 @@ fn find_out_region(
 }
 
 /// Follows a class to the stem of its region.
-pub fn follow_alone(job: &Job, class: u32, span: Span, changes: &mut Changes) -> Approach
+pub fn follow_alone(
+    job: &Job,
+    class: u32,
+    span: BlockSpan,
+    changes: &mut PropagationState,
+) -> Approach
     requires class { class < length job.now.classes.representative }
     requires span { IsSpan (length job.now.tests.tests) span }
     requires room { HasRoomFor job.now.circuit changes.old }
@@ -282,7 +288,12 @@ pub fn follow_alone(job: &Job, class: u32, span: Span, changes: &mut Changes) ->
 }
 
 /// Follows a class, whose representative this is, to the stem of its region.
-pub fn follow_from(job: &Job, stuck: Stuck, span: Span, changes: &mut Changes) -> Approach
+pub fn follow_from(
+    job: &Job,
+    stuck: Stuck,
+    span: BlockSpan,
+    changes: &mut PropagationState,
+) -> Approach
     requires stuck { (class : ℕ) × IsRepresentativeOf job.now class stuck }
     requires span { IsSpan (length job.now.tests.tests) span }
     requires room { HasRoomFor job.now.circuit changes.old }
@@ -300,7 +311,7 @@ pub fn follow_from(job: &Job, stuck: Stuck, span: Span, changes: &mut Changes) -
     ensures clear { IsClear changes.new }
 {
     let group = span.first / 2;
-    let lanes = span.test_lanes(job.tests()) & lanes_that_fit(job, group, stuck);
+    let lanes = span.test_lanes(job.tests()) & launch_lanes(job, group, stuck);
     let words = job.words();
     let circuit = words.circuit;
     let view = BlockView {
@@ -340,10 +351,10 @@ fn is_likely(memo: Memo, block: u32) -> bool
 /// need. It keeps the outcomes that are known at once.
 fn gather(
     job: &Job,
-    span: Span,
+    span: BlockSpan,
     stem: u32,
     first: u32,
-    changes: &mut Changes,
+    changes: &mut PropagationState,
     memos: &mut [Memo],
     followed: &mut Vec<Followed>,
 )
@@ -381,10 +392,10 @@ fn gather(
 /// Follows one more class of the region, and keeps its outcome if it is known at once.
 fn follow_too(
     job: &Job,
-    span: Span,
+    span: BlockSpan,
     stem: u32,
     class: u32,
-    changes: &mut Changes,
+    changes: &mut PropagationState,
     memos: &mut [Memo],
     followed: &mut Vec<Followed>,
 )
@@ -425,17 +436,17 @@ fn follow_too(
 /// Complements the stem for all followed classes.
 pub fn flip_stem(
     job: &Job,
-    span: Span,
+    span: BlockSpan,
     stem: u32,
     followed: &[Followed],
-    changes: &mut Changes,
+    changes: &mut PropagationState,
 ) -> u128
     requires span { IsSpan (length job.now.tests.tests) span }
     requires room { HasRoomFor job.now.circuit changes.old }
     requires clear { IsClear changes.old }
     requires stem { stem < length (names job.now.circuit) }
     requires followed { AreFollowed job.now span stem followed.now }
-    ensures told { (one : Followed) → Contains followed.now one
+    ensures detection { (one : Followed) → Contains followed.now one
         → TellsFirstFlips job.now.circuit job.now.tests.tests (group_of span) one.lanes stem
         result }
     ensures counted { (gates : List ℕ)
@@ -456,11 +467,18 @@ pub fn flip_stem(
 }
 
 /// Keeps the outcomes of all followed classes.
-fn conclude(job: &Job, span: Span, stem: u32, seen: u128, followed: &[Followed], memos: &mut [Memo])
+fn conclude(
+    job: &Job,
+    span: BlockSpan,
+    stem: u32,
+    seen: u128,
+    followed: &[Followed],
+    memos: &mut [Memo],
+)
     requires span { IsSpan (length job.now.tests.tests) span }
     requires memos { AreTrueBut job.now followed.now memos.old }
     requires followed { AreFollowed job.now span stem followed.now }
-    requires told { (one : Followed) → Contains followed.now one
+    requires detection { (one : Followed) → Contains followed.now one
         → TellsFirstFlips job.now.circuit job.now.tests.tests (group_of span) one.lanes stem seen }
     ensures memos { AreTrueMemos job.now memos.new }
     ensures known { (way : ℕ → ℕ) → known_ways way span.first memos.old

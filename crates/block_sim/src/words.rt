@@ -15,15 +15,15 @@ ghost use Rattle.fault_model.specs.Detection.{name_on};
 ghost use Rattle.fault_model.specs.Reordered.{moved_fault};
 ghost use Rattle.fault_model.specs.Solution.{is_odd, value, under};
 ghost use Rattle.patterns.specs.Tests.{IsWord, blocks};
-ghost use Rattle.block_sim.specs.Spans.{groups};
+ghost use Rattle.block_sim.specs.BlockSpans.{groups};
 ghost use Rattle.block_sim.specs.Flat.{HasEnds};
-ghost use Rattle.block_sim.specs.Forms.{IsFormOf, inverted_if};
+ghost use Rattle.block_sim.specs.GateForms.{IsFormOf, inverted_if};
 ghost use Rattle.block_sim.specs.Words.{lane, word_over, pin_bits, AreWords, IsGroupWord};
 ghost use Rattle.block_sim.specs.Words.{IsSignalWord};
 ghost use Rattle.block_sim.specs.Stuck.{fault_of, stuck_fault};
 
 use crate::block_lanes::{group_word, in_each_lane};
-use crate::flat::{FlatCircuit, Gate};
+use crate::flat::{FlatCircuit, FlatGate};
 use fault_model::Line;
 use patterns::Tests;
 
@@ -75,7 +75,7 @@ fn seen(fault: Option<Stuck>, own: Line, word: u128) -> u128
 /// which that differs, or the stuck bit if the fault is on the pin.
 #[inline(always)]
 fn pin_word(
-    gate: Gate<'_>,
+    gate: FlatGate<'_>,
     signal: u32,
     place: usize,
     read: u32,
@@ -112,7 +112,7 @@ struct Folds {
 /// is.
 #[inline(always)]
 fn folds_of(
-    gate: Gate<'_>,
+    gate: FlatGate<'_>,
     signal: u32,
     fault: Option<Stuck>,
     words: &[u128],
@@ -150,7 +150,7 @@ fn folds_of(
 /// Evaluates a gate on a word, and counts it. No other function evaluates a gate.
 #[inline(always)]
 pub fn evaluate_gate(
-    gate: Gate<'_>,
+    gate: FlatGate<'_>,
     signal: u32,
     fault: Option<Stuck>,
     words: &[u128],

@@ -5,20 +5,20 @@ ghost use Rattle.std.specs.Prelude.{Some, length, slice_get};
 ghost use Rattle.fault_model.specs.Collapse.{representatives};
 ghost use Rattle.fault_model.specs.Fault.{Fault};
 ghost use Rattle.patterns.specs.Tests.{blocks};
-ghost use Rattle.block_sim.specs.First.{AreDetecting, AreTold, IsTrueOutcome};
+ghost use Rattle.block_sim.specs.First.{AreDetecting, AreDetectingLanes, IsTrueOutcome};
 ghost use Rattle.block_sim.specs.Parts.{HasRoom};
-ghost use Rattle.block_sim.specs.Spans.{one_block};
-ghost use Rattle.block_sim.specs.Spreading.{IsSettled};
+ghost use Rattle.block_sim.specs.BlockSpans.{one_block};
+ghost use Rattle.block_sim.specs.Propagation.{IsSettled};
 ghost use Rattle.block_sim.specs.ActiveGates.{HasActive};
 
 use crate::block_lanes::{block_word, least_lane};
-use crate::changes::Changes;
-use crate::effect::effect;
+use crate::block_span::BlockSpan;
+use crate::block_view::BlockView;
+use crate::fault_site::propagate_fault;
 use crate::job::Job;
-use crate::look_back::lanes_that_fit;
-use crate::span::Span;
-use crate::spread::{Extent, Followed};
-use crate::view::BlockView;
+use crate::launch_condition::launch_lanes;
+use crate::propagation::{Extent, Followed};
+use crate::propagation_state::PropagationState;
 use patterns::Outcome;
 use std::alloc::{AllocError, Global};
 use std::marker::Model;
@@ -27,13 +27,13 @@ use std::marker::Model;
 /// again and again, for any job with at most as many signals.
 #[derive(Drop)]
 pub struct Workspace {
-    changes: Changes,
+    changes: PropagationState,
 }
 
 impl Model for Workspace {
     ghost use Rattle.std.specs.Prelude.{length};
     ghost use Rattle.block_sim.specs.Parts.{Room};
-    ghost use Rattle.block_sim.specs.Changes.{IsAtRest};
+    ghost use Rattle.block_sim.specs.PropagationState.{IsAtRest};
 
     ghost Value = { Room };
 
@@ -51,7 +51,7 @@ impl Workspace {
         ensures fits { IfOk result (λ workspace. HasRoom workspace job.now) }
         ensures fresh { IfOk result (λ workspace. workspace.evaluations ≡ 0) }
     {
-        let changes = Changes::new(alloc, job.circuit().signals())?;
+        let changes = PropagationState::new(alloc, job.circuit().signals())?;
         Ok(Workspace { changes })
     }
 
@@ -98,7 +98,7 @@ pub fn simulate(job: &Job, workspace: &mut Workspace, class: u32, block: u32) ->
         → HasActive job.now.circuit job.now.tests.tests block r gates
         → workspace.new.evaluations ≤ workspace.old.evaluations + length gates }
 {
-    let lanes = told(job, workspace, class, block, Extent::WholeBlock);
+    let lanes = detecting_lanes(job, workspace, class, block, Extent::WholeBlock);
     least_lane(block_word(lanes, block))
 }
 
@@ -124,7 +124,7 @@ pub fn first_hit(job: &Job, workspace: &mut Workspace, class: u32, block: u32) -
         place: class as usize,
         lanes: !0,
     }];
-    let lanes = told(job, workspace, class, block, Extent::FirstHits(&all));
+    let lanes = detecting_lanes(job, workspace, class, block, Extent::FirstHits(&all));
     least_lane(block_word(lanes, block))
 }
 
@@ -148,19 +148,25 @@ pub fn detecting(job: &Job, workspace: &mut Workspace, class: u32, block: u32) -
         → HasActive job.now.circuit job.now.tests.tests block r gates
         → workspace.new.evaluations ≤ workspace.old.evaluations + length gates }
 {
-    let word = told(job, workspace, class, block, Extent::WholeBlock);
+    let word = detecting_lanes(job, workspace, class, block, Extent::WholeBlock);
     block_word(word, block)
 }
 
 /// Returns the lanes, in the word of its group, of a block whose tests detect a class, as far as
 /// they are followed.
-fn told(job: &Job, workspace: &mut Workspace, class: u32, block: u32, extent: Extent<'_>) -> u128
+fn detecting_lanes(
+    job: &Job,
+    workspace: &mut Workspace,
+    class: u32,
+    block: u32,
+    extent: Extent<'_>,
+) -> u128
     requires class { class < length job.now.classes.representative }
     requires block { block < blocks (length job.now.tests.tests) }
     requires fits { HasRoom workspace.old job.now }
-    ensures told { (r : Fault)
+    ensures detection { (r : Fault)
         × (slice_get (representatives job.now.list.model job.now.circuit) class ≡ Some r)
-        × AreTold job.now.circuit job.now.tests.tests (one_block block) r
+        × AreDetectingLanes job.now.circuit job.now.tests.tests (one_block block) r
         (IsSettled extent.entry result) result }
     ensures room { workspace.new.signals ≡ workspace.old.signals }
     ensures grown { workspace.old.evaluations ≤ workspace.new.evaluations }
@@ -171,11 +177,11 @@ fn told(job: &Job, workspace: &mut Workspace, class: u32, block: u32, extent: Ex
 {
     let stuck = job.representative(class);
     let group = block / 2;
-    let span = Span {
+    let span = BlockSpan {
         first: block,
         last: block,
     };
-    let lanes = span.test_lanes(job.tests()) & lanes_that_fit(job, group, stuck);
+    let lanes = span.test_lanes(job.tests()) & launch_lanes(job, group, stuck);
     let words = job.words();
     let circuit = words.circuit;
     let view = BlockView {
@@ -183,5 +189,5 @@ fn told(job: &Job, workspace: &mut Workspace, class: u32, block: u32, extent: Ex
         good: words.of(group),
         lanes,
     };
-    effect(view, stuck.moved(circuit), extent, &mut workspace.changes)
+    propagate_fault(view, stuck.moved(circuit), extent, &mut workspace.changes)
 }

@@ -7,7 +7,7 @@ use worked_circuits::C17;
 
 /// A line of C17: its number, from 1, the bytes before it and those up to its end, without its line
 /// feed, and the answer to the text up to there: the number of signals, or why it is refused.
-struct Line {
+struct CutLine {
     number: u64,
     begin: usize,
     end: usize,
@@ -16,80 +16,80 @@ struct Line {
 
 /// Up to line 5 there are inputs alone. From line 6 on an output reads G22, which line 12 defines,
 /// and from line 7 on one reads G23, which line 13 defines.
-static LINES: [Line; 13] = [
-    Line {
+static LINES: [CutLine; 13] = [
+    CutLine {
         number: 1,
         begin: 0,
         end: 9,
         answer: Ok(1),
     },
-    Line {
+    CutLine {
         number: 2,
         begin: 10,
         end: 19,
         answer: Ok(2),
     },
-    Line {
+    CutLine {
         number: 3,
         begin: 20,
         end: 29,
         answer: Ok(3),
     },
-    Line {
+    CutLine {
         number: 4,
         begin: 30,
         end: 39,
         answer: Ok(4),
     },
-    Line {
+    CutLine {
         number: 5,
         begin: 40,
         end: 49,
         answer: Ok(5),
     },
-    Line {
+    CutLine {
         number: 6,
         begin: 50,
         end: 61,
         answer: Err(BenchFault::Undefined(6)),
     },
-    Line {
+    CutLine {
         number: 7,
         begin: 62,
         end: 73,
         answer: Err(BenchFault::Undefined(6)),
     },
-    Line {
+    CutLine {
         number: 8,
         begin: 74,
         end: 92,
         answer: Err(BenchFault::Undefined(6)),
     },
-    Line {
+    CutLine {
         number: 9,
         begin: 93,
         end: 111,
         answer: Err(BenchFault::Undefined(6)),
     },
-    Line {
+    CutLine {
         number: 10,
         begin: 112,
         end: 131,
         answer: Err(BenchFault::Undefined(6)),
     },
-    Line {
+    CutLine {
         number: 11,
         begin: 132,
         end: 151,
         answer: Err(BenchFault::Undefined(6)),
     },
-    Line {
+    CutLine {
         number: 12,
         begin: 152,
         end: 172,
         answer: Err(BenchFault::Undefined(7)),
     },
-    Line {
+    CutLine {
         number: 13,
         begin: 173,
         end: 193,

@@ -1,6 +1,6 @@
 -- What is made of a run.
 use Rattle.std.specs.Prelude.{◌<◌}
-use Rattle.jobs.specs.Splits.{HasSomePart}
+use Rattle.job_loading.specs.Splits.{HasSomePart}
 use Rattle.command_line.specs.declared.form.Form.{Form}
 use Rattle.command_line.specs.declared.form.Form.TheVariants.{Report, Reasons, Part, Table, Curve}
 

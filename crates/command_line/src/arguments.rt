@@ -4,7 +4,7 @@ ghost use Rattle.std.specs.Prelude.{◌≤◌};
 
 use crate::command::run_words;
 use crate::source::Files;
-use crate::status::{DONE, Fault, MISSED, NO_MEMORY, UNWRITTEN, answer_fault};
+use crate::status::{CommandError, DONE, MISSED, NO_MEMORY, UNWRITTEN, answer_fault};
 use report::{Out, Plain};
 use std::alloc::{AllocError, Global};
 use std::env;
@@ -29,11 +29,11 @@ pub fn run_arguments<
 }
 
 /// Returns the arguments of the process.
-fn read_arguments<R: Env + AllocGlobal>(rt: &R) -> Result<Vec<String>, Fault<'static>> {
+fn read_arguments<R: Env + AllocGlobal>(rt: &R) -> Result<Vec<String>, CommandError<'static>> {
     let arguments = match env::args(rt) {
         Ok(arguments) => arguments,
         Err(error) if error.kind() == ErrorKind::OutOfMemory => return Err(NO_MEMORY),
-        Err(_) => return Err(Fault::NoText),
+        Err(_) => return Err(CommandError::NoText),
     };
     match arguments.collect(rt.alloc()) {
         Ok(arguments) => Ok(arguments),

@@ -2,10 +2,10 @@
 
 use crate::command::{read_file, read_model, read_option};
 use crate::source::Source;
-use crate::status::{Fault, NO_MEMORY, UNWRITTEN};
+use crate::status::{CommandError, NO_MEMORY, UNWRITTEN};
 use block_sim::JobFault;
 use clap::ArgMatches;
-use diagnosis::{Answer, Excess, Findings, Located, check_texts};
+use input_check::{Answer, Excess, Findings, Located, check_texts};
 use report::{Formatted, Out, SimFault};
 use std::alloc::{AllocError, Global};
 use std::fmt::Write;
@@ -18,7 +18,7 @@ pub(crate) fn do_check<'a, S: Source, W: Out, E: Out>(
     files: &mut S,
     out: &mut W,
     err: &mut E,
-) -> Result<(), Fault<'a>> {
+) -> Result<(), CommandError<'a>> {
     let model = read_model(matches)?;
     let bench = read_option(alloc, matches, "bench", files)?;
     let tests = match matches.get_str("tests") {
@@ -38,7 +38,7 @@ fn tell_answer<'a, W: Out, E: Out>(
     answer: &Answer<'_>,
     out: &mut W,
     err: &mut E,
-) -> Result<(), Fault<'a>> {
+) -> Result<(), CommandError<'a>> {
     match answer {
         Answer::Accepted(table) => {
             if write!(Formatted(out), "{table}").is_err() {
@@ -58,22 +58,26 @@ fn tell_findings<'a, E: Out>(
     option: &str,
     findings: &Findings<'_>,
     err: &mut E,
-) -> Fault<'a> {
+) -> CommandError<'a> {
     if let Some(path) = matches.get_str(option) {
         let located = Located { path, findings };
         let _ = write!(Formatted(err), "{located}");
     }
     match findings.first.fault {
-        diagnosis::Fault::Bench(fault) => Fault::Sim(SimFault::Bench(fault)),
-        diagnosis::Fault::Tests(fault) => Fault::Sim(SimFault::Tests(fault)),
+        input_check::InputError::Bench(fault) => CommandError::Sim(SimFault::Bench(fault)),
+        input_check::InputError::Tests(fault) => CommandError::Sim(SimFault::Tests(fault)),
     }
 }
 
 /// Prints the excess of tests that are too many for one run, and returns the error.
-fn tell_excess<'a, E: Out>(matches: &ArgMatches<'a>, excess: &Excess, err: &mut E) -> Fault<'a> {
+fn tell_excess<'a, E: Out>(
+    matches: &ArgMatches<'a>,
+    excess: &Excess,
+    err: &mut E,
+) -> CommandError<'a> {
     let fault = JobFault::TooManyPieces;
     if let Some(path) = matches.get_str("tests") {
         let _ = write!(Formatted(err), "{path}: {fault}\n    {excess}\n");
     }
-    Fault::Sim(SimFault::Job(fault))
+    CommandError::Sim(SimFault::Job(fault))
 }

@@ -13,7 +13,7 @@ use crate::responses::do_responses;
 use crate::run::do_run;
 use crate::source::{Source, SourceFault, Stream, is_standard_input};
 use crate::split::is_auto;
-use crate::status::{DONE, Fault, MISUSED, NO_MEMORY, UNWRITTEN, answer_fault};
+use crate::status::{CommandError, DONE, MISUSED, NO_MEMORY, UNWRITTEN, answer_fault};
 use clap::error::ErrorKind;
 use clap::{ArgMatches, Error};
 use fault_model::Model;
@@ -108,9 +108,9 @@ fn do_task<'a, R: Threads + Wait, S: Source, W: Out, E: Out + Send>(
     files: &mut S,
     out: &mut W,
     err: &mut E,
-) -> Result<(), Fault<'a>> {
+) -> Result<(), CommandError<'a>> {
     let Some((name, options)) = matches.subcommand() else {
-        return Err(Fault::Misused("no command"));
+        return Err(CommandError::Misused("no command"));
     };
     check_streams(alloc, options, files)?;
     match Task::named(name) {
@@ -122,7 +122,7 @@ fn do_task<'a, R: Threads + Wait, S: Source, W: Out, E: Out + Send>(
         Some(Task::Schedule) => do_schedule(alloc, options, files, out),
         Some(Task::Faults) => do_faults(alloc, options, files, out),
         Some(Task::Merge) => do_merge(alloc, options, files, out),
-        None => Err(Fault::Misused(name)),
+        None => Err(CommandError::Misused(name)),
     }
 }
 
@@ -148,13 +148,13 @@ fn check_streams<'a, S: Source>(
     alloc: Global,
     matches: &ArgMatches<'a>,
     files: &S,
-) -> Result<(), Fault<'a>> {
+) -> Result<(), CommandError<'a>> {
     let Ok(paths) = named_files(alloc, matches) else {
         return Err(NO_MEMORY);
     };
     let inputs = paths.iter().filter(|path| is_standard_input(**path));
     if inputs.count() > 1 {
-        return Err(Fault::Misused("the standard input for two files"));
+        return Err(CommandError::Misused("the standard input for two files"));
     }
     let mut streams: Vec<Stream> = Vec::new(alloc);
     for path in &paths {
@@ -162,7 +162,7 @@ fn check_streams<'a, S: Source>(
             continue;
         };
         if streams.contains(&stream) {
-            return Err(Fault::Misused("one stream for two files"));
+            return Err(CommandError::Misused("one stream for two files"));
         }
         if streams.push(stream).is_err() {
             return Err(NO_MEMORY);
@@ -172,10 +172,10 @@ fn check_streams<'a, S: Source>(
 }
 
 /// Returns the model that the command line names.
-pub(crate) fn read_model<'a>(matches: &ArgMatches<'a>) -> Result<Model, Fault<'a>> {
+pub(crate) fn read_model<'a>(matches: &ArgMatches<'a>) -> Result<Model, CommandError<'a>> {
     match matches.get_str("model").and_then(model_named) {
         Some(model) => Ok(model),
-        None => Err(Fault::Misused("--model")),
+        None => Err(CommandError::Misused("--model")),
     }
 }
 
@@ -185,10 +185,10 @@ pub(crate) fn read_option<'a, S: Source>(
     matches: &ArgMatches<'a>,
     option: &'a str,
     files: &mut S,
-) -> Result<Vec<u8>, Fault<'a>> {
+) -> Result<Vec<u8>, CommandError<'a>> {
     match matches.get_str(option) {
         Some(path) => read_file(alloc, path, files),
-        None => Err(Fault::Misused(option)),
+        None => Err(CommandError::Misused(option)),
     }
 }
 
@@ -197,34 +197,34 @@ pub(crate) fn read_file<'a, S: Source>(
     alloc: Global,
     path: &'a str,
     files: &mut S,
-) -> Result<Vec<u8>, Fault<'a>> {
+) -> Result<Vec<u8>, CommandError<'a>> {
     match files.read(alloc, path) {
         Ok(text) => Ok(text),
-        Err(SourceFault::Unreadable) => Err(Fault::Unreadable(path)),
+        Err(SourceFault::Unreadable) => Err(CommandError::Unreadable(path)),
         Err(SourceFault::Memory) => Err(NO_MEMORY),
     }
 }
 
 /// Which faults the command line asks for.
-pub(crate) fn read_lines<'a>(matches: &ArgMatches<'a>) -> Result<Lines, Fault<'a>> {
+pub(crate) fn read_lines<'a>(matches: &ArgMatches<'a>) -> Result<Lines, CommandError<'a>> {
     match (matches.get_flag("list"), matches.get_flag("undetected")) {
         (false, false) => Ok(Lines::Omitted),
         (true, false) => Ok(Lines::All),
         (false, true) => Ok(Lines::Undetected),
-        (true, true) => Err(Fault::Misused("--undetected")),
+        (true, true) => Err(CommandError::Misused("--undetected")),
     }
 }
 
 /// Returns the number of workers that the command line names.
-pub(crate) fn read_workers<'a>(matches: &ArgMatches<'a>) -> Result<u32, Fault<'a>> {
+pub(crate) fn read_workers<'a>(matches: &ArgMatches<'a>) -> Result<u32, CommandError<'a>> {
     match matches.get_one::<u32>("workers") {
         Some(workers) => Ok(workers),
-        None => Err(Fault::Misused("--workers")),
+        None => Err(CommandError::Misused("--workers")),
     }
 }
 
 /// Returns the contents of a report that the command line requests.
-pub(crate) fn read_contents<'a>(matches: &ArgMatches<'a>) -> Result<Contents, Fault<'a>> {
+pub(crate) fn read_contents<'a>(matches: &ArgMatches<'a>) -> Result<Contents, CommandError<'a>> {
     Ok(Contents {
         lines: read_lines(matches)?,
         classes: matches.get_flag("classes"),
@@ -239,7 +239,7 @@ fn do_run_or_detections<'a, R: Threads + Wait, S: Source, W: Out, E: Out + Send>
     files: &mut S,
     out: &mut W,
     err: &mut E,
-) -> Result<(), Fault<'a>> {
+) -> Result<(), CommandError<'a>> {
     match matches.get_one::<u32>("detections") {
         Some(most) => do_detections(rt, alloc, matches, most, files, out),
         None => do_run(rt, alloc, matches, files, out, err),
@@ -252,7 +252,7 @@ fn do_schedule<'a, S: Source, W: Out>(
     matches: &ArgMatches<'a>,
     files: &mut S,
     out: &mut W,
-) -> Result<(), Fault<'a>> {
+) -> Result<(), CommandError<'a>> {
     let model = read_model(matches)?;
     let workers = read_workers(matches)?;
     let contents = read_contents(matches)?;
@@ -261,7 +261,7 @@ fn do_schedule<'a, S: Source, W: Out>(
     let order = read_option(alloc, matches, "order", files)?;
     match schedule_text_with(alloc, model, &bench, &tests, &order, workers, contents, out) {
         Ok(()) => Ok(()),
-        Err(fault) => Err(Fault::Sim(fault)),
+        Err(fault) => Err(CommandError::Sim(fault)),
     }
 }
 
@@ -271,7 +271,7 @@ fn do_faults<'a, S: Source, W: Out>(
     matches: &ArgMatches<'a>,
     files: &mut S,
     out: &mut W,
-) -> Result<(), Fault<'a>> {
+) -> Result<(), CommandError<'a>> {
     let model = read_model(matches)?;
     let format = read_format(matches)?;
     let bench = read_option(alloc, matches, "bench", files)?;
@@ -280,6 +280,6 @@ fn do_faults<'a, S: Source, W: Out>(
     }
     match faults_text_in(alloc, model, &bench, out) {
         Ok(()) => Ok(()),
-        Err(fault) => Err(Fault::Sim(fault)),
+        Err(fault) => Err(CommandError::Sim(fault)),
     }
 }

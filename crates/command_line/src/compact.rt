@@ -5,7 +5,7 @@ use crate::crew::read_crew;
 use crate::pieces::run_fault;
 use crate::source::Source;
 use crate::split::read_split;
-use crate::status::Fault;
+use crate::status::CommandError;
 use clap::ArgMatches;
 use report::{Formatted, KeptForm, Out, compact_text_with};
 use std::alloc::Global;
@@ -22,7 +22,7 @@ pub(crate) fn do_compact<'a, R: Threads + Wait, S: Source, W: Out, E: Out>(
     files: &mut S,
     out: &mut W,
     err: &mut E,
-) -> Result<(), Fault<'a>> {
+) -> Result<(), CommandError<'a>> {
     let model = read_model(matches)?;
     let split = read_split(matches)?;
     let form = read_kept_form(matches);

@@ -1,7 +1,7 @@
 //! The number of workers that share a run.
 
 use crate::command::read_workers;
-use crate::status::Fault;
+use crate::status::CommandError;
 use clap::ArgMatches;
 use clap::parser::ValueSource;
 
@@ -21,7 +21,7 @@ pub(crate) fn read_crew<'a>(
     matches: &ArgMatches<'a>,
     bench: &[u8],
     tests: &[u8],
-) -> Result<u32, Fault<'a>> {
+) -> Result<u32, CommandError<'a>> {
     let workers = read_workers(matches)?;
     match matches.value_source("workers") {
         Some(ValueSource::DefaultValue) if is_short(bench, tests) => Ok(1),

@@ -3,7 +3,7 @@
 use crate::form::{Form, write_form};
 use crate::source::Source;
 use crate::split::read_split;
-use crate::status::Fault;
+use crate::status::CommandError;
 use clap::ArgMatches;
 use report::Out;
 use std::alloc::Global;
@@ -18,7 +18,7 @@ pub(crate) fn do_curve<'a, R: Threads + Wait, S: Source, W: Out, E: Out + Send>(
     files: &mut S,
     out: &mut W,
     err: &mut E,
-) -> Result<(), Fault<'a>> {
+) -> Result<(), CommandError<'a>> {
     let split = read_split(matches)?;
     write_form(rt, alloc, matches, Form::Curve { split }, files, out, err)
 }

@@ -4,7 +4,7 @@ use crate::command::{read_model, read_option, read_workers};
 use crate::pieces::run_fault;
 use crate::source::Source;
 use crate::split::read_split;
-use crate::status::Fault;
+use crate::status::CommandError;
 use clap::ArgMatches;
 use report::{Out, Split, detections_text_in, detections_text_of_any_size, histogram_text_in};
 use std::alloc::Global;
@@ -20,7 +20,7 @@ pub(crate) fn do_detections<'a, R: Threads + Wait, S: Source, W: Out>(
     most: u32,
     files: &mut S,
     out: &mut W,
-) -> Result<(), Fault<'a>> {
+) -> Result<(), CommandError<'a>> {
     let model = read_model(matches)?;
     let workers = read_workers(matches)?;
     let list = matches.get_flag("list");

@@ -7,7 +7,7 @@ use crate::crew::read_crew;
 use crate::pieces::run_fault;
 use crate::progress::Progress;
 use crate::source::Source;
-use crate::status::Fault;
+use crate::status::CommandError;
 use crate::summary::{Request, read_request, version_and_proof};
 use crate::tally::{Found, Quiet, Tally};
 use crate::threshold::{Threshold, check_threshold, read_threshold};
@@ -77,7 +77,7 @@ pub(crate) fn write_form<'a, R: Threads + Wait, S: Source, W: Out, E: Out + Send
     files: &mut S,
     out: &mut W,
     err: &mut E,
-) -> Result<(), Fault<'a>>
+) -> Result<(), CommandError<'a>>
     requires { HasParts form }
 {
     let model = read_model(matches)?;
@@ -101,7 +101,7 @@ pub(crate) fn write_form<'a, R: Threads + Wait, S: Source, W: Out, E: Out + Send
     match done {
         Ok(()) => end_run(alloc, summary, threshold, inputs, tally.found(), files),
         Err(fault) if form.is_whole() => Err(run_fault(alloc, fault, model, &bench, &tests)),
-        Err(fault) => Err(Fault::Sim(fault)),
+        Err(fault) => Err(CommandError::Sim(fault)),
     }
 }
 
@@ -114,7 +114,7 @@ fn end_run<'a, S: Source>(
     inputs: Inputs<'_>,
     found: Found,
     files: &mut S,
-) -> Result<(), Fault<'a>> {
+) -> Result<(), CommandError<'a>> {
     let Some(counts) = found.counts else {
         return Ok(());
     };
@@ -132,7 +132,7 @@ fn write_summary<'a, S: Source>(
     counts: RunCounts,
     reasons: Option<ReasonCounts>,
     files: &mut S,
-) -> Result<(), Fault<'a>> {
+) -> Result<(), CommandError<'a>> {
     let (version, proved) = version_and_proof();
     let Inputs {
         model,

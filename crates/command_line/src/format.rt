@@ -1,6 +1,6 @@
 //! The option `--format`: lists of faults as tables.
 
-use crate::status::Fault;
+use crate::status::CommandError;
 use clap::ArgMatches;
 use fault_model::Model;
 use report::Out;
@@ -8,12 +8,14 @@ use std::alloc::Global;
 use tables::{Format, faults_table_in};
 
 /// Returns the format that the command line names, and none for the program's own text.
-pub(crate) fn read_format<'a>(matches: &ArgMatches<'a>) -> Result<Option<Format>, Fault<'a>> {
+pub(crate) fn read_format<'a>(
+    matches: &ArgMatches<'a>,
+) -> Result<Option<Format>, CommandError<'a>> {
     match matches.get_str("format") {
         Some("text") => Ok(None),
         Some("csv") => Ok(Some(Format::Csv)),
         Some("json") => Ok(Some(Format::Json)),
-        _ => Err(Fault::Misused("--format")),
+        _ => Err(CommandError::Misused("--format")),
     }
 }
 
@@ -24,9 +26,9 @@ pub(crate) fn write_faults_table<'a, W: Out>(
     bench: &[u8],
     format: Format,
     out: &mut W,
-) -> Result<(), Fault<'a>> {
+) -> Result<(), CommandError<'a>> {
     match faults_table_in(alloc, model, bench, format, out) {
         Ok(()) => Ok(()),
-        Err(fault) => Err(Fault::Sim(fault)),
+        Err(fault) => Err(CommandError::Sim(fault)),
     }
 }

@@ -4,7 +4,7 @@ use crate::command::{read_file, read_lines, read_option};
 use crate::format::read_format;
 use crate::options::model_named;
 use crate::source::Source;
-use crate::status::{Fault, NO_MEMORY, UNWRITTEN, merge_fault, part_fault};
+use crate::status::{CommandError, NO_MEMORY, UNWRITTEN, merge_fault, part_fault};
 use crate::threshold::{check_threshold, read_threshold};
 use bench_net::{Circuit, read_bench};
 use clap::ArgMatches;
@@ -35,14 +35,14 @@ const NO_CIRCUIT: &str = "give --bench FILE, too: the circuit of the run";
 const NO_USE: &str = "give it with --classes, --format csv or --format json";
 
 /// Reads from the command line what to write.
-fn read_outcome<'a>(matches: &ArgMatches<'a>) -> Result<Outcome, Fault<'a>> {
+fn read_outcome<'a>(matches: &ArgMatches<'a>) -> Result<Outcome, CommandError<'a>> {
     let has_circuit = matches.get_str("bench").is_some();
     let classes = matches.get_flag("classes");
     match read_format(matches)? {
         Some(format) if has_circuit => Ok(Outcome::Table(format)),
-        Some(_) => Err(Fault::Unfit("--format", NO_CIRCUIT)),
+        Some(_) => Err(CommandError::Unfit("--format", NO_CIRCUIT)),
         None if classes => Ok(Outcome::Classes),
-        None if has_circuit => Err(Fault::Unfit("--bench", NO_USE)),
+        None if has_circuit => Err(CommandError::Unfit("--bench", NO_USE)),
         None => Ok(Outcome::Report),
     }
 }
@@ -54,12 +54,12 @@ pub(crate) fn do_merge<'a, S: Source, W: Out>(
     matches: &ArgMatches<'a>,
     files: &mut S,
     out: &mut W,
-) -> Result<(), Fault<'a>> {
+) -> Result<(), CommandError<'a>> {
     let Some(paths) = matches.get_strs("part texts") else {
-        return Err(Fault::Misused("FILE"));
+        return Err(CommandError::Misused("FILE"));
     };
     let Some((first, others)) = paths.split_first() else {
-        return Err(Fault::Misused("FILE"));
+        return Err(CommandError::Misused("FILE"));
     };
     let lines = read_lines(matches)?;
     let outcome = read_outcome(matches)?;
@@ -89,7 +89,7 @@ fn merge_files<'a, 't, S: Source>(
     text: &'t [u8],
     others: &[&'a str],
     files: &mut S,
-) -> Result<Merged<'t>, Fault<'a>> {
+) -> Result<Merged<'t>, CommandError<'a>> {
     let mut merge = match Merge::of(alloc, text) {
         Ok(merge) => merge,
         Err(fault) => return Err(part_fault(first, fault)),
@@ -112,19 +112,19 @@ fn model_for<'a>(
     path: &'a str,
     text: &[u8],
     bench: &[u8],
-) -> Result<Model, Fault<'a>> {
+) -> Result<Model, CommandError<'a>> {
     let part = match read_part(alloc, text) {
         Ok(part) => part,
         Err(fault) => return Err(part_fault(path, MergeFault::Part(fault))),
     };
     let Some(model) = model_of(&part.header) else {
-        return Err(Fault::Part(path, MergeFault::OtherModel));
+        return Err(CommandError::Part(path, MergeFault::OtherModel));
     };
     match is_of_bench(alloc, &part.header, bench) {
         Ok(true) => Ok(model),
         Ok(false) => {
             let path = matches.get_str("bench").unwrap_or(path);
-            Err(Fault::Part(path, MergeFault::OtherInputs))
+            Err(CommandError::Part(path, MergeFault::OtherInputs))
         }
         Err(AllocError) => Err(NO_MEMORY),
     }
@@ -142,15 +142,19 @@ fn is_of_bench(alloc: Global, header: &PartHeader<'_>, bench: &[u8]) -> Result<b
 }
 
 /// Reads the circuit of a bench file.
-fn read_circuit<'a>(alloc: Global, bench: &[u8]) -> Result<Circuit, Fault<'a>> {
+fn read_circuit<'a>(alloc: Global, bench: &[u8]) -> Result<Circuit, CommandError<'a>> {
     match read_bench(alloc, bench) {
         Ok(circuit) => Ok(circuit),
-        Err(fault) => Err(Fault::Sim(SimFault::Bench(fault))),
+        Err(fault) => Err(CommandError::Sim(SimFault::Bench(fault))),
     }
 }
 
 /// The classes of the faults of a bench text under a model.
-fn read_classes<'a>(alloc: Global, model: Model, bench: &[u8]) -> Result<Classes, Fault<'a>> {
+fn read_classes<'a>(
+    alloc: Global,
+    model: Model,
+    bench: &[u8],
+) -> Result<Classes, CommandError<'a>> {
     let circuit = read_circuit(alloc, bench)?;
     let Ok(list) = list_faults_in(alloc, &circuit, model) else {
         return Err(NO_MEMORY);
@@ -166,7 +170,7 @@ fn write_faults<'a, W: Out>(
     merged: &Merged<'_>,
     lines: Lines,
     out: &mut W,
-) -> Result<(), Fault<'a>> {
+) -> Result<(), CommandError<'a>> {
     match write_merged(merged, lines, out) {
         Ok(()) => Ok(()),
         Err(ReportFault::Write) => Err(UNWRITTEN),
@@ -181,7 +185,7 @@ fn write_classes<'a, W: Out>(
     merged: &Merged<'_>,
     lines: Lines,
     out: &mut W,
-) -> Result<(), Fault<'a>> {
+) -> Result<(), CommandError<'a>> {
     let classes = read_classes(alloc, model, bench)?;
     if classes.count() == 0 {
         return write_faults(merged, lines, out);
@@ -205,7 +209,7 @@ fn write_table<'a, W: Out>(
     lines: Lines,
     format: Format,
     out: &mut W,
-) -> Result<(), Fault<'a>> {
+) -> Result<(), CommandError<'a>> {
     let circuit = read_circuit(alloc, bench)?;
     let Ok(list) = list_faults_in(alloc, &circuit, model) else {
         return Err(NO_MEMORY);
@@ -213,10 +217,10 @@ fn write_table<'a, W: Out>(
     let total = merged.total();
     if total != list.count() {
         let line = u64::from(total.min(list.count())) + 2;
-        return Err(Fault::Part(path, MergeFault::Differs(line)));
+        return Err(CommandError::Part(path, MergeFault::Differs(line)));
     }
     match write_merged_table(alloc, merged, &circuit, &list, lines, format, out) {
         Ok(()) => Ok(()),
-        Err(fault) => Err(Fault::Sim(fault)),
+        Err(fault) => Err(CommandError::Sim(fault)),
     }
 }

@@ -1,9 +1,9 @@
 //! Runs with more pieces than the limit.
 
-use crate::status::Fault;
+use crate::status::CommandError;
 use block_sim::JobFault;
-use diagnosis::{Answer, check_texts};
 use fault_model::Model;
+use input_check::{Answer, check_texts};
 use report::{RunFault, SimFault};
 use std::alloc::Global;
 
@@ -15,14 +15,14 @@ pub(crate) fn run_fault<'a>(
     model: Model,
     bench: &[u8],
     tests: &[u8],
-) -> Fault<'a> {
+) -> CommandError<'a> {
     match fault {
         SimFault::Job(JobFault::TooManyPieces) | SimFault::Run(RunFault::TooManyPieces) => {
             match check_texts(alloc, model, bench, Some(tests)) {
-                Ok(Answer::TooManyPieces(excess)) => Fault::TooManyPieces(fault, excess),
-                _ => Fault::Sim(fault),
+                Ok(Answer::TooManyPieces(excess)) => CommandError::TooManyPieces(fault, excess),
+                _ => CommandError::Sim(fault),
             }
         }
-        _ => Fault::Sim(fault),
+        _ => CommandError::Sim(fault),
     }
 }

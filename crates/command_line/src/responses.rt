@@ -2,7 +2,7 @@
 
 use crate::command::read_option;
 use crate::source::Source;
-use crate::status::Fault;
+use crate::status::CommandError;
 use clap::ArgMatches;
 use report::{Out, pairs_text_in, responses_text_in};
 use std::alloc::Global;
@@ -13,7 +13,7 @@ pub(crate) fn do_responses<'a, S: Source, W: Out>(
     matches: &ArgMatches<'a>,
     files: &mut S,
     out: &mut W,
-) -> Result<(), Fault<'a>> {
+) -> Result<(), CommandError<'a>> {
     let bench = read_option(alloc, matches, "bench", files)?;
     let tests = read_option(alloc, matches, "tests", files)?;
     let done = if matches.get_flag("pairs") {
@@ -23,6 +23,6 @@ pub(crate) fn do_responses<'a, S: Source, W: Out>(
     };
     match done {
         Ok(()) => Ok(()),
-        Err(fault) => Err(Fault::Sim(fault)),
+        Err(fault) => Err(CommandError::Sim(fault)),
     }
 }

@@ -1,7 +1,7 @@
 //! The command `run` without `--detections`.
 
 ghost use Rattle.std.specs.Prelude.{IfOk, IfSome};
-ghost use Rattle.jobs.specs.Splits.{HasSomePart};
+ghost use Rattle.job_loading.specs.Splits.{HasSomePart};
 ghost use Rattle.command_line.specs.Form.{HasParts};
 
 use crate::command::read_contents;
@@ -10,7 +10,7 @@ use crate::format::read_format;
 use crate::options::MAX_PARTS;
 use crate::source::Source;
 use crate::split::read_split;
-use crate::status::Fault;
+use crate::status::CommandError;
 use clap::ArgMatches;
 use report::{Contents, Lines, Out, Split};
 use std::alloc::Global;
@@ -18,7 +18,7 @@ use std::sync::Wait;
 use std::thread::Threads;
 
 /// Returns the output that the command line requests of `run`.
-fn read_form<'a>(matches: &ArgMatches<'a>) -> Result<Form, Fault<'a>>
+fn read_form<'a>(matches: &ArgMatches<'a>) -> Result<Form, CommandError<'a>>
     ensures { IfOk result HasParts }
 {
     let contents = read_contents(matches)?;
@@ -33,13 +33,13 @@ fn read_form<'a>(matches: &ArgMatches<'a>) -> Result<Form, Fault<'a>>
     }
     match (matches.get_str("part"), split) {
         (None, _) => report_form(contents, split, matches.get_flag("why")),
-        (Some(text), Split::Whole) => read_part(text).ok_or(Fault::Unfit("--part", NO_PART)),
-        (Some(_), _) => Err(Fault::Unfit("--parts", BESIDE_PART)),
+        (Some(text), Split::Whole) => read_part(text).ok_or(CommandError::Unfit("--part", NO_PART)),
+        (Some(_), _) => Err(CommandError::Unfit("--parts", BESIDE_PART)),
     }
 }
 
 /// A report, of the undetected faults with their reasons if `why` is set.
-fn report_form<'a>(contents: Contents, split: Split, why: bool) -> Result<Form, Fault<'a>>
+fn report_form<'a>(contents: Contents, split: Split, why: bool) -> Result<Form, CommandError<'a>>
     requires { HasSomePart split }
     ensures { IfOk result HasParts }
 {
@@ -49,7 +49,7 @@ fn report_form<'a>(contents: Contents, split: Split, why: bool) -> Result<Form, 
             classes: contents.classes,
             split,
         }),
-        (true, Lines::Omitted | Lines::All) => Err(Fault::Misused("--why")),
+        (true, Lines::Omitted | Lines::All) => Err(CommandError::Misused("--why")),
     }
 }
 
@@ -83,7 +83,7 @@ pub(crate) fn do_run<'a, R: Threads + Wait, S: Source, W: Out, E: Out + Send>(
     files: &mut S,
     out: &mut W,
     err: &mut E,
-) -> Result<(), Fault<'a>> {
+) -> Result<(), CommandError<'a>> {
     let form = read_form(matches)?;
     write_form(rt, alloc, matches, form, files, out, err)
 }

@@ -1,9 +1,9 @@
 //! The option `--parts`: into how many parts a run is cut.
 
 ghost use Rattle.std.specs.Prelude.{IfOk};
-ghost use Rattle.jobs.specs.Splits.{HasSomePart};
+ghost use Rattle.job_loading.specs.Splits.{HasSomePart};
 
-use crate::status::Fault;
+use crate::status::CommandError;
 use clap::ArgMatches;
 use report::Split;
 
@@ -24,7 +24,7 @@ pub(crate) fn is_auto(words: &[&str]) -> bool {
 }
 
 /// Into how many parts the command line cuts a run.
-pub(crate) fn read_split<'a>(matches: &ArgMatches<'a>) -> Result<Split, Fault<'a>>
+pub(crate) fn read_split<'a>(matches: &ArgMatches<'a>) -> Result<Split, CommandError<'a>>
     ensures { IfOk result HasSomePart }
 {
     let Some(text) = matches.get_str("parts") else {
@@ -35,6 +35,6 @@ pub(crate) fn read_split<'a>(matches: &ArgMatches<'a>) -> Result<Split, Fault<'a
     }
     match matches.get_one::<u32>("parts") {
         Some(count) if count > 0 => Ok(Split::Parts(count)),
-        _ => Err(Fault::Misused("--parts")),
+        _ => Err(CommandError::Misused("--parts")),
     }
 }

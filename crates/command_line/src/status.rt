@@ -4,7 +4,7 @@ ghost use Rattle.std.specs.Prelude.{◌<◌, ◌≤◌};
 
 use bench_net::BenchFault;
 use block_sim::JobFault;
-use diagnosis::Excess;
+use input_check::Excess;
 use patterns::{OrderFault, TestFault};
 use report::{Formatted, MergeFault, Out, PartFault, ReportFault, RunFault, SimFault};
 use std::fmt::Write;
@@ -26,7 +26,7 @@ pub(crate) const MISSED: u8 = 4;
 
 /// Why a command was not done, or what is wrong where it was.
 #[derive(Clone, Copy)]
-pub(crate) enum Fault<'a> {
+pub(crate) enum CommandError<'a> {
     /// An argument of the process is no text.
     NoText,
     /// The command line lacks an option, or what it has there doesn't do.
@@ -50,54 +50,58 @@ pub(crate) enum Fault<'a> {
 }
 
 /// The output takes nothing more.
-pub(crate) const UNWRITTEN: Fault<'static> = Fault::Sim(SimFault::Report(ReportFault::Write));
+pub(crate) const UNWRITTEN: CommandError<'static> = CommandError::Sim(SimFault::Report(
+    ReportFault::Write,
+));
 
 /// Memory is refused.
-pub(crate) const NO_MEMORY: Fault<'static> = Fault::Sim(SimFault::Memory);
+pub(crate) const NO_MEMORY: CommandError<'static> = CommandError::Sim(SimFault::Memory);
 
 /// Returns the fault of the part text at a path. Want of memory is no fault of the text.
-pub(crate) fn part_fault(path: &str, fault: MergeFault) -> Fault<'_> {
+pub(crate) fn part_fault(path: &str, fault: MergeFault) -> CommandError<'_> {
     match fault {
         MergeFault::Memory | MergeFault::Part(PartFault::Memory) => NO_MEMORY,
-        _ => Fault::Part(path, fault),
+        _ => CommandError::Part(path, fault),
     }
 }
 
 /// Returns the fault of part texts together. Want of memory is no fault of the texts.
-pub(crate) fn merge_fault(fault: MergeFault) -> Fault<'static> {
+pub(crate) fn merge_fault(fault: MergeFault) -> CommandError<'static> {
     match fault {
         MergeFault::Memory | MergeFault::Part(PartFault::Memory) => NO_MEMORY,
-        _ => Fault::Merge(fault),
+        _ => CommandError::Merge(fault),
     }
 }
 
 /// Tells a fault in one line, and what is known beside it in a second one, and answers its status,
 /// which is no other where the lines can't be told.
-pub(crate) fn answer_fault<E: Out>(fault: &Fault<'_>, err: &mut E) -> u8
+pub(crate) fn answer_fault<E: Out>(fault: &CommandError<'_>, err: &mut E) -> u8
     ensures failed { 0 < result }
     ensures few { result ≤ 4 }
 {
     let mut text = Formatted(err);
     let _ = match fault {
-        Fault::NoText => writeln!(text, "faultsim: an argument is no text"),
-        Fault::Misused(option) => writeln!(text, "faultsim: cannot use {option}"),
-        Fault::Unfit(option, reason) => {
+        CommandError::NoText => writeln!(text, "faultsim: an argument is no text"),
+        CommandError::Misused(option) => writeln!(text, "faultsim: cannot use {option}"),
+        CommandError::Unfit(option, reason) => {
             writeln!(text, "faultsim: cannot use {option}\n    {reason}")
         }
-        Fault::Unreadable(path) => writeln!(text, "faultsim: cannot read {path}"),
-        Fault::Unwritten(path) => writeln!(text, "faultsim: cannot write {path}"),
-        Fault::Sim(fault) => writeln!(text, "faultsim: {fault}"),
-        Fault::TooManyPieces(fault, excess) => { writeln!(text, "faultsim: {fault}\n    {excess}") }
-        Fault::Part(path, fault) => writeln!(text, "faultsim: {path}: {fault}"),
-        Fault::Merge(fault) => writeln!(text, "faultsim: {fault}"),
-        Fault::Missed(least) => writeln!(text, "faultsim: coverage below {least}%"),
+        CommandError::Unreadable(path) => writeln!(text, "faultsim: cannot read {path}"),
+        CommandError::Unwritten(path) => writeln!(text, "faultsim: cannot write {path}"),
+        CommandError::Sim(fault) => writeln!(text, "faultsim: {fault}"),
+        CommandError::TooManyPieces(fault, excess) => {
+            writeln!(text, "faultsim: {fault}\n    {excess}")
+        }
+        CommandError::Part(path, fault) => writeln!(text, "faultsim: {path}: {fault}"),
+        CommandError::Merge(fault) => writeln!(text, "faultsim: {fault}"),
+        CommandError::Missed(least) => writeln!(text, "faultsim: coverage below {least}%"),
     };
     match fault {
-        Fault::NoText | Fault::Misused(_) | Fault::Unfit(..) => MISUSED,
-        Fault::Unreadable(_) | Fault::Unwritten(_) => FAILED,
-        Fault::Sim(fault) | Fault::TooManyPieces(fault, _) => status_of(fault),
-        Fault::Part(..) | Fault::Merge(_) => REFUSED,
-        Fault::Missed(_) => MISSED,
+        CommandError::NoText | CommandError::Misused(_) | CommandError::Unfit(..) => MISUSED,
+        CommandError::Unreadable(_) | CommandError::Unwritten(_) => FAILED,
+        CommandError::Sim(fault) | CommandError::TooManyPieces(fault, _) => status_of(fault),
+        CommandError::Part(..) | CommandError::Merge(_) => REFUSED,
+        CommandError::Missed(_) => MISSED,
     }
 }
 

@@ -2,7 +2,7 @@
 
 use crate::options::VERSION;
 use crate::source::{Source, WriteFault, is_standard_input};
-use crate::status::{Fault, NO_MEMORY};
+use crate::status::{CommandError, NO_MEMORY};
 use clap::ArgMatches;
 use std::alloc::{AllocError, Global};
 use tables::{Summary, summary_text};
@@ -25,12 +25,12 @@ pub(crate) struct Request<'a> {
 pub(crate) fn read_request<'a, S: Source>(
     matches: &ArgMatches<'a>,
     files: &S,
-) -> Result<Option<Request<'a>>, Fault<'a>> {
+) -> Result<Option<Request<'a>>, CommandError<'a>> {
     let Some(path) = matches.get_str("summary") else {
         return Ok(None);
     };
     if is_standard_input(path) || is_input(matches, path) {
-        return Err(Fault::Unfit("--summary", NO_FILE));
+        return Err(CommandError::Unfit("--summary", NO_FILE));
     }
     let began = files.milliseconds();
     Ok(Some(Request { path, began }))
@@ -67,14 +67,14 @@ impl<'a> Request<'a> {
         alloc: Global,
         summary: &Summary<'_>,
         files: &mut S,
-    ) -> Result<(), Fault<'a>> {
+    ) -> Result<(), CommandError<'a>> {
         let text = match summary_text(alloc, summary) {
             Ok(text) => text,
             Err(AllocError) => return Err(NO_MEMORY),
         };
         match files.write(self.path, &text) {
             Ok(()) => Ok(()),
-            Err(WriteFault) => Err(Fault::Unwritten(self.path)),
+            Err(WriteFault) => Err(CommandError::Unwritten(self.path)),
         }
     }
 }

@@ -2,7 +2,7 @@
 
 ghost use Rattle.std.specs.Prelude.{◌*◌, ◌<◌, ◌≤◌, ◌↔◌, IsTrue};
 
-use crate::status::Fault;
+use crate::status::CommandError;
 use clap::ArgMatches;
 
 /// How many decimals a percentage may have.
@@ -34,13 +34,13 @@ impl<'a> Threshold<'a> {
 /// The threshold that the command line names, if it names one.
 pub(crate) fn read_threshold<'a>(
     matches: &ArgMatches<'a>,
-) -> Result<Option<Threshold<'a>>, Fault<'a>> {
+) -> Result<Option<Threshold<'a>>, CommandError<'a>> {
     let Some(text) = matches.get_str("fail-under") else {
         return Ok(None);
     };
     match millionths_of(text) {
         Some(millionths) if millionths <= HUNDRED => Ok(Some(Threshold { text, millionths })),
-        _ => Err(Fault::Unfit("--fail-under", NO_PERCENTAGE)),
+        _ => Err(CommandError::Unfit("--fail-under", NO_PERCENTAGE)),
     }
 }
 
@@ -49,9 +49,9 @@ pub(crate) fn check_threshold<'a>(
     threshold: Option<Threshold<'a>>,
     detected: u32,
     faults: u32,
-) -> Result<(), Fault<'a>> {
+) -> Result<(), CommandError<'a>> {
     match threshold {
-        Some(least) if least.is_missed(detected, faults) => Err(Fault::Missed(least.text)),
+        Some(least) if least.is_missed(detected, faults) => Err(CommandError::Missed(least.text)),
         _ => Ok(()),
     }
 }

@@ -12,8 +12,8 @@ use Rattle.std.proofs.lemmas.List.Folds.{list_any_more}
 use Rattle.std.proofs.Math.Seq.{take-append_seam}
 use Rattle.std.proofs.lemmas.Option.{get_or_from_slice_get, slice_get-get_or, slice_get_within}
 use Rattle.bench_net.specs.Statement.{Statement}
-use Rattle.lists.proofs.Members.{Among, among, contained, some_passes}
-use Rattle.lists.proofs.Places.{at_place, place_within, placed, within_place}
+use Rattle.list_lemmas.proofs.Members.{Among, among, contained, some_passes}
+use Rattle.list_lemmas.proofs.Places.{at_place, place_within, placed, within_place}
 use Rattle.fault_model.specs.declared.Model.{Model}
 use Rattle.fault_model.specs.declared.Model.TheVariants.{StuckAt, Transition, TransitionPairs}
 use Rattle.fault_model.specs.Fault.{Fault, faults}
@@ -37,7 +37,7 @@ use Rattle.compaction.specs.Marks.{AreFinding, AreLast, AreLastOf}
 use Rattle.compaction.proofs.ElementsAtMarks.{ComesFrom, both_counted, both_marked, both_marks}
 use Rattle.compaction.proofs.ElementsAtMarks.{comes_from, earlier_place, marked_at, marked_twice}
 use Rattle.compaction.proofs.ElementsAtMarks.{ones, ones_counted, ones_next, ones_stay}
-use Rattle.compaction.proofs.TurnedLists.{turned_back, turned_to}
+use Rattle.compaction.proofs.ReversedLists.{reversed_back, reversed_to}
 
 -- ---- marks by first tests
 
@@ -135,13 +135,13 @@ covers_stuck c tests marks are f t listed detects =
 
 -- the second pass: turned round, the list has the first of some faults where it has the last of
 -- them
-pub are_last : (c : List Statement) (tests turned : List Test) (found marks : List Bool)
-    → length turned ≡ length tests → ReversedBelow tests turned (length tests)
-    → AreFinding StuckAt c turned found
+pub are_last : (c : List Statement) (tests reversed : List Test) (found marks : List Bool)
+    → length reversed ≡ length tests → ReversedBelow tests reversed (length tests)
+    → AreFinding StuckAt c reversed found
     → length marks ≡ length tests → ReversedBelow found marks (length tests)
     → (given numbers : List ℕ) → numbers ≡ at_marks marks given
     → AreLastOf c tests (at_marks marks tests) given numbers
-are_last c tests turned found marks count round are marked_all back given numbers e =
+are_last c tests reversed found marks count round are marked_all back given numbers e =
     (record { rows = (marks, marked_all, refl); covers = covers; last = last }, e)
   where
     all_found : length found ≡ length tests
@@ -149,15 +149,15 @@ are_last c tests turned found marks count round are marked_all back given number
 
     covers : Covers StuckAt c tests (at_marks marks tests)
     covers f t listed detects =
-        let there = stuck_at c turned f (length tests - 1 - t) detects.0 listed (turned_to tests
-        turned (length tests) t detects.0 refl count round detects.1) detects.2 in
+        let there = stuck_at c reversed f (length tests - 1 - t) detects.0 listed (reversed_to tests
+        reversed (length tests) t detects.0 refl count round detects.1) detects.2 in
         let s = are.found f (length tests - 1 - t) listed there in
         let own = s.1.0 in
         let place = length tests - 1 - s.0 in
         let at : slice_get tests place ≡ Some own.0 =
-        turned_back tests turned (length tests) s.0 own.0 refl count round own.1 in
+        reversed_back tests reversed (length tests) s.0 own.0 refl count round own.1 in
         let mark : slice_get marks place ≡ Some true =
-        turned_to found marks (length tests) s.0 true all_found marked_all back s.2 in (
+        reversed_to found marks (length tests) s.0 true all_found marked_all back s.2 in (
           ones (take place marks),
           stuck_at c (at_marks marks tests) f (ones
               (take place marks)) own.0 listed (marked_at marks tests place own.0 mark at) own.2,
@@ -176,8 +176,8 @@ are_last c tests turned found marks count round are marked_all back given number
         from : ComesFrom marks tests k row
         from = comes_from marks tests k row e
 
-        first : IsFirstForSome StuckAt c turned (length tests - 1 - from.place)
-        first = are.first (length tests - 1 - from.place) (turned_back found marks
+        first : IsFirstForSome StuckAt c reversed (length tests - 1 - from.place)
+        first = are.first (length tests - 1 - from.place) (reversed_back found marks
             (length tests) from.place true all_found marked_all back from.mark)
 
         f : Fault
@@ -186,13 +186,13 @@ are_last c tests turned found marks count round are marked_all back given number
         listed : Contains (faults StuckAt c) f
         listed = first.1
 
-        is : IsFirst c turned f (Some (length tests - 1 - from.place))
+        is : IsFirst c reversed f (Some (length tests - 1 - from.place))
         is = first.2
 
         same : is.0.0 ≡ row
         same =
             let own : Some is.0.0 ≡ Some row = sym is.0.1
-            ∙ turned_to tests turned (length tests) from.place row refl count round from.at in
+            ∙ reversed_to tests reversed (length tests) from.place row refl count round from.at in
             cc
 
         later : (after : ℕ) → k < after → ¬ DetectsAt c (at_marks marks tests) f after
@@ -204,7 +204,7 @@ are_last c tests turned found marks count round are marked_all back given number
             place_within tests other.place detects.0 other.at in
             let place = length tests - 1 - other.place in
             is.1 place (omega (arith, behind, within))
-            (stuck_at c turned f place detects.0 listed (turned_to tests turned
+            (stuck_at c reversed f place detects.0 listed (reversed_to tests reversed
             (length tests) other.place detects.0 refl count round other.at) detects.2)
 
 pub numbered_stuck : (c : List Statement) (tests kept : List Test) (marks : List Bool)

@@ -1,5 +1,5 @@
 mod ElementsAtMarks
 mod TestNumbers
-mod TurnedLists
+mod ReversedLists
 mod KeptTests
 pub mod Public

@@ -118,8 +118,8 @@ fn last_tests<R: Threads + Wait>(
     ensures job { job.new ≡ with_tests job.old job.new.tests }
     ensures refused { IfErr result (IsPartsFault job.old parts workers ⊤ no_stop) }
 {
-    let turned = reversed_tests(alloc, &given.tests)?;
-    job.set_tests_of_any_size_in_threads(rt, alloc, turned, workers)?;
+    let reversed = reversed_tests(alloc, &given.tests)?;
+    job.set_tests_of_any_size_in_threads(rt, alloc, reversed, workers)?;
     let mut found = finding_tests(rt, alloc, job, parts, workers)?;
     found.reverse();
     Ok(kept_tests(alloc, &given.tests, &given.numbers, &found)?)

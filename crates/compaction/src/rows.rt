@@ -73,18 +73,18 @@ fn marked_tests(alloc: Global, tests: &Tests, marks: &[bool]) -> Result<Tests, A
 
 /// Returns the tests of a list from the last to the first.
 pub fn reversed_tests(alloc: Global, tests: &Tests) -> Result<Tests, AllocError>
-    ensures count { IfOk result (λ turned. length turned.tests ≡ length tests.now.tests) }
-    ensures rows { IfOk result (λ turned.
-        ReversedBelow tests.now.tests turned.tests (length tests.now.tests)) }
-    ensures list { IfOk result (λ turned. IsTestList turned) }
-    ensures width { IfOk result (λ turned. turned.width ≡ tests.now.width) }
+    ensures count { IfOk result (λ reversed. length reversed.tests ≡ length tests.now.tests) }
+    ensures rows { IfOk result (λ reversed.
+        ReversedBelow tests.now.tests reversed.tests (length tests.now.tests)) }
+    ensures list { IfOk result (λ reversed. IsTestList reversed) }
+    ensures width { IfOk result (λ reversed. reversed.width ≡ tests.now.width) }
 {
-    let mut turned = Tests::new(alloc, tests.width());
+    let mut reversed = Tests::new(alloc, tests.width());
     let count = tests.count();
     for place in 0..count {
-        push_test(alloc, tests, count - 1 - place, &mut turned)?;
+        push_test(alloc, tests, count - 1 - place, &mut reversed)?;
     }
-    Ok(turned)
+    Ok(reversed)
 }
 
 /// Adds a test of a list to another list of the same width, if there is room for it.

@@ -9,14 +9,14 @@ use std::marker::Model;
 ///
 /// Contracts see it as the number of classes, which is the number of pieces in a row.
 #[derive(Drop)]
-pub(crate) struct Row {
+pub(crate) struct BlockRow {
     classes: u32,
     block: u32,
     // The number of its first piece, which is of class 0.
     first: u32,
 }
 
-impl Model for Row {
+impl Model for BlockRow {
     ghost use Rattle.std.specs.Prelude.{◌≡◌, ◌*◌, ℕ};
 
     ghost Value = { ℕ };
@@ -26,12 +26,12 @@ impl Model for Row {
     ghost invariant = { λ r. r.first ≡ r.classes * r.block };
 }
 
-impl Row {
+impl BlockRow {
     /// Returns the row of block 0.
-    pub(crate) fn of_block_0(classes: u32) -> Row
+    pub(crate) fn of_block_0(classes: u32) -> BlockRow
         ensures { result ≡ classes }
     {
-        Row {
+        BlockRow {
             classes,
             block: 0,
             first: 0,

@@ -17,7 +17,7 @@ ghost use Rattle.fault_ledger.specs.Seats.{Meets, Sees, Stays, class_and_block, 
 ghost use Rattle.fault_ledger.specs.Seats.{nothing_seen};
 ghost use Rattle.fault_ledger.specs.Words.{newcomer_posts, post_of};
 
-use crate::rows::Row;
+use crate::rows::BlockRow;
 use crate::words::{Group, Token, Words};
 use crate::{Claim, Closed, Finish, LedgerFault, PieceState, Refusal, Shape, Status};
 use patterns::{BLOCK_SIZE, Outcome};
@@ -63,7 +63,7 @@ pub struct Seat {
     worker: u32,
     told: bool,
     // The row of the piece that was claimed last.
-    row: Row,
+    row: BlockRow,
     piece: Option<u32>,
     // For each of the first classes what the seat has seen of it, which stays so.
     remembered: Vec<Remembered>,
@@ -514,7 +514,7 @@ fn seats_of(
             token,
             worker,
             told: false,
-            row: Row::of_block_0(shape.classes),
+            row: BlockRow::of_block_0(shape.classes),
             piece: None,
             remembered,
         })?;

@@ -7,8 +7,8 @@ use Rattle.std.specs.List.{enumerate_from}
 use Rattle.bench_net.specs.Statement.{Name, Statement}
 use Rattle.bench_net.specs.Scan.{names}
 use Rattle.bench_net.specs.Circuit.{IsCircuit, max_signals, max_sinks}
-use Rattle.lists.proofs.Members.{Among, among, joined_from, mapped_from}
-use Rattle.lists.proofs.Places.{numbered_at, place_within}
+use Rattle.list_lemmas.proofs.Members.{Among, among, joined_from, mapped_from}
+use Rattle.list_lemmas.proofs.Places.{numbered_at, place_within}
 use Rattle.fault_model.specs.declared.Line.{Line}
 use Rattle.fault_model.specs.declared.Line.TheVariants as line
 use Rattle.fault_model.specs.Fault.{branch, branches}

@@ -6,8 +6,8 @@ use Rattle.bench_net.specs.declared.Sink.TheVariants as sink
 use Rattle.bench_net.specs.Statement.{Name, Statement, Gate, Dff}
 use Rattle.bench_net.specs.Scan.{names, name_of, cell, cells, sinks, definition}
 use Rattle.bench_net.specs.Circuit.{IsWellFormed}
-use Rattle.lists.proofs.Members.{Among, contained}
-use Rattle.lists.proofs.Places.{at_place, from_mapped}
+use Rattle.list_lemmas.proofs.Members.{Among, contained}
+use Rattle.list_lemmas.proofs.Places.{at_place, from_mapped}
 use Rattle.bench_net.proofs.Public.{at_position}
 use Rattle.fault_model.proofs.SignalsDefined.{definition-signal, cell_in}
 use Rattle.fault_model.proofs.SignalsSinks.{pin_reads}

@@ -5,8 +5,8 @@ use Rattle.bench_net.specs.declared.Sink.{Sink}
 use Rattle.bench_net.specs.Statement.{Name, Statement}
 use Rattle.bench_net.specs.Scan.{observers}
 use Rattle.bench_net.specs.Circuit.{IsWellFormed, HaveArities}
-use Rattle.lists.proofs.Members.{contained, filtered_from}
-use Rattle.lists.proofs.Places.{at_place}
+use Rattle.list_lemmas.proofs.Members.{contained, filtered_from}
+use Rattle.list_lemmas.proofs.Places.{at_place}
 use Rattle.fault_model.specs.declared.Model.{Model}
 use Rattle.fault_model.specs.Fault.{Fault, faults, branch}
 use Rattle.fault_model.specs.Solution.{Test, Solves, Detects, under, shows, ShowSame}

@@ -7,7 +7,7 @@ use Rattle.std.specs.List.{list_all, enumerate_from}
 use Rattle.bench_net.specs.Statement.{Name, Statement, Gate}
 use Rattle.bench_net.specs.Scan.{signal, sources, observers}
 use Rattle.std.proofs.lemmas.Bool.{and_parts}
-use Rattle.lists.proofs.Members.{contained, Among, each_passes, some_passes}
+use Rattle.list_lemmas.proofs.Members.{contained, Among, each_passes, some_passes}
 use Rattle.fault_model.specs.declared.Line.{Line}
 use Rattle.fault_model.specs.declared.Line.TheVariants as line
 use Rattle.fault_model.specs.declared.Model.TheVariants.{Transition, TransitionPairs}
@@ -15,7 +15,7 @@ use Rattle.fault_model.specs.Fault.{Fault}
 use Rattle.fault_model.specs.Solution.{Test, Solves, Detects, value, under, pins_see, shows}
 use Rattle.fault_model.specs.Detection.{name_on, HasBit, IsInitialized, IsSecondOfPair, DetectsAt}
 use Rattle.fault_model.proofs.PlainPrograms.{bit_within, has_bit_within, detects_within, differs}
-use Rattle.lists.proofs.Places.{among_numbered_from}
+use Rattle.list_lemmas.proofs.Places.{among_numbered_from}
 
 abbrev pub same_bit : Bool → Bool → Bool
 same_bit a b = if a then b else not b

@@ -13,10 +13,10 @@ use Rattle.bench_net.specs.declared.Sink.TheVariants as sink
 use Rattle.bench_net.specs.Statement.{Name, Statement}
 use Rattle.bench_net.specs.Scan.{names, sinks}
 use Rattle.bench_net.specs.Circuit.{IsWellFormed, IsCircuit, sink_count, max_signals, max_sinks}
-use Rattle.lists.proofs.Members.{Among, joined_from, mapped_from, filtered_from}
-use Rattle.lists.proofs.Distinct.{Distinct, distinct_from_pairs, one_place_of, distinct_append}
-use Rattle.lists.proofs.Distinct.{distinct_map}
-use Rattle.lists.proofs.Places.{numbered_from, at_place}
+use Rattle.list_lemmas.proofs.Members.{Among, joined_from, mapped_from, filtered_from}
+use Rattle.list_lemmas.proofs.Distinct.{Distinct, distinct_from_pairs, one_place_of}
+use Rattle.list_lemmas.proofs.Distinct.{distinct_append, distinct_map}
+use Rattle.list_lemmas.proofs.Places.{numbered_from, at_place}
 use Rattle.fault_model.proofs.SignalsOnce.{sinks_once, one_read}
 use Rattle.fault_model.proofs.SignalsCount.{sum_over, sinks_counted}
 use Rattle.fault_model.specs.declared.Line.{Line}

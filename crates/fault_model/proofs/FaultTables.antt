@@ -4,8 +4,8 @@ use Rattle.std.proofs.Common.{Bool, true, false, List, length, get_or, arith, in
 use Rattle.std.specs.Prelude.{Contains, Option, Some, None, slice_get, flat_map, option_map}
 use Rattle.std.specs.Prelude.{option_and_then, nat_eq, IfSome}
 use Rattle.std.proofs.lemmas.Option.{slice_get-get_or}
-use Rattle.lists.proofs.Members.{Among, among, contained, joined_from}
-use Rattle.lists.proofs.Places.{place_within, within_place}
+use Rattle.list_lemmas.proofs.Members.{Among, among, contained, joined_from}
+use Rattle.list_lemmas.proofs.Places.{place_within, within_place}
 use Rattle.fault_model.specs.declared.Line.{Line}
 use Rattle.fault_model.specs.declared.Line.TheVariants as line
 use Rattle.fault_model.specs.declared.Model.{Model}

@@ -11,13 +11,13 @@ use Rattle.bench_net.specs.declared.Sink.TheVariants as sink
 use Rattle.bench_net.specs.Statement.{Name, Statement, Gate}
 use Rattle.bench_net.specs.Scan.{names, signal, name_of, sinks, gate_line}
 use Rattle.bench_net.specs.Circuit.{IsWellFormed}
-use Rattle.lists.proofs.Members.{Among, among, contained, among_append, among_left, among_joined}
-use Rattle.lists.proofs.Members.{among_right, joined_from}
+use Rattle.list_lemmas.proofs.Members.{Among, among, contained, among_append, among_left}
+use Rattle.list_lemmas.proofs.Members.{among_joined, among_right, joined_from}
 use Rattle.std.proofs.lemmas.Bool.{and_parts}
 use Rattle.bench_net.proofs.Public.{name_of-signal, signal-name_of}
 use Rattle.fault_model.proofs.SignalsDefined.{definition-signal, defined_among}
 use Rattle.fault_model.proofs.SignalsSinks.{PinReads, pin_reads}
-use Rattle.lists.proofs.Places.{among_numbered, numbered_at, at_place}
+use Rattle.list_lemmas.proofs.Places.{among_numbered, numbered_at, at_place}
 use Rattle.fault_model.specs.declared.Line.{Line}
 use Rattle.fault_model.specs.declared.Line.TheVariants as line
 use Rattle.fault_model.specs.declared.Model.{Model}

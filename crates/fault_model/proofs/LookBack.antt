@@ -9,10 +9,10 @@ use Rattle.bench_net.specs.Statement.{Name, Statement, Gate}
 use Rattle.bench_net.specs.Reading.{HasArity}
 use Rattle.bench_net.specs.Scan.{names, signal}
 use Rattle.bench_net.specs.Circuit.{IsWellFormed, HaveArities}
-use Rattle.lists.proofs.Members.{Among, contained, among_map}
+use Rattle.list_lemmas.proofs.Members.{Among, contained, among_map}
 use Rattle.bench_net.proofs.Public.{name_of-signal}
 use Rattle.fault_model.proofs.SignalsDefined.{definition-signal}
-use Rattle.lists.proofs.Places.{among_numbered}
+use Rattle.list_lemmas.proofs.Places.{among_numbered}
 use Rattle.fault_model.specs.declared.Line.TheVariants as line
 use Rattle.fault_model.specs.declared.Model.{Model}
 use Rattle.fault_model.specs.declared.Model.TheVariants.{StuckAt, Transition, TransitionPairs}

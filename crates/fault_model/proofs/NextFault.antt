@@ -9,11 +9,11 @@ use Rattle.bench_net.specs.declared.Sink.{Sink}
 use Rattle.bench_net.specs.declared.Sink.TheVariants as sink
 use Rattle.bench_net.specs.Statement.{Name, Statement, Gate}
 use Rattle.bench_net.specs.Scan.{names, name_of, sinks}
-use Rattle.lists.proofs.Members.{Among, contained}
+use Rattle.list_lemmas.proofs.Members.{Among, contained}
 use Rattle.bench_net.proofs.Public.{name_of-signal}
 use Rattle.fault_model.proofs.SignalsDefined.{defined_among}
 use Rattle.fault_model.proofs.SignalsSinks.{PinReads, pin_reads}
-use Rattle.lists.proofs.Places.{at_place, place_within, within_place}
+use Rattle.list_lemmas.proofs.Places.{at_place, place_within, within_place}
 use Rattle.fault_model.specs.declared.Line.{Line}
 use Rattle.fault_model.specs.declared.Line.TheVariants as line
 use Rattle.fault_model.specs.declared.Model.{Model}

@@ -6,11 +6,11 @@ use Rattle.std.specs.Option.{option_map_or}
 use Rattle.bench_net.specs.Statement.{Name, Statement, Gate}
 use Rattle.bench_net.specs.Scan.{names, signal, name_of}
 use Rattle.bench_net.specs.Circuit.{IsWellFormed}
-use Rattle.lists.proofs.Members.{Among, among, contained, among_filter}
+use Rattle.list_lemmas.proofs.Members.{Among, among, contained, among_filter}
 use Rattle.bench_net.proofs.Public.{name_of-signal, read_named}
 use Rattle.fault_model.proofs.SignalsDefined.{defined_among}
-use Rattle.lists.proofs.Places.{at_place, placed}
-use Rattle.lists.proofs.Distinct.{one_place_of}
+use Rattle.list_lemmas.proofs.Places.{at_place, placed}
+use Rattle.list_lemmas.proofs.Distinct.{one_place_of}
 use Rattle.fault_model.specs.declared.Line.{Line}
 use Rattle.fault_model.specs.declared.Line.TheVariants as line
 use Rattle.fault_model.specs.declared.Model.{Model}

@@ -6,10 +6,10 @@ use Rattle.bench_net.specs.Statement.{Name, Statement, Gate}
 use Rattle.bench_net.specs.Scan.{names, signal, name_of, inputs, cells, sources}
 use Rattle.bench_net.specs.Circuit.{IsWellFormed}
 use Rattle.bench_net.specs.Level.{greatest, AreLevels, HasLevel, GoesBefore, IsLevelOrder}
-use Rattle.lists.proofs.Members.{Among, among, contained, among_left, among_right, among_map}
+use Rattle.list_lemmas.proofs.Members.{Among, among, contained, among_left, among_right, among_map}
 use Rattle.bench_net.proofs.Public.{name_of-signal, read_named}
 use Rattle.fault_model.proofs.SignalsDefined.{signal_apart}
-use Rattle.lists.proofs.Places.{at_place, place_within, within_place}
+use Rattle.list_lemmas.proofs.Places.{at_place, place_within, within_place}
 use Rattle.fault_model.specs.Fault.{Fault}
 use Rattle.fault_model.proofs.OneSolution.{Driven, driven}
 use Rattle.fault_model.proofs.ListedFaults.{Step}

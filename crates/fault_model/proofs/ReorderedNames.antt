@@ -12,8 +12,8 @@ use Rattle.std.proofs.lemmas.List.Elements.{Contains-get_or}
 use Rattle.bench_net.specs.Statement.{Name, Statement, Gate, defined, read}
 use Rattle.bench_net.specs.Scan.{names}
 use Rattle.bench_net.specs.Circuit.{IsWellFormed, IsCircuit, sink_count}
-use Rattle.lists.proofs.Members.{Among, among, contained, among_joined, joined_from}
-use Rattle.lists.proofs.Distinct.{Distinct, distinct_from_pairs}
+use Rattle.list_lemmas.proofs.Members.{Among, among, contained, among_joined, joined_from}
+use Rattle.list_lemmas.proofs.Distinct.{Distinct, distinct_from_pairs}
 use Rattle.bench_net.proofs.Public.{bytes_refl, same_bytes}
 
 -- ---- what the statements give one after another, in another order

@@ -10,8 +10,8 @@ use Rattle.bench_net.specs.Statement.{Name, Statement, Gate, Input, Dff, Output,
 use Rattle.bench_net.specs.Scan.{names, name_of, signal, definition, gate_of, gate_line, sources}
 use Rattle.bench_net.specs.Circuit.{IsWellFormed}
 use Rattle.bench_net.specs.Level.{AreLevels, HasLevel}
-use Rattle.lists.proofs.Members.{Among, contained}
-use Rattle.lists.proofs.Places.{at_place, place_within, within_place}
+use Rattle.list_lemmas.proofs.Members.{Among, contained}
+use Rattle.list_lemmas.proofs.Places.{at_place, place_within, within_place}
 use Rattle.bench_net.proofs.Public.{name_of-signal, signal-name_of, definition_defines, read_named}
 use Rattle.fault_model.proofs.SignalsDefined.{definition-signal, signal_apart}
 use Rattle.fault_model.proofs.ReorderedNames.{well_reordered, length_reordered, given_reordered}

@@ -12,8 +12,9 @@ use Rattle.bench_net.specs.Statement.{Name, Statement, Input, Output, Gate, Dff}
 use Rattle.bench_net.specs.Scan.{names, signal, name_of, cell, outputs, places, pins_of}
 use Rattle.bench_net.specs.Scan.{sinks}
 use Rattle.bench_net.specs.Circuit.{IsWellFormed}
-use Rattle.lists.proofs.Members.{Among, among, contained, among_append, among_left, among_right}
-use Rattle.lists.proofs.Members.{among_joined, joined_from, among_map, mapped_from}
+use Rattle.list_lemmas.proofs.Members.{Among, among, contained, among_append, among_left}
+use Rattle.list_lemmas.proofs.Members.{among_right, among_joined, joined_from, among_map}
+use Rattle.list_lemmas.proofs.Members.{mapped_from}
 use Rattle.fault_model.specs.declared.Line.{Line}
 use Rattle.fault_model.specs.declared.Line.TheVariants as line
 use Rattle.fault_model.specs.declared.Model.{Model}

@@ -11,8 +11,8 @@ use Rattle.bench_net.specs.declared.Sink.TheVariants as sink
 use Rattle.bench_net.specs.Statement.{Name, Statement, Gate}
 use Rattle.bench_net.specs.Scan.{names, signal, sources, observers, outputs, cells}
 use Rattle.bench_net.specs.Circuit.{IsWellFormed}
-use Rattle.lists.proofs.Members.{Among, among, contained, among_append, mapped_from}
-use Rattle.lists.proofs.Places.{at_place}
+use Rattle.list_lemmas.proofs.Members.{Among, among, contained, among_append, mapped_from}
+use Rattle.list_lemmas.proofs.Places.{at_place}
 use Rattle.fault_model.proofs.SignalsDefined.{defined_among, source_named}
 use Rattle.fault_model.specs.declared.Line.{Line}
 use Rattle.fault_model.specs.declared.Line.TheVariants as line

@@ -6,8 +6,8 @@ use Rattle.std.specs.Prelude.{Option, Some, None, slice_get, map, filter, is_non
 use Rattle.std.specs.Prelude.{option_and_then, if◌then◌else◌}
 use Rattle.std.proofs.lemmas.List.{length-map, append-nil}
 use Rattle.bench_net.specs.Statement.{Statement}
-use Rattle.lists.proofs.Members.{contained}
-use Rattle.lists.proofs.Places.{at_place, place_within}
+use Rattle.list_lemmas.proofs.Members.{contained}
+use Rattle.list_lemmas.proofs.Places.{at_place, place_within}
 use Rattle.fault_model.specs.declared.Model.{Model}
 use Rattle.fault_model.specs.Fault.{Fault, faults}
 use Rattle.fault_model.specs.Collapse.{next, here, representatives, IsClassOf}

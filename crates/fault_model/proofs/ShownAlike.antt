@@ -13,13 +13,13 @@ use Rattle.bench_net.specs.Reading.{HasArity}
 use Rattle.bench_net.specs.Scan.{names, signal, definition, inputs, cell, cells, outputs, sources}
 use Rattle.bench_net.specs.Scan.{sinks, observers}
 use Rattle.bench_net.specs.Circuit.{IsWellFormed, HaveArities}
-use Rattle.lists.proofs.Members.{Among, among, contained, among_left, among_right, among_append}
-use Rattle.lists.proofs.Members.{among_map, mapped_from}
+use Rattle.list_lemmas.proofs.Members.{Among, among, contained, among_left, among_right}
+use Rattle.list_lemmas.proofs.Members.{among_append, among_map, mapped_from}
 use Rattle.bench_net.proofs.Public.{same_bytes, bytes_refl, read_named}
 use Rattle.fault_model.proofs.SignalsDefined.{signal_apart, source_definition, IsSource}
 use Rattle.fault_model.proofs.SignalsDefined.{definition-signal, defined_among, output_in, cell_in}
 use Rattle.fault_model.proofs.SignalsSinks.{pin_among, out_among, data_among}
-use Rattle.lists.proofs.Places.{placed, at_place, among_numbered, numbered_at}
+use Rattle.list_lemmas.proofs.Places.{placed, at_place, among_numbered, numbered_at}
 use Rattle.fault_model.specs.declared.Line.TheVariants as line
 use Rattle.fault_model.specs.declared.Model.{Model}
 use Rattle.fault_model.specs.declared.Model.TheVariants.{StuckAt}

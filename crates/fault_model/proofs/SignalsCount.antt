@@ -8,9 +8,9 @@ use Rattle.bench_net.specs.declared.Sink.TheVariants.{Pin, Data, Out}
 use Rattle.bench_net.specs.Statement.{Name, Statement, Input, Output, Gate, Dff, read}
 use Rattle.bench_net.specs.Scan.{names, signal, outputs, cell, places, pins_of, sinks}
 use Rattle.bench_net.specs.Circuit.{IsWellFormed, sink_count}
-use Rattle.lists.proofs.Members.{Among}
+use Rattle.list_lemmas.proofs.Members.{Among}
 use Rattle.bench_net.proofs.Public.{same_bytes}
-use Rattle.lists.proofs.Distinct.{Distinct, distinct_from_pairs}
+use Rattle.list_lemmas.proofs.Distinct.{Distinct, distinct_from_pairs}
 
 -- how often a name stands in a list
 abbrev count : Name → List Name → ℕ

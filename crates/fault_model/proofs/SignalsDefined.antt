@@ -10,12 +10,13 @@ use Rattle.bench_net.specs.Statement.{Name, Statement, Input, Output, Gate, Dff,
 use Rattle.bench_net.specs.Scan.{names, signal, name_of, definition, inputs, outputs, cells}
 use Rattle.bench_net.specs.Scan.{sources}
 use Rattle.bench_net.specs.Circuit.{IsWellFormed}
-use Rattle.lists.proofs.Members.{Among, among, contained, among_append}
+use Rattle.list_lemmas.proofs.Members.{Among, among, contained, among_append}
 pub use Rattle.bench_net.proofs.Public.{defined_among}
 use Rattle.bench_net.proofs.Public.{same_bytes, bytes_refl, at_position, name_of-signal, of_cell}
 use Rattle.bench_net.proofs.Public.{of_input}
-use Rattle.lists.proofs.Distinct.{Distinct, distinct_from_pairs, distinct_between, one_place_of}
-use Rattle.lists.proofs.Places.{at_place}
+use Rattle.list_lemmas.proofs.Distinct.{Distinct, distinct_from_pairs, distinct_between}
+use Rattle.list_lemmas.proofs.Distinct.{one_place_of}
+use Rattle.list_lemmas.proofs.Places.{at_place}
 
 -- a name other than n is no n for the test of bytes
 bytes_differ : (n m : Name) → m ≢ n → bytes_eq n m ≡ false

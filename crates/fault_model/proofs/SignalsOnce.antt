@@ -10,11 +10,12 @@ use Rattle.bench_net.specs.declared.Sink.TheVariants.{Pin, Data, Out}
 use Rattle.bench_net.specs.Statement.{Name, Statement, Input, Output, Gate, Dff}
 use Rattle.bench_net.specs.Scan.{names, signal, outputs, cells, cell, places, pins_of, sinks}
 use Rattle.bench_net.specs.Circuit.{IsWellFormed}
-use Rattle.lists.proofs.Members.{Among, contained, among_append, mapped_from, joined_from}
-use Rattle.lists.proofs.Members.{filtered_from}
+use Rattle.list_lemmas.proofs.Members.{Among, contained, among_append, mapped_from, joined_from}
+use Rattle.list_lemmas.proofs.Members.{filtered_from}
 use Rattle.bench_net.proofs.Public.{same_bytes, at_position}
-use Rattle.lists.proofs.Distinct.{Distinct, distinct_from_pairs, distinct_append, distinct_map}
-use Rattle.lists.proofs.Places.{numbered_from}
+use Rattle.list_lemmas.proofs.Distinct.{Distinct, distinct_from_pairs, distinct_append}
+use Rattle.list_lemmas.proofs.Distinct.{distinct_map}
+use Rattle.list_lemmas.proofs.Places.{numbered_from}
 use Rattle.fault_model.proofs.SignalsDefined.{signal_apart, one_definition, defined_among}
 use Rattle.fault_model.proofs.SignalsSinks.{pin_reads, places_are}
 

@@ -8,10 +8,11 @@ use Rattle.bench_net.specs.declared.Kind.{Kind}
 use Rattle.bench_net.specs.declared.Sink.TheVariants.{Pin, Data, Out}
 use Rattle.bench_net.specs.Statement.{Name, Statement, Input, Output, Gate, Dff}
 use Rattle.bench_net.specs.Scan.{signal, outputs, cell, places, pins_of, sinks}
-use Rattle.lists.proofs.Members.{Among, among_left, among_right, among_append, among_joined}
-use Rattle.lists.proofs.Members.{joined_from, among_map, mapped_from, among_filter, filtered_from}
+use Rattle.list_lemmas.proofs.Members.{Among, among_left, among_right, among_append, among_joined}
+use Rattle.list_lemmas.proofs.Members.{joined_from, among_map, mapped_from, among_filter}
+use Rattle.list_lemmas.proofs.Members.{filtered_from}
 use Rattle.bench_net.proofs.Public.{same_bytes, bytes_refl}
-use Rattle.lists.proofs.Places.{among_numbered, numbered_at}
+use Rattle.list_lemmas.proofs.Places.{among_numbered, numbered_at}
 
 -- the places of a name in a list
 among_places : (n : Name) (ns : List Name) (i : ℕ) → slice_get ns i ≡ Some n → Among i (places n ns)

@@ -6,11 +6,11 @@ use Rattle.bench_net.specs.declared.Kind.{Kind}
 use Rattle.bench_net.specs.Statement.{Name, Statement, Input, Output, Gate, Dff}
 use Rattle.bench_net.specs.Scan.{names, sources, signal, definition}
 use Rattle.bench_net.specs.Circuit.{IsWellFormed}
-use Rattle.lists.proofs.Members.{Among, among, contained}
+use Rattle.list_lemmas.proofs.Members.{Among, among, contained}
 use Rattle.bench_net.proofs.Public.{definition_defines, name_of-signal, read_named}
 use Rattle.fault_model.proofs.SignalsDefined.{definition-signal, IsSource, source_definition}
 use Rattle.fault_model.proofs.SignalsDefined.{source_place}
-use Rattle.lists.proofs.Places.{at_place}
+use Rattle.list_lemmas.proofs.Places.{at_place}
 use Rattle.fault_model.specs.declared.Line.TheVariants as line
 use Rattle.fault_model.specs.Fault.{Fault}
 use Rattle.fault_model.specs.Solution.{Test, Solves, value, under, pins_see}

@@ -10,8 +10,8 @@ use Rattle.std.proofs.lemmas.List.Sorted.{IsPermutation-refl, IsPermutation-tran
 use Rattle.std.proofs.lemmas.List.Sorted.{IsPermutation-sym, IsPermutation-cons}
 use Rattle.std.proofs.lemmas.List.Sorted.{Contains-permutation}
 use Rattle.std.proofs.lemmas.List.Sorted.{IsPermutation-to_front, IsPermutation-middle}
-use Rattle.lists.proofs.Members.{Among, among, contained, among_append, among_left, among_right}
-use Rattle.lists.proofs.Members.{among_filter, filtered_from, mapped_from}
+use Rattle.list_lemmas.proofs.Members.{Among, among, contained, among_append, among_left}
+use Rattle.list_lemmas.proofs.Members.{among_right, among_filter, filtered_from, mapped_from}
 
 -- an element stands between two lists
 split_at : (xs : List ℕ) (x : ℕ) → Among x xs → (ys zs : List ℕ) × (xs ≡ ys ++ x ∷ zs)

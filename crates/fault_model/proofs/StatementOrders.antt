@@ -20,8 +20,8 @@ use Rattle.bench_net.specs.Scan.{names, name_of, signal, definition, inputs, out
 use Rattle.bench_net.specs.Scan.{sources}
 use Rattle.bench_net.specs.Circuit.{IsWellFormed}
 use Rattle.bench_net.specs.Level.{HasLevel, IsLevelOrder, GoesBefore}
-use Rattle.lists.proofs.Members.{Among, among, contained, among_left, among_right}
-use Rattle.lists.proofs.Places.{at_place, within_place}
+use Rattle.list_lemmas.proofs.Members.{Among, among, contained, among_left, among_right}
+use Rattle.list_lemmas.proofs.Places.{at_place, within_place}
 use Rattle.bench_net.proofs.Public.{definition_defines, signal-name_of}
 use Rattle.fault_model.specs.Reordered.{IsReordered, place, in_order, IsOrderedBy}
 use Rattle.fault_model.specs.Reordered.{IsSourceAt, IsSignalOrder}

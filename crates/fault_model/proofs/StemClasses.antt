@@ -6,9 +6,9 @@ use Rattle.bench_net.specs.Statement.{Statement}
 use Rattle.bench_net.specs.Scan.{names, signal}
 use Rattle.bench_net.specs.Circuit.{IsWellFormed}
 use Rattle.bench_net.specs.Level.{IsLevelOrder}
-use Rattle.lists.proofs.Members.{among, contained}
+use Rattle.list_lemmas.proofs.Members.{among, contained}
 use Rattle.bench_net.proofs.Public.{name_of-signal}
-use Rattle.lists.proofs.Places.{at_place, placed, place_within}
+use Rattle.list_lemmas.proofs.Places.{at_place, placed, place_within}
 use Rattle.fault_model.specs.declared.Line.TheVariants as line
 use Rattle.fault_model.specs.declared.Model.{Model}
 use Rattle.fault_model.specs.Fault.{Fault, faults}

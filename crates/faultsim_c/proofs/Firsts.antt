@@ -10,7 +10,8 @@ use Rattle.fault_model.specs.Solution.{Test}
 use Rattle.block_sim.specs.First.{IsFirst}
 use Rattle.block_sim.specs.Parts.{BelongTogether, Parts}
 use Rattle.workers.specs.Verdict as verdict
-use Rattle.faultsim_c.specs.Calls.{AreFaultFirsts, AreFirsts, AreTold, first_of, told_first}
+use Rattle.faultsim_c.specs.Calls.{AreFaultFirsts, AreFirsts, AreFirstNumbers, first_of}
+use Rattle.faultsim_c.specs.Calls.{first_number}
 
 -- a number that tells a test
 first_some : (n : ℕ) → n ≢ 4294967295 → first_of n ≡ Some n
@@ -23,7 +24,7 @@ first_some n known = go (eqb_tells n 4294967295)
 
 -- a first test is that of the number that tells it
 first_told : (c : List Statement) (ts : List Test) (f : Fault) (o : Option ℕ)
-    → length ts ≤ 65536 → IsFirst c ts f o → IsFirst c ts f (first_of (told_first o))
+    → length ts ≤ 65536 → IsFirst c ts f o → IsFirst c ts f (first_of (first_number o))
 first_told c ts f None few is = is
 first_told c ts f (Some t) few is =
     let lt = slice_get_within ts t is.0.0 is.0.1 in
@@ -33,14 +34,14 @@ first_told c ts f (Some t) few is =
 pub classes_told : (parts : Parts) (classes : List ℕ) (found : List (Option ℕ)) (firsts : List ℕ)
     → BelongTogether parts
     → verdict.AreClassFirsts parts.list.model parts.circuit parts.tests.tests classes found
-    → AreTold found firsts → AreFirsts parts classes firsts
+    → AreFirstNumbers found firsts → AreFirsts parts classes firsts
 classes_told parts classes found firsts b are told = record {
   count = told.count ∙ are.count;
   first = λ k class n f own of at.
       let low = slice_get_within firsts k n at in
       let many = told.count in
       let here : k < length found = omega (arith, low, many) in
-      let is : n ≡ told_first (get_or found k None) =
+      let is : n ≡ first_number (get_or found k None) =
       sym (get_or_from_slice_get firsts k n 0 at) ∙ told.each k here in
       let few = b.tests.count in
       subst (λ m. IsFirst parts.circuit parts.tests.tests f (first_of m)) (sym is)
@@ -52,7 +53,7 @@ classes_told parts classes found firsts b are told = record {
 pub faults_told : (parts : Parts) (found : List (Option ℕ)) (firsts : List ℕ)
     → BelongTogether parts
     → verdict.AreFirsts parts.list.model parts.circuit parts.tests.tests found
-    → AreTold found firsts → AreFaultFirsts parts firsts
+    → AreFirstNumbers found firsts → AreFaultFirsts parts firsts
 faults_told parts found firsts b are told i f at =
     let low = slice_get_within (faults parts.list.model parts.circuit) i f at in
     let many = are.count in

@@ -14,8 +14,9 @@ use Rattle.bench_net.specs.Statement.{Name, Statement, Input, Output, Gate, Dff,
 use Rattle.bench_net.specs.Scan.{names, signal, observers, outputs, cells}
 use Rattle.bench_net.specs.Circuit.{IsWellFormed}
 use Rattle.bench_net.proofs.Public.{name_of-signal}
-use Rattle.lists.proofs.Members.{Among, among, contained, among_append, among_right, mapped_from}
-use Rattle.lists.proofs.Places.{at_place, numbered_at, place_within}
+use Rattle.list_lemmas.proofs.Members.{Among, among, contained, among_append, among_right}
+use Rattle.list_lemmas.proofs.Members.{mapped_from}
+use Rattle.list_lemmas.proofs.Places.{at_place, numbered_at, place_within}
 use Rattle.faultsim_c.specs.Calls.{observed}
 
 -- the numbers of the observed names: those of the outputs, and those of the cells' data pins

@@ -5,8 +5,8 @@ use Rattle.patterns.specs.declared.WordsFault.{WordsFault}
 use Rattle.patterns.specs.declared.WordsFault.TheVariants as words
 use Rattle.bench_net.specs.declared.BenchFault.TheVariants as bench
 use Rattle.patterns.specs.declared.TestFault.TheVariants as tests
-use Rattle.faultsim_c.specs.Told.{AreTooMany, IsNextRefusal, IsNextReply, IsTestsReply, IsUntaken}
-use Rattle.faultsim_c.specs.Told.{IsWordsReply, told_fault, told_status}
+use Rattle.faultsim_c.specs.Statuses.{AreTooMany, IsNextRefusal, IsNextReply, IsTestsReply}
+use Rattle.faultsim_c.specs.Statuses.{IsUntaken, IsWordsReply, error_numbers, status_number}
 use Rattle.faultsim_c.specs.declared.status.FsFault.{FsFault}
 use Rattle.faultsim_c.specs.declared.status.Refusal.{Refusal}
 use Rattle.faultsim_c.specs.declared.status.Refusal.TheVariants as refusal
@@ -19,15 +19,15 @@ five_three e = omega (arith, e)
 
 words_fault : (width count : ℕ) (ws : List ℕ) (f : WordsFault)
     → (f ≡ words.Memory) ⊎ IsWordsRefusal width count ws f
-    → told_status (refusal.Words f) ≡ 3 → IsWordsRefusal width count ws f
+    → status_number (refusal.Words f) ≡ 3 → IsWordsRefusal width count ws f
 words_fault width count ws f (inl e) three =
-    absurd (two_three (subst (λ (g : WordsFault). told_status (refusal.Words g) ≡ 3) e three))
+    absurd (two_three (subst (λ (g : WordsFault). status_number (refusal.Words g) ≡ 3) e three))
 words_fault width count ws f (inr is) three = is
 
 -- they are refused where the status is 3, and the fault tells why
 pub words_refused : (alone : Bool) (width count : ℕ) (ws : List ℕ) (r : Refusal) (told : FsFault)
-    → IsWordsReply alone width count ws r → told_status r ≡ 3 → told ≡ told_fault r
-    → (f : WordsFault) × IsWordsRefusal width count ws f × (told ≡ told_fault (refusal.Words f))
+    → IsWordsReply alone width count ws r → status_number r ≡ 3 → told ≡ error_numbers r
+    → (f : WordsFault) × IsWordsRefusal width count ws f × (told ≡ error_numbers (refusal.Words f))
 words_refused alone width count ws (refusal.Words f) told is three tells =
     (f, words_fault width count ws f is three, tells)
 words_refused alone width count ws refusal.Memory told is three tells = absurd (two_three three)
@@ -42,7 +42,7 @@ three_five : ◌≡◌ {A = ℕ} 3 5 → ⊥
 three_five e = omega (arith, e)
 
 -- the status 5 tells of a job that is shared alone
-is_shared : (r : Refusal) → told_status r ≡ 5 → r ≡ refusal.Shared
+is_shared : (r : Refusal) → status_number r ≡ 5 → r ≡ refusal.Shared
 is_shared refusal.Shared five = refl
 is_shared refusal.Memory five = absurd (two_five five)
 is_shared (refusal.Bench bench.Memory) five = absurd (two_five five)
@@ -63,13 +63,13 @@ is_shared (refusal.Words (words.IdleBits source)) five = absurd (three_five five
 
 -- so the handle isn't alone, where words aren't taken
 pub words_shared : (alone : Bool) (width count : ℕ) (ws : List ℕ) (r : Refusal)
-    → IsWordsReply alone width count ws r → told_status r ≡ 5 → alone ≡ false
+    → IsWordsReply alone width count ws r → status_number r ≡ 5 → alone ≡ false
 words_shared alone width count ws r is five =
     subst (IsWordsReply alone width count ws) (is_shared r five) is
 
 -- and where a text isn't
 pub tests_shared : (alone : Bool) (width : ℕ) (text : List ℕ) (r : Refusal)
-    → IsTestsReply alone width text r → told_status r ≡ 5 → alone ≡ false
+    → IsTestsReply alone width text r → status_number r ≡ 5 → alone ≡ false
 tests_shared alone width text r is five =
     subst (IsTestsReply alone width text) (is_shared r five) is
 
@@ -93,17 +93,17 @@ tests_untaken alone width text (refusal.Words f) is = absurd is
 
 next_fault : (old : List (List Bool)) (width count : ℕ) (ws : List ℕ) (f : WordsFault)
     → (f ≡ words.Memory) ⊎ (IsWordsRefusal width count ws f ⊎ AreTooMany old count f)
-    → told_status (refusal.Words f) ≡ 3 → IsWordsRefusal width count ws f ⊎ AreTooMany old count f
+    → status_number (refusal.Words f) ≡ 3 → IsWordsRefusal width count ws f ⊎ AreTooMany old count f
 next_fault old width count ws f (inl e) three =
-    absurd (two_three (subst (λ (g : WordsFault). told_status (refusal.Words g) ≡ 3) e three))
+    absurd (two_three (subst (λ (g : WordsFault). status_number (refusal.Words g) ≡ 3) e three))
 next_fault old width count ws f (inr is) three = is
 
 -- words are refused behind the last of other tests where the status is 3
 pub next_refused : (alone : Bool) (old : List (List Bool)) (width count : ℕ) (ws : List ℕ)
-    (r : Refusal) (told : FsFault) → IsNextReply alone old width count ws r → told_status r ≡ 3
-    → told ≡ told_fault r → (f : WordsFault)
+    (r : Refusal) (told : FsFault) → IsNextReply alone old width count ws r → status_number r ≡ 3
+    → told ≡ error_numbers r → (f : WordsFault)
     × (IsWordsRefusal width count ws f ⊎ AreTooMany old count f)
-    × (told ≡ told_fault (refusal.Words f))
+    × (told ≡ error_numbers (refusal.Words f))
 next_refused alone old width count ws (refusal.Words f) told is three tells =
     (f, next_fault old width count ws f is three, tells)
 next_refused alone old width count ws refusal.Memory told is three tells =
@@ -115,7 +115,7 @@ next_refused alone old width count ws (refusal.Tests f) told is three tells = ab
 
 -- a handle of which the status is 5 then isn't alone
 pub next_shared : (alone : Bool) (old : List (List Bool)) (width count : ℕ) (ws : List ℕ)
-    (r : Refusal) → IsNextReply alone old width count ws r → told_status r ≡ 5 → alone ≡ false
+    (r : Refusal) → IsNextReply alone old width count ws r → status_number r ≡ 5 → alone ≡ false
 next_shared alone old width count ws r is five =
     subst (IsNextReply alone old width count ws) (is_shared r five) is
 

@@ -15,7 +15,7 @@ use Rattle.block_sim.specs.First.{IsFirst}
 use Rattle.block_sim.specs.Parts.{BelongTogether, Parts}
 use Rattle.block_sim.specs.Regions.{IsStemOfClass}
 use Rattle.block_sim.specs.Words.{IsFaultFreeWord}
-use Rattle.detections.specs.Detections.{IsCount}
+use Rattle.n_detect.specs.Detections.{IsCount}
 use Rattle.report.specs.declared.contents.Contents.{Contents}
 use Rattle.report.specs.declared.contents.Lines.{Lines}
 use Rattle.report.specs.declared.contents.Lines.TheVariants.{Omitted, Undetected}
@@ -84,15 +84,15 @@ IsJobOfTexts m bench text parts = IsAccepted bench parts.circuit × (parts.list.
     × HasTests text (length (sources parts.circuit)) parts.tests
 
 -- the number that tells a first test, or that there is none
-abbrev pub told_first : Option ℕ → ℕ
-told_first (Some t) = t
-told_first None = 4294967295
+abbrev pub first_number : Option ℕ → ℕ
+first_number (Some t) = t
+first_number None = 4294967295
 
 -- numbers tell first tests, each at its place
-pub record AreTold (found : List (Option ℕ)) (firsts : List ℕ) : Type 0 where
+pub record AreFirstNumbers (found : List (Option ℕ)) (firsts : List ℕ) : Type 0 where
   pub count : length firsts ≡ length found
   pub each : (k : ℕ) → k < length found
-      → slice_index firsts k ≡ told_first (slice_index_or found k None)
+      → slice_index firsts k ≡ first_number (slice_index_or found k None)
 
 -- at each fault's place stands its class
 abbrev pub AreClassesOf : Parts → List ℕ → Type 0

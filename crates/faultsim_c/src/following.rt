@@ -4,7 +4,7 @@ ghost use Rattle.std.specs.Prelude.{◌≡◌, ◌+◌, ◌<◌, ◌≤◌, ◌+
 ghost use Rattle.std.specs.Prelude.{slice_index_or};
 ghost use Rattle.patterns.specs.Tests.{IsTestList, max_tests};
 ghost use Rattle.faultsim_c.specs.Following.{behind_last, last_of};
-ghost use Rattle.faultsim_c.specs.Told.{IsNextRefusal};
+ghost use Rattle.faultsim_c.specs.Statuses.{IsNextRefusal};
 
 use crate::status::Refusal;
 use patterns::{MAX_TESTS, PushFault, Tests, WordsFault};

@@ -7,7 +7,7 @@ ghost use Rattle.patterns.specs.Tests.{HasTests, TestList};
 ghost use Rattle.block_sim.specs.Parts.{with_tests};
 ghost use Rattle.faultsim_c.specs.Calls.{alone_with, shared_with};
 ghost use Rattle.faultsim_c.specs.Following.{following};
-ghost use Rattle.faultsim_c.specs.Told.{IsNextReply, IsTestsReply, IsWordsReply};
+ghost use Rattle.faultsim_c.specs.Statuses.{IsNextReply, IsTestsReply, IsWordsReply};
 
 use crate::session::Session;
 use crate::status::Refusal;

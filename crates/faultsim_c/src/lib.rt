@@ -23,7 +23,7 @@ ghost use Rattle.faultsim_c.specs.Calls.{AreSizes, IsCircuitJob, IsJobOfTexts, I
 ghost use Rattle.faultsim_c.specs.Calls.{alone_with, job_of, shared_with};
 ghost use Rattle.faultsim_c.specs.declared.holding.Holding.{Holding as HoldingOf};
 ghost use Rattle.faultsim_c.specs.Following.{following};
-ghost use Rattle.faultsim_c.specs.Told.{AreRefusedTexts, AreTooMany, told_fault};
+ghost use Rattle.faultsim_c.specs.Statuses.{AreRefusedTexts, AreTooMany, error_numbers};
 ghost use Rattle.faultsim_c.specs.declared.status.Refusal.TheVariants as refusal;
 
 mod counts;
@@ -110,7 +110,7 @@ pub extern "C" fn fs_job_read(
         × (job.new.held.holding ≡ Some (alone_with parts))
         × ((m : ModelOf) × IsModelNumber model m × IsCircuitJob m bench.now parts) }
     ensures refused { result ≡ 3 → (f : BenchFault) × IsRefused bench.now f
-        × (fault.new ≡ told_fault (refusal.Bench f)) }
+        × (fault.new ≡ error_numbers (refusal.Bench f)) }
     ensures range { (result ≡ 4) ↔ (2 < model) }
     ensures statuses { (result ≡ 0) ⊎ (result ≡ 2) ⊎ (result ≡ 3) ⊎ (result ≡ 4) }
     ensures kept { result ≢ 0 → job.new.held.holding ≡ job.old.held.holding }
@@ -197,7 +197,7 @@ pub extern "C" fn fs_set_words(
     ensures refused { result ≡ 3 → (parts : Parts) × (f : WordsFaultOf)
         × (job_of job.old.held.holding ≡ Some parts)
         × IsWordsRefusal (length (sources parts.circuit)) count words.now f
-        × (fault.new ≡ told_fault (refusal.Words f)) }
+        × (fault.new ≡ error_numbers (refusal.Words f)) }
     ensures no_job { (result ≡ 1) ↔ (job.old.held.holding ≡ None) }
     ensures statuses { IsSome job.old.held.holding
         → (result ≡ 0) ⊎ (result ≡ 2) ⊎ (result ≡ 3) ⊎ (result ≡ 5) }
@@ -236,7 +236,7 @@ pub extern "C" fn fs_next_words(
         × (job_of job.old.held.holding ≡ Some parts)
         × (IsWordsRefusal (length (sources parts.circuit)) count words.now f
         ⊎ AreTooMany parts.tests.tests count f)
-        × (fault.new ≡ told_fault (refusal.Words f)) }
+        × (fault.new ≡ error_numbers (refusal.Words f)) }
     ensures no_job { (result ≡ 1) ↔ (job.old.held.holding ≡ None) }
     ensures statuses { IsSome job.old.held.holding
         → (result ≡ 0) ⊎ (result ≡ 2) ⊎ (result ≡ 3) ⊎ (result ≡ 5) }
@@ -271,7 +271,7 @@ pub extern "C" fn fs_set_text(
     ensures refused { result ≡ 3 → (parts : Parts) × (f : TestFaultOf)
         × (job_of job.old.held.holding ≡ Some parts)
         × IsTestRefusal text.now (length (sources parts.circuit)) f
-        × (fault.new ≡ told_fault (refusal.Tests f)) }
+        × (fault.new ≡ error_numbers (refusal.Tests f)) }
     ensures no_job { (result ≡ 1) ↔ (job.old.held.holding ≡ None) }
     ensures statuses { IsSome job.old.held.holding
         → (result ≡ 0) ⊎ (result ≡ 2) ⊎ (result ≡ 3) ⊎ (result ≡ 5) }

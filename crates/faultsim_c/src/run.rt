@@ -1,7 +1,7 @@
 //! Runs for the first tests of classes and of faults, told by numbers.
 
 ghost use Rattle.std.specs.Prelude.{◌≡◌, ◌<◌, All, IfErr, IfOk, length, None, slice_index_or};
-ghost use Rattle.faultsim_c.specs.Calls.{AreFaultFirsts, AreFirsts, AreTold, told_first};
+ghost use Rattle.faultsim_c.specs.Calls.{AreFaultFirsts, AreFirsts, AreFirstNumbers, first_number};
 
 use crate::session::Session;
 use crate::status::NONE;
@@ -48,20 +48,20 @@ pub(crate) fn fault_firsts(
 /// Tells first tests by their numbers, as many as there is room for.
 fn tell_firsts(found: &[Option<u32>], firsts: &mut [u32])
     requires { length firsts.old ≡ length found.now }
-    ensures { AreTold found.now firsts.new }
+    ensures { AreFirstNumbers found.now firsts.new }
 {
     for place in 0..firsts.len() {
-        firsts[place] = told_first(first_at(found, place));
+        firsts[place] = first_number(first_at(found, place));
     }
 }
 
 /// Tells the first tests of all faults by their numbers.
 fn tell_verdicts(verdicts: &Verdicts, firsts: &mut [u32])
     requires { length firsts.old ≡ length verdicts.now.firsts }
-    ensures { AreTold verdicts.now.firsts firsts.new }
+    ensures { AreFirstNumbers verdicts.now.firsts firsts.new }
 {
     for fault in 0..verdicts.total() {
-        firsts[fault as usize] = told_first(verdicts.first(fault));
+        firsts[fault as usize] = first_number(verdicts.first(fault));
     }
 }
 
@@ -76,8 +76,8 @@ fn first_at(found: &[Option<u32>], place: usize) -> Option<u32>
 }
 
 /// The number that tells a first test, or that there is none.
-fn told_first(first: Option<u32>) -> u32
-    ensures { result ≡ told_first first }
+fn first_number(first: Option<u32>) -> u32
+    ensures { result ≡ first_number first }
 {
     match first {
         Some(test) => test,

@@ -9,20 +9,20 @@ ghost use Rattle.block_sim.specs.First.{AreDetecting};
 ghost use Rattle.block_sim.specs.Parts.{BelongTogether, with_tests};
 ghost use Rattle.fault_model.specs.Collapse.{IsClassOf};
 ghost use Rattle.fault_model.specs.Fault.{Fault};
-ghost use Rattle.detections.specs.Detections.{IsCount};
-ghost use Rattle.workers.specs.Listed.{ServesLists};
+ghost use Rattle.n_detect.specs.Detections.{IsCount};
+ghost use Rattle.workers.specs.ListRunners.{ServesLists};
 ghost use Rattle.workers.specs.Verdict.{AreClassFirsts, AreFirsts};
 ghost use Rattle.faultsim_c.specs.Calls.{IsCircuitJob, IsJobOfTexts};
-ghost use Rattle.faultsim_c.specs.Told.{IsBenchReply, IsTestsReply, IsTextsReply, IsUntaken};
-ghost use Rattle.faultsim_c.specs.Told.{IsNextReply, IsWordsReply};
+ghost use Rattle.faultsim_c.specs.Statuses.{IsBenchReply, IsTestsReply, IsTextsReply, IsUntaken};
+ghost use Rattle.faultsim_c.specs.Statuses.{IsNextReply, IsWordsReply};
 ghost use Rattle.faultsim_c.specs.Following.{following};
 
 use crate::following::behind_last;
 use crate::status::Refusal;
 use bench_net::{Circuit, read_bench};
 use block_sim::{Job, Workspace, detecting};
-use detections::class_detections;
 use fault_model::{Model as FaultModel, collapse, list_faults_in};
+use n_detect::class_detections;
 use patterns::{Tests, read_tests};
 use std::alloc::{AllocError, Global};
 use std::marker::Model;
@@ -39,7 +39,7 @@ pub(crate) struct Session {
 
 impl Model for Session {
     ghost use Rattle.block_sim.specs.Parts.{HasRoom, Parts};
-    ghost use Rattle.workers.specs.Listed.{ServesLists};
+    ghost use Rattle.workers.specs.ListRunners.{ServesLists};
 
     ghost Value = { Parts };
 

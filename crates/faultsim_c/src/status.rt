@@ -1,7 +1,7 @@
 //! What a call reports to C: a status, and why a text or words are wrong.
 
 ghost use Rattle.std.specs.Prelude.{◌≡◌, ◌≢◌};
-ghost use Rattle.faultsim_c.specs.Told.{told_fault, told_status};
+ghost use Rattle.faultsim_c.specs.Statuses.{error_numbers, status_number};
 
 use bench_net::{BenchFault, Limit};
 use patterns::{TestFault, WordsFault};
@@ -95,7 +95,7 @@ impl From<AllocError> for Refusal {
 
 /// Returns the kind and the place that tell of a refusal.
 fn fault_of(refusal: Refusal) -> FsFault
-    ensures { result ≡ told_fault refusal }
+    ensures { result ≡ error_numbers refusal }
 {
     let (kind, place) = match refusal {
         Refusal::Bench(BenchFault::TooLarge(Limit::Bytes)) => (1, 0),
@@ -123,7 +123,7 @@ fn fault_of(refusal: Refusal) -> FsFault
 
 /// Returns the status of a call that isn't done.
 fn status_of_refusal(refusal: Refusal) -> u32
-    ensures { result ≡ told_status refusal }
+    ensures { result ≡ status_number refusal }
 {
     match refusal {
         Refusal::Memory
@@ -137,8 +137,8 @@ fn status_of_refusal(refusal: Refusal) -> u32
 
 /// Reports a refusal: `fault` is written only if the status is [`REFUSED`].
 pub(crate) fn tell(refusal: Refusal, fault: &mut FsFault) -> u32
-    ensures status { result ≡ told_status refusal }
-    ensures fault { result ≡ 3 → fault.new ≡ told_fault refusal }
+    ensures status { result ≡ status_number refusal }
+    ensures fault { result ≡ 3 → fault.new ≡ error_numbers refusal }
     ensures kept { result ≢ 3 → fault.new ≡ fault.old }
 {
     let status = status_of_refusal(refusal);

@@ -18,10 +18,10 @@ use Rattle.workers.specs.declared.RunFault.{RunFault}
 use Rattle.workers.specs.declared.RunFault.TheVariants as run_fault
 use Rattle.workers.specs.Refused.{IsRunFault}
 use Rattle.workers.specs.Stops.{no_stop}
-use Rattle.jobs.specs.declared.fault.ReportFault.{ReportFault}
-use Rattle.jobs.specs.declared.fault.SimFault.{SimFault}
-use Rattle.jobs.specs.declared.fault.SimFault.TheVariants as fault
-use Rattle.jobs.specs.Jobs.{IsJobOf}
+use Rattle.job_loading.specs.declared.fault.ReportFault.{ReportFault}
+use Rattle.job_loading.specs.declared.fault.SimFault.{SimFault}
+use Rattle.job_loading.specs.declared.fault.SimFault.TheVariants as fault
+use Rattle.job_loading.specs.Jobs.{IsJobOf}
 use Rattle.report.specs.EndToEnd.{IsReportFault}
 use Rattle.generator.specs.Generated.{AreFewPieces, HasJob, IsGeneratorFault, IsSearchFault}
 

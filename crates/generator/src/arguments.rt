@@ -2,7 +2,7 @@
 
 ghost use Rattle.std.specs.Prelude.{◌≤◌};
 
-use crate::command::{Fault, NO_MEMORY, answer, run_words};
+use crate::command::{CommandError, NO_MEMORY, answer, run_words};
 use command_line::Files;
 use report::Out;
 use std::alloc::{AllocError, Global};
@@ -28,11 +28,11 @@ pub fn run_arguments<R: Env + HasFiles + Clock + AllocGlobal + Threads + Wait, W
 }
 
 /// Returns the arguments of the process.
-fn read_arguments<R: Env + AllocGlobal>(rt: &R) -> Result<Vec<String>, Fault<'static>> {
+fn read_arguments<R: Env + AllocGlobal>(rt: &R) -> Result<Vec<String>, CommandError<'static>> {
     let arguments = match env::args(rt) {
         Ok(arguments) => arguments,
         Err(error) if error.kind() == ErrorKind::OutOfMemory => return Err(NO_MEMORY),
-        Err(_) => return Err(Fault::NoText),
+        Err(_) => return Err(CommandError::NoText),
     };
     match arguments.collect(rt.alloc()) {
         Ok(arguments) => Ok(arguments),

@@ -4,10 +4,10 @@ ghost use Rattle.std.specs.Prelude.{◌≤◌};
 
 use crate::options::command_line;
 use crate::{Settings, generate};
+use byte_output::put_all;
 use clap::error::ErrorKind;
 use clap::{ArgMatches, Error};
 use command_line::{Source, SourceFault, model_named, status_of};
-use output::put_all;
 use report::{Formatted, Out, SimFault};
 use std::alloc::Global;
 use std::fmt::Write;
@@ -25,7 +25,7 @@ const FAILED: u8 = 3;
 
 /// The reason why nothing was written, or not all.
 #[derive(Clone, Copy)]
-pub(crate) enum Fault<'a> {
+pub(crate) enum CommandError<'a> {
     /// An argument of the process is no text.
     NoText,
     /// The command line lacks an option.
@@ -39,7 +39,7 @@ pub(crate) enum Fault<'a> {
 }
 
 /// Memory ran out.
-pub(crate) const NO_MEMORY: Fault<'static> = Fault::Sim(SimFault::Memory);
+pub(crate) const NO_MEMORY: CommandError<'static> = CommandError::Sim(SimFault::Memory);
 
 /// Runs words and returns the status: 0 for success or help, 1 for an error of the circuit, 2 for
 /// an error of the command line, 3 if a file, the output, memory or a thread failed. `words[0]` is
@@ -88,33 +88,33 @@ fn make_tests<'a, R: Threads + Wait, S: Source, W: Out, E: Out>(
     files: &mut S,
     out: &mut W,
     err: &mut E,
-) -> Result<(), Fault<'a>> {
+) -> Result<(), CommandError<'a>> {
     let settings = read_settings(matches)?;
     let bench = read_bench(alloc, matches, files)?;
     let made = match generate(rt, alloc, &bench, settings) {
         Ok(made) => made,
-        Err(fault) => return Err(Fault::Sim(fault)),
+        Err(fault) => return Err(CommandError::Sim(fault)),
     };
     if put_all(&made.tests, out).is_err() {
-        return Err(Fault::Unwritten);
+        return Err(CommandError::Unwritten);
     }
     let _ = put_all(&made.coverage, err);
     Ok(())
 }
 
 /// Returns the settings that a command line names.
-fn read_settings<'a>(matches: &ArgMatches<'a>) -> Result<Settings, Fault<'a>> {
+fn read_settings<'a>(matches: &ArgMatches<'a>) -> Result<Settings, CommandError<'a>> {
     let Some(model) = matches.get_str("model").and_then(|name| model_named(name)) else {
-        return Err(Fault::Misused("--model"));
+        return Err(CommandError::Misused("--model"));
     };
     let Some(seed) = matches.get_one::<u64>("seed") else {
-        return Err(Fault::Misused("--seed"));
+        return Err(CommandError::Misused("--seed"));
     };
     let Some(most) = matches.get_one::<u32>("most") else {
-        return Err(Fault::Misused("--most"));
+        return Err(CommandError::Misused("--most"));
     };
     let Some(workers) = matches.get_one::<u32>("workers") else {
-        return Err(Fault::Misused("--workers"));
+        return Err(CommandError::Misused("--workers"));
     };
     Ok(Settings {
         model,
@@ -129,13 +129,13 @@ fn read_bench<'a, S: Source>(
     alloc: Global,
     matches: &ArgMatches<'a>,
     files: &mut S,
-) -> Result<Vec<u8>, Fault<'a>> {
+) -> Result<Vec<u8>, CommandError<'a>> {
     let Some(path) = matches.get_str("bench") else {
-        return Err(Fault::Misused("--bench"));
+        return Err(CommandError::Misused("--bench"));
     };
     match files.read(alloc, path) {
         Ok(text) => Ok(text),
-        Err(SourceFault::Unreadable) => Err(Fault::Unreadable(path)),
+        Err(SourceFault::Unreadable) => Err(CommandError::Unreadable(path)),
         Err(SourceFault::Memory) => Err(NO_MEMORY),
     }
 }
@@ -152,26 +152,26 @@ fn answer_error<W: Out, E: Out>(error: &Error, out: &mut W, err: &mut E) -> u8
         return MISUSED;
     }
     if write!(Formatted(out), "{error}").is_err() {
-        return answer(&Fault::Unwritten, err);
+        return answer(&CommandError::Unwritten, err);
     }
     DONE
 }
 
 /// Prints an error in one line, and returns its status.
-pub(crate) fn answer<E: Out>(fault: &Fault<'_>, err: &mut E) -> u8
+pub(crate) fn answer<E: Out>(fault: &CommandError<'_>, err: &mut E) -> u8
     ensures { result ≤ 3 }
 {
     let mut text = Formatted(err);
     let _ = match fault {
-        Fault::NoText => writeln!(text, "faultgen: an argument is no text"),
-        Fault::Misused(option) => writeln!(text, "faultgen: cannot use {option}"),
-        Fault::Unreadable(path) => writeln!(text, "faultgen: cannot read {path}"),
-        Fault::Unwritten => writeln!(text, "faultgen: cannot write"),
-        Fault::Sim(fault) => writeln!(text, "faultgen: {fault}"),
+        CommandError::NoText => writeln!(text, "faultgen: an argument is no text"),
+        CommandError::Misused(option) => writeln!(text, "faultgen: cannot use {option}"),
+        CommandError::Unreadable(path) => writeln!(text, "faultgen: cannot read {path}"),
+        CommandError::Unwritten => writeln!(text, "faultgen: cannot write"),
+        CommandError::Sim(fault) => writeln!(text, "faultgen: {fault}"),
     };
     match fault {
-        Fault::NoText | Fault::Misused(_) => MISUSED,
-        Fault::Unreadable(_) | Fault::Unwritten => FAILED,
-        Fault::Sim(fault) => status_of(fault),
+        CommandError::NoText | CommandError::Misused(_) => MISUSED,
+        CommandError::Unreadable(_) | CommandError::Unwritten => FAILED,
+        CommandError::Sim(fault) => status_of(fault),
     }
 }

@@ -5,7 +5,7 @@ use Rattle.std.specs.Prelude.{Some, None, slice_get, slice_index_or}
 use Rattle.bench_net.specs.declared.ScanCell.{ScanCell}
 use Rattle.bench_net.specs.Statement.{Name, Statement, Input, Output, Gate, Dff}
 use Rattle.bench_net.specs.Scan.{names, cells, signal, name_of}
-use Rattle.lists.proofs.Members.{Among, contained}
+use Rattle.list_lemmas.proofs.Members.{Among, contained}
 use Rattle.bench_net.proofs.Public.{name_of-signal}
 
 -- what a list of stored cells has at a place where the cells of the circuit have q

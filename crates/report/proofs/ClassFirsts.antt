@@ -6,7 +6,7 @@ use Rattle.std.specs.Prelude.{slice_get, unwrap_or}
 use Rattle.std.proofs.lemmas.List.{get_or-map, length-map}
 use Rattle.std.proofs.lemmas.List.Sums.{count_by_more_no, count_by_more_yes}
 use Rattle.std.proofs.lemmas.Option.{get_or_from_slice_get, slice_get-get_or, slice_get-map}
-use Rattle.lists.proofs.Places.{from_mapped, place_within, within_place}
+use Rattle.list_lemmas.proofs.Places.{from_mapped, place_within, within_place}
 use Rattle.bench_net.specs.Statement.{Statement}
 use Rattle.bench_net.specs.Circuit.{IsCircuit}
 use Rattle.fault_model.specs.declared.Model.{Model}

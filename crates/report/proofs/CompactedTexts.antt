@@ -5,11 +5,11 @@ use Rattle.fault_model.specs.declared.Model.{Model}
 use Rattle.fault_model.specs.Solution.{Test}
 use Rattle.block_sim.specs.Parts.{Parts}
 use Rattle.compaction.specs.Compaction.{IsNumbered}
-use Rattle.output.specs.Output.{Output}
+use Rattle.byte_output.specs.Output.{Output}
 use Rattle.workers.specs.declared.RunFault.{RunFault}
-use Rattle.jobs.specs.declared.fault.SimFault.{SimFault}
-use Rattle.jobs.specs.declared.fault.SimFault.TheVariants as fault
-use Rattle.jobs.specs.Jobs.{IsJobOf}
+use Rattle.job_loading.specs.declared.fault.SimFault.{SimFault}
+use Rattle.job_loading.specs.declared.fault.SimFault.TheVariants as fault
+use Rattle.job_loading.specs.Jobs.{IsJobOf}
 use Rattle.report.specs.declared.compacted.KeptCount.{KeptCount}
 use Rattle.report.specs.declared.compacted.KeptForm.{KeptForm}
 use Rattle.report.specs.declared.compacted.KeptForm.TheVariants.{Rows}

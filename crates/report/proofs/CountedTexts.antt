@@ -3,14 +3,14 @@ use Rattle.std.proofs.Common.{◌∙◌, ap, subst}
 use Rattle.std.specs.Prelude.{⊤, ℕ, Bool, List}
 use Rattle.fault_model.specs.declared.Model.{Model}
 use Rattle.block_sim.specs.Parts.{Parts}
-use Rattle.detections.specs.Detections.{AreCounts}
+use Rattle.n_detect.specs.Detections.{AreCounts}
 use Rattle.workers.specs.declared.RunFault.{RunFault}
 use Rattle.workers.specs.declared.RunFault.TheVariants as run_fault
 use Rattle.workers.specs.Refused.{IsRunFault}
 use Rattle.workers.specs.Stops.{no_stop}
-use Rattle.jobs.specs.declared.fault.SimFault.{SimFault}
-use Rattle.jobs.specs.declared.fault.SimFault.TheVariants as fault
-use Rattle.jobs.specs.Jobs.{IsJobOf, IsJobWithin}
+use Rattle.job_loading.specs.declared.fault.SimFault.{SimFault}
+use Rattle.job_loading.specs.declared.fault.SimFault.TheVariants as fault
+use Rattle.job_loading.specs.Jobs.{IsJobOf, IsJobWithin}
 use Rattle.report.specs.Detected.{IsCountFault, IsDetectionReportOf, IsDetectionReportOfJob}
 use Rattle.report.specs.Detected.{detection_report}
 use Rattle.report.specs.EndToEnd.{IsJobReportFault, IsReportFault, IsRunReportFault}

@@ -13,13 +13,13 @@ use Rattle.std.proofs.lemmas.Option.{get_or_from_slice_get}
 use Rattle.std.specs.Prelude.{slice_get}
 use Rattle.std.proofs.Common.{subst}
 use Rattle.std.proofs.Math.Seq.{take-append_seam}
-use Rattle.lists.proofs.Places.{place_within}
+use Rattle.list_lemmas.proofs.Places.{place_within}
 use Rattle.fault_model.specs.declared.Model.{Model}
 use Rattle.block_sim.specs.Parts.{Parts}
 use Rattle.workers.specs.Verdict.{AreFirsts}
-use Rattle.jobs.specs.declared.fault.SimFault.{SimFault}
-use Rattle.jobs.specs.declared.fault.SimFault.TheVariants as fault
-use Rattle.jobs.specs.Jobs.{IsJobOf, IsJobWithin}
+use Rattle.job_loading.specs.declared.fault.SimFault.{SimFault}
+use Rattle.job_loading.specs.declared.fault.SimFault.TheVariants as fault
+use Rattle.job_loading.specs.Jobs.{IsJobOf, IsJobWithin}
 use Rattle.report.specs.EndToEnd.{IsReportFault}
 use Rattle.report.specs.Curve.{IsCurveFault, IsCurveOf, IsCurveOfJob}
 use Rattle.patterns.specs.Least.{below, from_up}

@@ -4,8 +4,8 @@ use Rattle.std.proofs.Common.{subst, inl, inr, ◌⊎◌, IsTrue, Option, Some, 
 use Rattle.std.specs.Prelude.{codes, decimal, slice_get, unwrap_or}
 use Rattle.std.specs.List.{AllZip, list_all}
 use Rattle.std.proofs.lemmas.Bool.{and_parts}
-use Rattle.lists.proofs.Members.{Among, among_append}
-use Rattle.lists.proofs.Places.{at_place}
+use Rattle.list_lemmas.proofs.Members.{Among, among_append}
+use Rattle.list_lemmas.proofs.Places.{at_place}
 use Rattle.text_lines.specs.Lines.{lines}
 use Rattle.bench_net.specs.Text.{Token, Word, Open, Close, Equals, IsToken, Spells, is_word_byte}
 use Rattle.bench_net.specs.Statement.{Name, Statement, Input, Output, Gate, Dff, defined}

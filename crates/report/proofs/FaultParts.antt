@@ -5,8 +5,8 @@ use Rattle.std.specs.Prelude.{Contains, slice_get}
 use Rattle.std.proofs.Math.Nat.{mod-lt}
 use Rattle.std.proofs.lemmas.List.Elements.{Contains-append_cases, Contains-append_left}
 use Rattle.std.proofs.lemmas.List.Elements.{Contains-append_right}
-use Rattle.lists.proofs.Members.{among, contained}
-use Rattle.lists.proofs.Places.{place_within, within_place}
+use Rattle.list_lemmas.proofs.Members.{among, contained}
+use Rattle.list_lemmas.proofs.Places.{place_within, within_place}
 use Rattle.bench_net.specs.Statement.{Statement}
 use Rattle.bench_net.specs.Circuit.{IsWellFormed}
 use Rattle.fault_model.specs.declared.Model.{Model}

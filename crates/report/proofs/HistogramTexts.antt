@@ -12,19 +12,19 @@ use Rattle.patterns.specs.Least.{below}
 use Rattle.patterns.proofs.Public.{get_or-below, get_or-map-below, length-below}
 use Rattle.patterns.proofs.Public.{length-map-below}
 use Rattle.block_sim.specs.Parts.{Parts}
-use Rattle.detections.specs.Detections.{AreCounts}
-use Rattle.jobs.specs.declared.fault.SimFault.{SimFault}
-use Rattle.jobs.specs.declared.fault.SimFault.TheVariants as fault
-use Rattle.jobs.specs.declared.split.Split.{Split}
-use Rattle.jobs.specs.declared.split.Split.TheVariants as split
-use Rattle.jobs.specs.Jobs.{IsJobFault, IsJobOf, IsReadFault}
-use Rattle.jobs.specs.Splits.{IsSplitFault, IsSplitOf}
+use Rattle.n_detect.specs.Detections.{AreCounts}
+use Rattle.job_loading.specs.declared.fault.SimFault.{SimFault}
+use Rattle.job_loading.specs.declared.fault.SimFault.TheVariants as fault
+use Rattle.job_loading.specs.declared.split.Split.{Split}
+use Rattle.job_loading.specs.declared.split.Split.TheVariants as split
+use Rattle.job_loading.specs.Jobs.{IsJobFault, IsJobOf, IsReadFault}
+use Rattle.job_loading.specs.Splits.{IsSplitFault, IsSplitOf}
 use Rattle.report.specs.Detected.{IsCountFault, detection_report}
 use Rattle.report.specs.EndToEnd.{IsJobReportFault, IsReportFault, IsTextFault}
 use Rattle.report.specs.Histogram.{IsCountedFault, IsHistogramReportOf, IsHistogramReportOfJob}
 use Rattle.report.specs.Histogram.{faults_with, histogram, histogram_line, histogram_text, one_with}
-use Rattle.output.specs.Output.{Output, TakesAll, TakesFront}
-use Rattle.output.proofs.Public.{flat_map_cut, flat_map_taken, stopped, takes_more}
+use Rattle.byte_output.specs.Output.{Output, TakesAll, TakesFront}
+use Rattle.byte_output.proofs.Public.{flat_map_cut, flat_map_taken, stopped, takes_more}
 use Rattle.report.proofs.CountedTexts.{job_count_fault}
 use Rattle.report.proofs.LinesByPairs.{zipped_by}
 use Rattle.report.proofs.ReportsOfTexts.{text_fault}

@@ -6,9 +6,9 @@ use Rattle.bench_net.specs.Statement.{Statement}
 use Rattle.patterns.specs.declared.TestFault.{TestFault}
 use Rattle.patterns.specs.declared.TestFault.TheVariants as test_fault
 use Rattle.patterns.specs.Tests.{TestList, HasTests}
-use Rattle.jobs.specs.declared.fault.SimFault.{SimFault}
-use Rattle.jobs.specs.declared.fault.SimFault.TheVariants as fault
-use Rattle.jobs.specs.Jobs.{IsInputFault}
+use Rattle.job_loading.specs.declared.fault.SimFault.{SimFault}
+use Rattle.job_loading.specs.declared.fault.SimFault.TheVariants as fault
+use Rattle.job_loading.specs.Jobs.{IsInputFault}
 use Rattle.pairs.specs.Pairs.{IsPairingFault}
 use Rattle.report.specs.Pairs.{IsPairsFault}
 

@@ -4,9 +4,9 @@ use Rattle.std.proofs.Common.{◌≡◌, ◌≤◌, ◌<◌, ℕ, zero, suc, ◌
 use Rattle.std.proofs.Common.{get_or, arith, refl, sym, ◌∙◌, append-nil}
 use Rattle.std.specs.Prelude.{Some, None, slice_get, zip, unwrap_or}
 use Rattle.std.specs.List.{flat_map}
-use Rattle.lists.proofs.Places.{within_place}
-use Rattle.output.specs.Output.{Output, TakesAll, TakesFront}
-use Rattle.output.proofs.Public.{takes_more, stopped, flat_map_cut, flat_map_taken}
+use Rattle.list_lemmas.proofs.Places.{within_place}
+use Rattle.byte_output.specs.Output.{Output, TakesAll, TakesFront}
+use Rattle.byte_output.proofs.Public.{takes_more, stopped, flat_map_cut, flat_map_taken}
 
 -- all pairs of a zip
 pub all_zipped : {F X : Type 0} (fs : List F) (xs : List X) (i : ℕ) → length xs ≡ length fs

@@ -6,9 +6,9 @@ use Rattle.bench_net.specs.declared.Sink.{Sink}
 use Rattle.bench_net.specs.declared.Sink.TheVariants as sink
 use Rattle.bench_net.specs.Statement.{Name, Statement, Input, Output, Gate, Dff}
 use Rattle.bench_net.specs.Scan.{names, signal, cell, cells, sinks, name_of}
-use Rattle.lists.proofs.Members.{Among, contained}
+use Rattle.list_lemmas.proofs.Members.{Among, contained}
 use Rattle.bench_net.proofs.Public.{name_of-signal, at_position}
-use Rattle.lists.proofs.Places.{place_within, within_place, at_place}
+use Rattle.list_lemmas.proofs.Places.{place_within, within_place, at_place}
 use Rattle.fault_model.specs.declared.Line.{Line}
 use Rattle.fault_model.specs.declared.Model.{Model}
 use Rattle.fault_model.specs.Fault.{Fault, branch, faults}

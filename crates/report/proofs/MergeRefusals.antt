@@ -8,9 +8,9 @@ use Rattle.std.proofs.lemmas.List.{length-map}
 use Rattle.std.proofs.lemmas.List.Elements.{Contains-append_cases, Contains-append_left}
 use Rattle.std.proofs.lemmas.List.Elements.{Contains-append_right}
 use Rattle.std.proofs.lemmas.Option.{get_or_from_slice_get, slice_get-get_or, slice_get_within}
-use Rattle.lists.proofs.Members.{Among, among, contained}
-use Rattle.lists.proofs.Distinct.{Distinct, distinct_from_pairs}
-use Rattle.lists.proofs.Places.{at_place, place_within, within_place}
+use Rattle.list_lemmas.proofs.Members.{Among, among, contained}
+use Rattle.list_lemmas.proofs.Distinct.{Distinct, distinct_from_pairs}
+use Rattle.list_lemmas.proofs.Places.{at_place, place_within, within_place}
 use Rattle.bench_net.specs.Statement.{Statement}
 use Rattle.bench_net.specs.Circuit.{IsCircuit, IsWellFormed, max_signals, max_sinks}
 use Rattle.bench_net.specs.Refusal.{IsAccepted}
@@ -28,7 +28,7 @@ use Rattle.report.specs.Merging.{IsFirstRefusal, IsJoined, IsMerged, IsMergeRefu
 use Rattle.report.specs.PartReading.{IsPart, IsPartRefusal}
 use Rattle.report.specs.PartText.{PartHead}
 use Rattle.report.specs.Report.{fault_text}
-use Rattle.report.specs.WholeMerge.{AreAllPartsOf, IsForMemory, IsPartOf, IsRefusedBehind}
+use Rattle.report.specs.WholeMerge.{AreAllPartsOf, IsForMemory, IsPartOf, IsLaterRefusal}
 use Rattle.report.specs.WholeMerge.{IsRefusedMerge, PartedRun}
 use Rattle.report.proofs.FaultParts.{TellPart, TellsSeen, one_part_of, part_told, seen_more}
 use Rattle.report.proofs.FaultParts.{seen_one, some_part_of}
@@ -305,7 +305,7 @@ behind_refused : (run : PartedRun) (c : List Statement) (numbers : List ℕ)
     (texts : List (List ℕ)) (old : MergeState) (f : MergeFault)
     → IsKnown run c → IsCircuit c → 0 < run.parts
     → 0 < length (faults run.model c) → IsWhole run c old → AreToCome run old.seen numbers texts
-    → IsRefusedBehind old texts f → IsForMemory f
+    → IsLaterRefusal old texts f → IsForMemory f
 behind_refused run c [] [] old f known is some any was come r =
     end_refused run c old f known is some any was (λ part lt. there part (come.all part lt)) r
   where

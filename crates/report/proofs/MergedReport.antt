@@ -22,12 +22,12 @@ use Rattle.workers.specs.Part.{ArePartVerdicts}
 use Rattle.workers.specs.Verdict.{AreFirsts}
 use Rattle.report.specs.declared.contents.Lines.{Lines}
 use Rattle.report.specs.declared.contents.Lines.TheVariants.{Omitted}
-use Rattle.jobs.specs.Jobs.{IsJobOf}
+use Rattle.job_loading.specs.Jobs.{IsJobOf}
 use Rattle.report.specs.EndToEnd.{IsReportOf}
 use Rattle.report.specs.Merging.{AreOfOneRun, IsFirstMerged, IsJoined, IsMerged, IsWholeRun}
 use Rattle.report.specs.Merging.{MergedRun, MergeState}
 use Rattle.report.specs.WholeMerge.{AreMerged, IsMergeOf, IsPartOf, IsSomePartOf}
-use Rattle.report.specs.WholeMerge.{IsSomePartToldFrom, IsToldFrom, PartedRun}
+use Rattle.report.specs.WholeMerge.{IsSomePartDistinguished, IsDistinguished, PartedRun}
 use Rattle.report.specs.PartText.{PartHead, head_of, model_name, sum_text}
 use Rattle.report.specs.PartReading.{IsPart}
 use Rattle.report.specs.Report.{class_coverage_line, fault_text, report, report_text}
@@ -125,7 +125,7 @@ part_firsts m bench text job parts part verdicts c tests circuit same_tests is a
 -- a job of a run that the sums tell from another, and that begins with the other's first line, is
 -- one of the other
 pub job_of_run : (run other : PartedRun) (part to : ℕ) (old head : PartHead) (job : Parts)
-    → IsToldFrom run other → old ≡ head_in_run run to → head ≡ head_in_run other part
+    → IsDistinguished run other → old ≡ head_in_run run to → head ≡ head_in_run other part
     → AreOfOneRun old head → IsJobOf other.model other.bench other.tests job
     → IsJobOf run.model run.bench run.tests job
 job_of_run run other part to old head job apart is was same of =
@@ -153,7 +153,7 @@ job_of_run run other part to old head job apart is was same of =
 sound_more : (run : PartedRun) (bytes : List ℕ) (c : List Statement) (tests : List Test)
     (old new : MergeState) → OneCircuit → IsAccepted run.bench c
     → ((job : Parts) → IsJobOf run.model run.bench run.tests job → job.tests.tests ≡ tests)
-    → IsSomePartToldFrom run bytes → IsMerged old bytes new → IsSound run c tests old
+    → IsSomePartDistinguished run bytes → IsMerged old bytes new → IsSound run c tests old
     → IsSound run c tests new
 sound_more run bytes c tests old new one accepted alike (other, apart, (part, of)) is was = record {
   part = was.part;
@@ -203,7 +203,7 @@ sound_more run bytes c tests old new one accepted alike (other, apart, (part, of
 sound_all : (run : PartedRun) (c : List Statement) (tests : List Test) (others : List (List ℕ))
     (old new : MergeState) → OneCircuit → IsAccepted run.bench c
     → ((job : Parts) → IsJobOf run.model run.bench run.tests job → job.tests.tests ≡ tests)
-    → All (IsSomePartToldFrom run) others → AreMerged others old new → IsSound run c tests old
+    → All (IsSomePartDistinguished run) others → AreMerged others old new → IsSound run c tests old
     → IsSound run c tests new
 sound_all run c tests [] old new one accepted same_tests all are was =
     subst (IsSound run c tests) (sym are) was
@@ -230,7 +230,7 @@ firsts_are run c tests s merged sound whole = record {
 -- its report
 merge_of_run : OneCircuit → (run : PartedRun) (first : List ℕ) (others : List (List ℕ))
     (merged : MergedRun) (lines : Lines) → IsSomePartOf run first
-    → All (IsSomePartToldFrom run) others → IsMergeOf first others merged
+    → All (IsSomePartDistinguished run) others → IsMergeOf first others merged
     → (job : Parts) × IsJobOf run.model run.bench run.tests job
     × AreFirsts run.model job.circuit job.tests.tests merged.firsts
     × (report_text merged.faults merged.firsts lines
@@ -251,7 +251,7 @@ merge_of_run one run first others merged lines of all is =
 
 pub report_of_merge : OneCircuit → (run : PartedRun) (first : List ℕ) (others : List (List ℕ))
     (merged : MergedRun) (lines : Lines) → IsSomePartOf run first
-    → All (IsSomePartToldFrom run) others → IsMergeOf first others merged
+    → All (IsSomePartDistinguished run) others → IsMergeOf first others merged
     → IsReportOf run.model run.bench run.tests (record { lines = lines; classes = false })
     (report_text merged.faults merged.firsts lines)
 report_of_merge one run first others merged lines of all is =
@@ -272,7 +272,7 @@ report_of_merge one run first others merged lines of all is =
 -- the same with the coverage of the classes of the run's circuit
 pub class_report_of_merge : OneCircuit → (run : PartedRun) (first : List ℕ)
     (others : List (List ℕ)) (merged : MergedRun) (lines : Lines) (c : List Statement)
-    (classes : Collapsed) → IsSomePartOf run first → All (IsSomePartToldFrom run) others
+    (classes : Collapsed) → IsSomePartOf run first → All (IsSomePartDistinguished run) others
     → IsMergeOf first others merged → IsAccepted run.bench c → AreClassesOf run.model c classes
     → IsReportOf run.model run.bench run.tests (record { lines = lines; classes = true })
     (report_text merged.faults merged.firsts lines ++ class_coverage_line classes merged.firsts)
@@ -295,7 +295,7 @@ class_report_of_merge one run first others merged lines c classes of all is acce
 -- its first tests are those of the circuit that the run's bench text is read as
 pub firsts_of_merge : OneCircuit → (run : PartedRun) (first : List ℕ) (others : List (List ℕ))
     (merged : MergedRun) (c : List Statement) → IsSomePartOf run first
-    → All (IsSomePartToldFrom run) others → IsMergeOf first others merged
+    → All (IsSomePartDistinguished run) others → IsMergeOf first others merged
     → IsAccepted run.bench c → (tests : TestList) × HasTests run.tests (length (sources c)) tests
     × AreFirsts run.model c tests.tests merged.firsts
 firsts_of_merge one run first others merged c of all is accepted =

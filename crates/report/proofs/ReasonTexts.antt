@@ -8,7 +8,7 @@ use Rattle.fault_model.specs.Collapse.{AreClassesOf}
 use Rattle.fault_model.specs.Fault.{Fault, FaultList}
 use Rattle.block_sim.specs.Parts.{BelongTogether, Parts}
 use Rattle.workers.specs.Verdict.{AreFirsts}
-use Rattle.jobs.specs.Jobs.{IsJobOf}
+use Rattle.job_loading.specs.Jobs.{IsJobOf}
 use Rattle.undetected.specs.declared.Reason.{Reason}
 use Rattle.undetected.specs.declared.Reason.TheVariants.{NoPath, NotActivated, NotObserved}
 use Rattle.undetected.specs.Reasons.{AreReasons}

@@ -12,11 +12,11 @@ use Rattle.patterns.specs.Tests.{HasTests, TestList}
 use Rattle.block_sim.specs.Parts.{Parts, piece_count}
 use Rattle.workers.specs.declared.RunFault.{RunFault}
 use Rattle.workers.specs.Verdict.{AreFirsts}
-use Rattle.output.specs.Output.{Output}
-use Rattle.jobs.specs.declared.fault.SimFault.{SimFault}
-use Rattle.jobs.specs.declared.fault.SimFault.TheVariants as fault
-use Rattle.jobs.specs.Jobs.{IsJobOf, IsJobWithin, IsPiecesFault}
-use Rattle.jobs.proofs.Public.{job_of_texts}
+use Rattle.byte_output.specs.Output.{Output}
+use Rattle.job_loading.specs.declared.fault.SimFault.{SimFault}
+use Rattle.job_loading.specs.declared.fault.SimFault.TheVariants as fault
+use Rattle.job_loading.specs.Jobs.{IsJobOf, IsJobWithin, IsPiecesFault}
+use Rattle.job_loading.proofs.Public.{job_of_texts}
 use Rattle.report.specs.EndToEnd.{WritesOneOf, IsListingOf, IsReportOf, IsReportOfJob}
 use Rattle.report.specs.EndToEnd.{IsListFault, IsListingFault, IsListingOfCircuit}
 use Rattle.report.specs.EndToEnd.{IsReportFault, IsRunReportFault, IsJobReportFault, IsTextFault}

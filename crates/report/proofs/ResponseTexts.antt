@@ -1,8 +1,8 @@
 -- The responses of texts.
 use Rattle.std.proofs.Common.{ℕ, List}
-use Rattle.jobs.specs.declared.fault.SimFault.{SimFault}
-use Rattle.jobs.specs.declared.fault.SimFault.TheVariants as fault
-use Rattle.jobs.specs.Jobs.{IsInputFault}
+use Rattle.job_loading.specs.declared.fault.SimFault.{SimFault}
+use Rattle.job_loading.specs.declared.fault.SimFault.TheVariants as fault
+use Rattle.job_loading.specs.Jobs.{IsInputFault}
 use Rattle.report.specs.Responses.{AreInputs, AreResponsesOf, IsResponsesFault}
 
 -- a fault of the texts is one of the responses

@@ -13,8 +13,8 @@ use Rattle.workers.specs.declared.RunFault.{RunFault}
 use Rattle.workers.specs.declared.RunFault.TheVariants as run_fault
 use Rattle.workers.specs.Refused.{IsScheduleFault}
 use Rattle.workers.specs.Verdict.{AreFirsts}
-use Rattle.jobs.specs.declared.fault.SimFault.TheVariants as fault
-use Rattle.jobs.specs.Jobs.{IsJobWithin}
+use Rattle.job_loading.specs.declared.fault.SimFault.TheVariants as fault
+use Rattle.job_loading.specs.Jobs.{IsJobWithin}
 use Rattle.report.specs.declared.contents.Contents.{Contents}
 use Rattle.report.specs.EndToEnd.{IsReportOfJob, IsScheduleTextFault}
 use Rattle.report.specs.Report.{whole_report}

@@ -8,12 +8,12 @@ use Rattle.workers.specs.declared.RunFault.TheVariants as run_fault
 use Rattle.workers.specs.Part.{parts_for}
 use Rattle.workers.specs.Refused.{ArePartsWithin, IsPartsFault}
 use Rattle.workers.specs.Stops.{Stops, no_stop}
-use Rattle.jobs.specs.declared.fault.SimFault.{SimFault}
-use Rattle.jobs.specs.declared.fault.SimFault.TheVariants as fault
-use Rattle.jobs.specs.declared.split.Split.{Split}
-use Rattle.jobs.specs.declared.split.Split.TheVariants as split
-use Rattle.jobs.specs.Jobs.{IsJobOf, IsJobWithin}
-use Rattle.jobs.specs.Splits.{IsSplitFault, IsSplitOf}
+use Rattle.job_loading.specs.declared.fault.SimFault.{SimFault}
+use Rattle.job_loading.specs.declared.fault.SimFault.TheVariants as fault
+use Rattle.job_loading.specs.declared.split.Split.{Split}
+use Rattle.job_loading.specs.declared.split.Split.TheVariants as split
+use Rattle.job_loading.specs.Jobs.{IsJobOf, IsJobWithin}
+use Rattle.job_loading.specs.Splits.{IsSplitFault, IsSplitOf}
 use Rattle.report.specs.EndToEnd.{IsFittingFault, IsJobReportFault, IsJobTextFault, IsReportFault}
 use Rattle.report.specs.EndToEnd.{IsTextFault, IsWatchedFault, IsWithin}
 use Rattle.workers.proofs.Public.{parts_fault}

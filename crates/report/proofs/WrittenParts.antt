@@ -6,7 +6,7 @@ use Rattle.std.specs.List.{AllByRecursion}
 use Rattle.std.proofs.lemmas.List.{length-map}
 use Rattle.hex.specs.Hex.{encode_with, lower_digits}
 use Rattle.sha2.specs.Sha256.{sha256}
-use Rattle.lists.proofs.Places.{place_within, within_place}
+use Rattle.list_lemmas.proofs.Places.{place_within, within_place}
 use Rattle.bench_net.specs.Statement.{Statement}
 use Rattle.fault_model.specs.declared.Model.{Model}
 use Rattle.fault_model.specs.declared.Model.TheVariants.{StuckAt, Transition, TransitionPairs}
@@ -17,7 +17,7 @@ use Rattle.workers.specs.declared.parts.PartVerdict.{PartVerdict}
 use Rattle.workers.specs.declared.parts.PartVerdict.TheVariants.{First, OtherPart}
 use Rattle.workers.specs.Part.{ArePartVerdicts}
 use Rattle.report.specs.Cut.{Lacks}
-use Rattle.jobs.specs.Jobs.{IsJobOf}
+use Rattle.job_loading.specs.Jobs.{IsJobOf}
 use Rattle.report.specs.PartText.{IsPartTextOf, part_text, head_of, model_name, rule_name, sum_text}
 use Rattle.report.specs.PartReading.{IsHead, IsLine, IsPart, IsVerdict, IsWord}
 use Rattle.report.specs.Report.{fault_text}

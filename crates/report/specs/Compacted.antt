@@ -10,9 +10,9 @@ use Rattle.patterns.specs.Making.{test_text}
 use Rattle.patterns.specs.Tests.{TestList, HasTests}
 use Rattle.block_sim.specs.Parts.{Parts}
 use Rattle.compaction.specs.Compaction.{IsCompaction, IsNumbered}
-use Rattle.jobs.specs.declared.fault.SimFault.{SimFault}
-use Rattle.jobs.specs.declared.fault.SimFault.TheVariants as fault
-use Rattle.output.specs.Output.{Output, TakesAll, TakesFront}
+use Rattle.job_loading.specs.declared.fault.SimFault.{SimFault}
+use Rattle.job_loading.specs.declared.fault.SimFault.TheVariants as fault
+use Rattle.byte_output.specs.Output.{Output, TakesAll, TakesFront}
 use Rattle.report.specs.declared.compacted.KeptCount.{KeptCount}
 use Rattle.report.specs.declared.compacted.KeptForm.{KeptForm}
 use Rattle.report.specs.declared.compacted.KeptForm.TheVariants.{Numbers, Rows}

@@ -2,7 +2,7 @@
 use Rattle.std.specs.Prelude.{ℕ, List, Option, length}
 use Rattle.fault_model.specs.Collapse.{Collapsed}
 use Rattle.fault_model.specs.Solution.{Test}
-use Rattle.jobs.specs.declared.watch.ReasonCounts.{ReasonCounts}
+use Rattle.job_loading.specs.declared.watch.ReasonCounts.{ReasonCounts}
 use Rattle.undetected.specs.declared.Reason.{Reason}
 use Rattle.undetected.specs.declared.Reason.TheVariants.{NoPath, NotActivated, NotObserved}
 use Rattle.workers.specs.Verdict.{detected_count}

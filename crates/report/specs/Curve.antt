@@ -11,8 +11,8 @@ use Rattle.block_sim.specs.Parts.{Parts}
 use Rattle.workers.specs.Verdict.{AreFirsts, detected_count}
 use Rattle.compaction.specs.Compaction.{finds, is_first}
 use Rattle.report.specs.declared.curve.CurvePoint.{CurvePoint}
-use Rattle.jobs.specs.declared.fault.SimFault.{SimFault}
-use Rattle.jobs.specs.declared.fault.SimFault.TheVariants as fault
+use Rattle.job_loading.specs.declared.fault.SimFault.{SimFault}
+use Rattle.job_loading.specs.declared.fault.SimFault.TheVariants as fault
 use Rattle.report.specs.EndToEnd.{IsRunReportFault}
 use Rattle.report.specs.Report.{coverage_line, percentage}
 

@@ -1,6 +1,6 @@
 -- The text of how many tests detect each fault.
-use Rattle.std.specs.Prelude.{◌≡◌, ℕ, ◌<◌, ◌≤◌, Bool, List, [], ◌++◌, count_by, codes, decimal, flat_map}
-use Rattle.std.specs.Prelude.{if◌then◌else◌, length, nat_le, zip}
+use Rattle.std.specs.Prelude.{◌≡◌, ℕ, ◌<◌, ◌≤◌, Bool, List, [], ◌++◌, count_by, codes, decimal}
+use Rattle.std.specs.Prelude.{flat_map, if◌then◌else◌, length, nat_le, zip}
 use Rattle.bench_net.specs.Statement.{Statement}
 use Rattle.bench_net.specs.Refusal.{IsAccepted}
 use Rattle.bench_net.specs.Scan.{sources}
@@ -8,7 +8,7 @@ use Rattle.fault_model.specs.declared.Model.{Model}
 use Rattle.fault_model.specs.Fault.{Fault, faults}
 use Rattle.patterns.specs.Tests.{TestList, HasTests}
 use Rattle.block_sim.specs.Parts.{Parts}
-use Rattle.detections.specs.Detections.{AreCounts}
+use Rattle.n_detect.specs.Detections.{AreCounts}
 use Rattle.workers.specs.declared.RunFault.{RunFault}
 use Rattle.workers.specs.declared.RunFault.TheVariants.{Memory, Threads}
 use Rattle.workers.specs.Refused.{IsWorkersFault}

@@ -8,10 +8,10 @@ use Rattle.fault_model.specs.declared.Model.{Model}
 use Rattle.patterns.specs.Least.{below}
 use Rattle.patterns.specs.Tests.{TestList, HasTests}
 use Rattle.block_sim.specs.Parts.{Parts}
-use Rattle.detections.specs.Detections.{AreCounts}
-use Rattle.jobs.specs.declared.fault.SimFault.{SimFault}
-use Rattle.jobs.specs.declared.split.Split.{Split}
-use Rattle.jobs.specs.declared.split.Split.TheVariants as split
+use Rattle.n_detect.specs.Detections.{AreCounts}
+use Rattle.job_loading.specs.declared.fault.SimFault.{SimFault}
+use Rattle.job_loading.specs.declared.split.Split.{Split}
+use Rattle.job_loading.specs.declared.split.Split.TheVariants as split
 use Rattle.report.specs.Detected.{IsCountFault, detection_report}
 use Rattle.report.specs.EndToEnd.{IsReportFault, IsTextFault}
 

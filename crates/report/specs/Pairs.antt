@@ -6,9 +6,9 @@ use Rattle.bench_net.specs.Refusal.{IsAccepted}
 use Rattle.patterns.specs.declared.TestFault.TheVariants as test_fault
 use Rattle.patterns.specs.Making.{test_text}
 use Rattle.patterns.specs.Tests.{TestList, HasTests}
-use Rattle.jobs.specs.declared.fault.SimFault.{SimFault}
-use Rattle.jobs.specs.declared.fault.SimFault.TheVariants as fault
-use Rattle.jobs.specs.Jobs.{IsInputFault}
+use Rattle.job_loading.specs.declared.fault.SimFault.{SimFault}
+use Rattle.job_loading.specs.declared.fault.SimFault.TheVariants as fault
+use Rattle.job_loading.specs.Jobs.{IsInputFault}
 use Rattle.pairs.specs.Pairs.{AreLaunchPairs, AreTooManyPairs}
 use Rattle.report.specs.Responses.{IsResponsesFault}
 

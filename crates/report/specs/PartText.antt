@@ -13,7 +13,7 @@ use Rattle.hex.specs.Hex.{encode_lower}
 use Rattle.sha2.specs.Sha256.{sha256}
 use Rattle.report.specs.declared.part.Head.{Head}
 use Rattle.report.specs.Report.{first_text, fault_text}
-use Rattle.jobs.specs.Jobs.{IsJobOf}
+use Rattle.job_loading.specs.Jobs.{IsJobOf}
 
 -- What the first line of a part text says: the part, from 0, and of how many it is one; then, as
 -- words, the model, the rule by which parts are made, and the sums of the bench text and of the

@@ -6,9 +6,9 @@ use Rattle.bench_net.specs.Refusal.{IsAccepted}
 use Rattle.patterns.specs.Making.{test_text}
 use Rattle.patterns.specs.Tests.{TestList, HasTests}
 use Rattle.block_sim.specs.Responses.{AreResponses}
-use Rattle.jobs.specs.declared.fault.SimFault.{SimFault}
-use Rattle.jobs.specs.declared.fault.SimFault.TheVariants as fault
-use Rattle.jobs.specs.Jobs.{IsInputFault}
+use Rattle.job_loading.specs.declared.fault.SimFault.{SimFault}
+use Rattle.job_loading.specs.declared.fault.SimFault.TheVariants as fault
+use Rattle.job_loading.specs.Jobs.{IsInputFault}
 
 -- the bytes are the responses of a bench text to a test text: for each test a row of bits
 abbrev pub AreResponsesOf : List ℕ → List ℕ → List ℕ → Type 0

@@ -27,13 +27,14 @@ abbrev pub IsSomePartOf : PartedRun → List ℕ → Type 0
 IsSomePartOf run bytes = (part : ℕ) × IsPartOf run part bytes
 
 -- The sums tell another run from this one: a text with the same sum is the same text.
-pub record IsToldFrom (run other : PartedRun) : Type 0 where
+pub record IsDistinguished (run other : PartedRun) : Type 0 where
   pub bench : sum_text other.bench ≡ sum_text run.bench → other.bench ≡ run.bench
   pub tests : sum_text other.tests ≡ sum_text run.tests → other.tests ≡ run.tests
 
 -- the bytes are the text of some part of some run that the sums tell from this one, or of this one
-abbrev pub IsSomePartToldFrom : PartedRun → List ℕ → Type 0
-IsSomePartToldFrom run bytes = (other : PartedRun) × IsToldFrom run other × IsSomePartOf other bytes
+abbrev pub IsSomePartDistinguished : PartedRun → List ℕ → Type 0
+IsSomePartDistinguished run bytes = (other : PartedRun) × IsDistinguished run other
+    × IsSomePartOf other bytes
 
 -- the texts are those of all parts of a run, of each part once, in any order
 pub record AreAllPartsOf (run : PartedRun) (texts : List (List ℕ)) : Type 0 where
@@ -57,15 +58,15 @@ pub record IsMergeOf (first : List ℕ) (others : List (List ℕ)) (merged : Mer
   pub whole : IsWholeRun all merged
 
 -- one of more texts was refused, or, after all of them, what was put together
-abbrev pub IsRefusedBehind : MergeState → List (List ℕ) → MergeFault → Type 0
-IsRefusedBehind old [] f = IsEndRefusal old f
-IsRefusedBehind old (text ∷ texts) f = IsMergeRefusal old text f
-    ⊎ ((next : MergeState) × IsMerged old text next × IsRefusedBehind next texts f)
+abbrev pub IsLaterRefusal : MergeState → List (List ℕ) → MergeFault → Type 0
+IsLaterRefusal old [] f = IsEndRefusal old f
+IsLaterRefusal old (text ∷ texts) f = IsMergeRefusal old text f
+    ⊎ ((next : MergeState) × IsMerged old text next × IsLaterRefusal next texts f)
 
 -- the texts, a first one and others, were refused: the first, one of the others, or the whole
 abbrev pub IsRefusedMerge : List ℕ → List (List ℕ) → MergeFault → Type 0
 IsRefusedMerge first others f = IsFirstRefusal first f
-    ⊎ ((begun : MergeState) × IsFirstMerged first begun × IsRefusedBehind begun others f)
+    ⊎ ((begun : MergeState) × IsFirstMerged first begun × IsLaterRefusal begun others f)
 
 -- memory was refused, to the reader of part texts or to the merge
 abbrev pub IsForMemory : MergeFault → Type 0

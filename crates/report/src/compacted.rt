@@ -4,8 +4,8 @@
 ghost use Rattle.std.specs.Prelude.{◌≡◌, ◌<◌, ◌≤◌, ⊤, IfErr, OnOk, length};
 ghost use Rattle.std.specs.List.{flat_map};
 ghost use Rattle.block_sim.specs.Parts.{BelongTogether};
-ghost use Rattle.jobs.specs.Splits.{HasSomePart};
-ghost use Rattle.output.specs.Output.{Writes};
+ghost use Rattle.job_loading.specs.Splits.{HasSomePart};
+ghost use Rattle.byte_output.specs.Output.{Writes};
 ghost use Rattle.report.specs.Compacted.{GivesOneOf, IsCompactionOf, IsKeptText, IsKeptTextOfJob};
 ghost use Rattle.report.specs.Compacted.{kept_text, number_line};
 ghost use Rattle.report.specs.EndToEnd.{IsJobTextFault, IsListFault, IsReportFault, IsWatchedFault};
@@ -15,11 +15,11 @@ ghost use Rattle.workers.specs.Stops.{no_stop};
 
 use crate::whole::put_text;
 use block_sim::Job;
+use byte_output::{Out, OutFailed, put_pieces};
 use compaction::{Kept, compact_in_parts};
 use fault_model::Model;
 use itoa::Buffer;
-use jobs::{ReportFault, SimFault, Split, split_job_of};
-use output::{Out, OutFailed, put_pieces};
+use job_loading::{ReportFault, SimFault, Split, split_job_of};
 use patterns::write_tests;
 use std::alloc::Global;
 use std::sync::Wait;

@@ -4,8 +4,8 @@ ghost use Rattle.std.specs.Prelude.{◌≡◌, ◌+◌, ◌-◌, ◌<◌, ◌≤
 ghost use Rattle.std.specs.Prelude.{OnOk};
 ghost use Rattle.std.specs.List.{flat_map};
 ghost use Rattle.block_sim.specs.Parts.{BelongTogether};
-ghost use Rattle.jobs.specs.Splits.{HasSomePart};
-ghost use Rattle.output.specs.Output.{Writes};
+ghost use Rattle.job_loading.specs.Splits.{HasSomePart};
+ghost use Rattle.byte_output.specs.Output.{Writes};
 ghost use Rattle.report.specs.Curve.{IsCurveOf, IsCurveOfJob, curve, curve_text};
 ghost use Rattle.report.specs.Curve.{counts_at, news_at, point_line};
 ghost use Rattle.report.specs.EndToEnd.{IsJobTextFault, IsReportFault, IsWatchedFault};
@@ -14,11 +14,11 @@ ghost use Rattle.workers.specs.Refused.{ArePartsWithin, IsPartsFault};
 
 use crate::report::{hundredths, put_coverage};
 use block_sim::Job;
+use byte_output::{Out, OutFailed, put_pieces};
 use fault_model::Model;
 use fault_model::laws::stems;
 use itoa::Buffer;
-use jobs::{ReportFault, SimFault, Split, Watch, run_watched, split_job_of};
-use output::{Out, OutFailed, put_pieces};
+use job_loading::{ReportFault, SimFault, Split, Watch, run_watched, split_job_of};
 use std::alloc::{AllocError, Global};
 use std::sync::Wait;
 use std::thread::Threads;

@@ -3,7 +3,7 @@
 ghost use Rattle.std.specs.Prelude.{◌≡◌, ◌<◌, ◌^◌, [], ◌∷◌, ◌++◌, Contains, IfErr, IfOk};
 ghost use Rattle.std.specs.Prelude.{MatchOption, OnOk, length, map, zip};
 ghost use Rattle.std.specs.List.{flat_map};
-ghost use Rattle.output.specs.Output.{Writes};
+ghost use Rattle.byte_output.specs.Output.{Writes};
 ghost use Rattle.workers.specs.declared.parts.PartVerdict.TheVariants.{First};
 ghost use Rattle.report.specs.Merging.{HasParts, IsOpenRefusal, run_of};
 ghost use Rattle.report.specs.PartReading.{texts_in};
@@ -13,9 +13,9 @@ use crate::contents::Lines;
 use crate::joining::MergeFault;
 use crate::merged::Merged;
 use crate::report::put_coverage;
+use byte_output::{Out, OutFailed, put_all, put_pieces};
 use itoa::Buffer;
-use jobs::ReportFault;
-use output::{Out, OutFailed, put_all, put_pieces};
+use job_loading::ReportFault;
 use std::alloc::{AllocError, Global};
 use workers::PartVerdict;
 

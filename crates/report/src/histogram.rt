@@ -4,8 +4,8 @@ ghost use Rattle.std.specs.Prelude.{◌≡◌, ◌+◌, ◌-◌, ◌<◌, ◌≤
 ghost use Rattle.std.specs.Prelude.{get_or, length, map, zip};
 ghost use Rattle.std.specs.List.{flat_map};
 ghost use Rattle.block_sim.specs.Parts.{BelongTogether};
-ghost use Rattle.jobs.specs.Splits.{HasSomePart};
-ghost use Rattle.output.specs.Output.{Writes};
+ghost use Rattle.job_loading.specs.Splits.{HasSomePart};
+ghost use Rattle.byte_output.specs.Output.{Writes};
 ghost use Rattle.patterns.specs.Least.{below};
 ghost use Rattle.report.specs.Detected.{IsCountFault, detection_report};
 ghost use Rattle.report.specs.EndToEnd.{IsJobReportFault, WritesOneOf};
@@ -15,10 +15,10 @@ ghost use Rattle.report.specs.Histogram.{histogram_line, histogram_text, one_wit
 
 use crate::detected::{counts_of, write_detections};
 use block_sim::Job;
+use byte_output::{Out, OutFailed, put_pieces};
 use fault_model::Model;
 use itoa::Buffer;
-use jobs::{ReportFault, SimFault, Split, split_job_of};
-use output::{Out, OutFailed, put_pieces};
+use job_loading::{ReportFault, SimFault, Split, split_job_of};
 use std::alloc::{AllocError, Global};
 use std::sync::Wait;
 use std::thread::Threads;

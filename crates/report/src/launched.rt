@@ -5,8 +5,8 @@ ghost use Rattle.report.specs.EndToEnd.{WritesOneOf};
 ghost use Rattle.report.specs.Pairs.{ArePairsOf, IsPairsFault};
 
 use crate::whole::put_text;
-use jobs::{SimFault, read_inputs};
-use output::Out;
+use byte_output::Out;
+use job_loading::{SimFault, read_inputs};
 use pairs::launch_pairs;
 use patterns::write_tests;
 use std::alloc::Global;

@@ -17,11 +17,11 @@ ghost use Rattle.block_sim.specs.Parts.{Parts};
 ghost use Rattle.workers.specs.declared.parts.PartVerdict.{PartVerdict};
 ghost use Rattle.workers.specs.Part.{ArePartVerdicts};
 ghost use Rattle.workers.specs.Verdict.{AreFirsts};
-ghost use Rattle.jobs.specs.Jobs.{IsJobOf};
+ghost use Rattle.job_loading.specs.Jobs.{IsJobOf};
 ghost use Rattle.report.specs.EndToEnd.{IsReportOf};
 ghost use Rattle.report.specs.Merging.{MergedRun};
 ghost use Rattle.report.specs.WholeMerge.{AreAllPartsOf, IsForMemory, IsMergeOf, IsRefusedMerge};
-ghost use Rattle.report.specs.WholeMerge.{IsSomePartOf, IsSomePartToldFrom, PartedRun};
+ghost use Rattle.report.specs.WholeMerge.{IsSomePartOf, IsSomePartDistinguished, PartedRun};
 ghost use Rattle.report.specs.PartText.{IsPartTextOf, PartHead, head_of};
 ghost use Rattle.report.specs.declared.joining.MergeFault.{MergeFault};
 ghost use Rattle.report.specs.declared.part_reader.PartFault.{PartFault};
@@ -80,7 +80,7 @@ pub fn part_text_is_read()
 /// of the run's bench file and test file under its model.
 pub fn merged_report()
     ensures { (run : PartedRun) (first : List ℕ) (others : List (List ℕ)) (merged : MergedRun)
-        (lines : Lines) → IsSomePartOf run first → All (IsSomePartToldFrom run) others
+        (lines : Lines) → IsSomePartOf run first → All (IsSomePartDistinguished run) others
         → IsMergeOf first others merged
         → IsReportOf run.model run.bench run.tests (record { lines = lines; classes = false })
         (report_text merged.faults merged.firsts lines) }
@@ -93,7 +93,7 @@ pub fn merged_report()
 pub fn merged_class_report()
     ensures { (run : PartedRun) (first : List ℕ) (others : List (List ℕ)) (merged : MergedRun)
         (lines : Lines) (c : List Statement) (classes : Collapsed) → IsSomePartOf run first
-        → All (IsSomePartToldFrom run) others → IsMergeOf first others merged
+        → All (IsSomePartDistinguished run) others → IsMergeOf first others merged
         → IsAccepted run.bench c → AreClassesOf run.model c classes
         → IsReportOf run.model run.bench run.tests (record { lines = lines; classes = true })
         (report_text merged.faults merged.firsts lines
@@ -106,7 +106,7 @@ pub fn merged_class_report()
 /// tests.
 pub fn merged_firsts()
     ensures { (run : PartedRun) (first : List ℕ) (others : List (List ℕ)) (merged : MergedRun)
-        (c : List Statement) → IsSomePartOf run first → All (IsSomePartToldFrom run) others
+        (c : List Statement) → IsSomePartOf run first → All (IsSomePartDistinguished run) others
         → IsMergeOf first others merged → IsAccepted run.bench c
         → (tests : TestList) × HasTests run.tests (length (sources c)) tests
         × AreFirsts run.model c tests.tests merged.firsts }

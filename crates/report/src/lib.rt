@@ -30,6 +30,7 @@ mod text;
 mod watched;
 mod whole;
 
+pub use byte_output::{Formatted, Out, OutFailed, Plain};
 pub use compacted::{KeptCount, KeptForm, compact_text_in, compact_text_with};
 pub use contents::{Contents, Lines};
 pub use counts::{RunCounts, count_run};
@@ -37,7 +38,9 @@ pub use curve::{CurvePoint, curve_of, curve_text_in, curve_text_watched, write_c
 pub use detected::{detections_text_in, detections_text_of_any_size, write_detections};
 pub use ending::write_merged;
 pub use histogram::{histogram_of, histogram_text_in};
-pub use jobs::{ReasonCounts, ReportFault, SimFault, Split, Watch, job_of, job_of_in_threads};
+pub use job_loading::{
+    ReasonCounts, ReportFault, SimFault, Split, Watch, job_of, job_of_in_threads,
+};
 pub use joining::MergeFault;
 pub use launched::pairs_text_in;
 pub use laws::{
@@ -47,7 +50,6 @@ pub use laws::{
 pub use merge::Merge;
 pub use merged::Merged;
 pub use merged_classes::write_merged_with_classes;
-pub use output::{Formatted, Out, OutFailed, Plain};
 pub use part::{model_name, part_text_in, part_text_watched, sum_of};
 pub use part_reader::{PartFault, PartHeader, PartText, read_part};
 pub use reasoned::{reason_counts, reasons_text_watched, write_reasons};

@@ -1,7 +1,7 @@
 //! The coverage of the classes of a merged run.
 
 ghost use Rattle.std.specs.Prelude.{◌≡◌, ◌<◌, ◌++◌, length};
-ghost use Rattle.output.specs.Output.{Writes};
+ghost use Rattle.byte_output.specs.Output.{Writes};
 ghost use Rattle.report.specs.Merging.{run_of};
 ghost use Rattle.report.specs.Report.{class_coverage_line, class_firsts, first_at, report_text};
 ghost use Rattle.workers.specs.Verdict.{detected_count};
@@ -10,9 +10,9 @@ use crate::contents::Lines;
 use crate::ending::write_merged;
 use crate::merged::Merged;
 use crate::report::put_coverage;
+use byte_output::Out;
 use fault_model::Classes;
-use jobs::ReportFault;
-use output::Out;
+use job_loading::ReportFault;
 
 /// Returns the first test of the fault of a number, or none if there is no such fault.
 fn first_of(firsts: &[Option<u32>], fault: u32) -> Option<u32>

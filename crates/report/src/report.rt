@@ -6,7 +6,7 @@ ghost use Rattle.std.specs.List.{flat_map};
 ghost use Rattle.bench_net.specs.Scan.{cells};
 ghost use Rattle.fault_model.specs.Fault.{Fault, faults};
 ghost use Rattle.fault_model.specs.Collapse.{AreClassesOf};
-ghost use Rattle.output.specs.Output.{Writes};
+ghost use Rattle.byte_output.specs.Output.{Writes};
 ghost use Rattle.workers.specs.Verdict.{detected_count};
 ghost use Rattle.report.specs.Report.{cell_text, class_line};
 ghost use Rattle.report.specs.Report.{defect_text, fault_text, fault_lines, first_text, report};
@@ -17,11 +17,11 @@ ghost use Rattle.report.specs.Report.{contents_of, whole_report};
 use crate::contents::{Contents, Lines};
 use bench_net::Circuit;
 use block_sim::Job;
+use byte_output::{Out, OutFailed, put_pieces};
 use fault_model::laws::stems;
 use fault_model::{Classes, Faults, Line, Model};
 use itoa::Buffer;
-use jobs::ReportFault;
-use output::{Out, OutFailed, put_pieces};
+use job_loading::ReportFault;
 use workers::Verdicts;
 
 /// Returns the name of the signal that a cell drives. Cells count from 0.

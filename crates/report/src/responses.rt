@@ -6,8 +6,8 @@ ghost use Rattle.report.specs.Responses.{AreResponsesOf, IsResponsesFault};
 
 use crate::whole::put_text;
 use block_sim::responses;
-use jobs::{SimFault, read_inputs};
-use output::Out;
+use byte_output::Out;
+use job_loading::{SimFault, read_inputs};
 use patterns::write_tests;
 use std::alloc::Global;
 

@@ -2,7 +2,7 @@
 
 ghost use Rattle.std.specs.Prelude.{◌<◌, ◌≤◌, IfErr, OnOk};
 ghost use Rattle.block_sim.specs.Parts.{BelongTogether};
-ghost use Rattle.jobs.specs.Splits.{HasSomePart};
+ghost use Rattle.job_loading.specs.Splits.{HasSomePart};
 ghost use Rattle.workers.specs.Refused.{ArePartsWithin, IsPartsFault};
 ghost use Rattle.report.specs.EndToEnd.{IsJobReportFault, IsReportOf, IsReportOfJob};
 ghost use Rattle.report.specs.EndToEnd.{IsWatchedFault, IsWithin, WritesOneOf};
@@ -10,9 +10,9 @@ ghost use Rattle.report.specs.EndToEnd.{IsWatchedFault, IsWithin, WritesOneOf};
 use crate::contents::Contents;
 use crate::report::write_report_with;
 use block_sim::Job;
+use byte_output::Out;
 use fault_model::Model;
-use jobs::{SimFault, Split, Watch, run_watched, split_job_of};
-use output::Out;
+use job_loading::{SimFault, Split, Watch, run_watched, split_job_of};
 use std::alloc::Global;
 use std::sync::Wait;
 use std::thread::Threads;

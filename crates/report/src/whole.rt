@@ -1,9 +1,9 @@
 //! A text that is written in one piece.
 
-ghost use Rattle.output.specs.Output.{Writes};
+ghost use Rattle.byte_output.specs.Output.{Writes};
 
-use jobs::ReportFault;
-use output::{Out, put_all};
+use byte_output::{Out, put_all};
+use job_loading::ReportFault;
 
 /// Writes a text.
 pub fn put_text<W: Out>(text: &[u8], out: &mut W) -> Result<(), ReportFault>

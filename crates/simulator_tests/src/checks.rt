@@ -2,7 +2,7 @@
 
 use block_sim::Job;
 use fault_model::Model;
-use jobs::SimFault;
+use job_loading::SimFault;
 use std::alloc::Global;
 use std::process::Abort;
 
@@ -20,5 +20,5 @@ pub(crate) fn job_of(
     bench: &[u8],
     tests: &[u8],
 ) -> Result<Job, SimFault> {
-    jobs::job_of(alloc, model, bench, tests)
+    job_loading::job_of(alloc, model, bench, tests)
 }

@@ -4,9 +4,9 @@ ghost use Rattle.std.specs.Prelude.{◌<◌};
 
 use crate::checks::{check, job_of};
 use block_sim::Job;
-use detections::{CountFault, detections};
 use fault_model::Model;
-use jobs::SimFault;
+use job_loading::SimFault;
+use n_detect::{CountFault, detections};
 use std::alloc::{AllocError, Global};
 use std::sync::Wait;
 use std::thread::Threads;

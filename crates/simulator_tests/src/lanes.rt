@@ -3,7 +3,7 @@
 use crate::checks::{check, job_of};
 use block_sim::{Job, Workspace, detecting};
 use fault_model::Model;
-use jobs::SimFault;
+use job_loading::SimFault;
 use std::alloc::{AllocError, Global};
 
 /// A circuit with tests: as many rows `0` as `zeros`, and then `tests`. For each fault of the list

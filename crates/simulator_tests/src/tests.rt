@@ -7,7 +7,7 @@ ghost use Rattle.block_sim.specs.Parts.{HasRoom};
 use crate::checks::{check, job_of};
 use block_sim::{Job, Workspace, first_hit, simulate};
 use fault_model::Model;
-use jobs::SimFault;
+use job_loading::SimFault;
 use patterns::{BLOCK_SIZE, Outcome};
 use std::alloc::{AllocError, Global};
 use worked_circuits::C17;

@@ -3,7 +3,7 @@
 use crate::checks::check;
 use block_sim::Job;
 use fault_model::Model;
-use jobs::{SimFault, job_of_in_threads};
+use job_loading::{SimFault, job_of_in_threads};
 use patterns::read_tests;
 use std::alloc::{AllocError, Global};
 use std::sync::Wait;

@@ -9,8 +9,8 @@ use Rattle.bench_net.specs.declared.ScanCell.{ScanCell}
 use Rattle.bench_net.specs.Statement.{Name, Statement, Input, Output, Gate, Dff}
 use Rattle.bench_net.specs.Scan.{names, signal, definition, gate_line, gate_of, cells, name_of}
 use Rattle.bench_net.proofs.Public.{definition_defines, defined_among, name_of-signal, of_cell}
-use Rattle.lists.proofs.Members.{contained}
-use Rattle.lists.proofs.Places.{at_place}
+use Rattle.list_lemmas.proofs.Members.{contained}
+use Rattle.list_lemmas.proofs.Places.{at_place}
 use Rattle.fault_model.specs.Detection.{argument}
 
 -- what stands at a place of a list of numbers that is made of another

@@ -6,7 +6,7 @@ use Rattle.std.specs.Prelude.{Option, Some, None, true, false, slice_get, unwrap
 use Rattle.std.specs.Prelude.{if◌then◌else◌}
 use Rattle.bench_net.specs.Statement.{Statement}
 use Rattle.fault_model.specs.Fault.{Fault}
-use Rattle.output.proofs.Public.{flat_map_taken}
+use Rattle.byte_output.proofs.Public.{flat_map_taken}
 use Rattle.report.specs.declared.contents.Lines.{Lines}
 use Rattle.tables.specs.Rows.{RowCells, row_cells}
 use Rattle.tables.specs.Tables.{has_row, rows_text}

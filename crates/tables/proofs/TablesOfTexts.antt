@@ -8,10 +8,10 @@ use Rattle.fault_model.specs.declared.Model.{Model}
 use Rattle.fault_model.specs.Collapse.{AreClassesOf, Collapsed}
 use Rattle.fault_model.specs.Fault.{FaultList, fault_list, faults}
 use Rattle.workers.specs.Verdict.{AreFirsts}
-use Rattle.jobs.specs.declared.fault.SimFault.{SimFault}
-use Rattle.jobs.specs.declared.fault.SimFault.TheVariants as fault
-use Rattle.jobs.specs.Jobs.{IsJobOf}
-use Rattle.output.specs.Output.{Output}
+use Rattle.job_loading.specs.declared.fault.SimFault.{SimFault}
+use Rattle.job_loading.specs.declared.fault.SimFault.TheVariants as fault
+use Rattle.job_loading.specs.Jobs.{IsJobOf}
+use Rattle.byte_output.specs.Output.{Output}
 use Rattle.report.specs.declared.contents.Lines.{Lines}
 use Rattle.report.specs.EndToEnd.{IsListingFault, WritesOneOf}
 use Rattle.tables.specs.declared.table.Format.{Format}

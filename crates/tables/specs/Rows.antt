@@ -8,7 +8,7 @@ use Rattle.fault_model.specs.Detection.{name_on}
 use Rattle.fault_model.specs.Fault.{Fault}
 use Rattle.report.specs.Report.{cell_text, defect_text, signal_text}
 use Rattle.tables.specs.declared.row.Place.{Place}
-use Rattle.tables.specs.declared.row.Row.{Row}
+use Rattle.tables.specs.declared.row.FaultRow.{FaultRow}
 
 -- a line in columns
 pub record LineCells : Type 0 where
@@ -66,5 +66,5 @@ row_cells c f = record { line = line_cells c f.line; defect = defect_name f.mode
 abbrev pub place_in : Place → LineCells
 place_in p = record { kind = p.kind.now; name = p.name.now; pin = p.pin; net = p.net.now }
 
-abbrev pub row_in : Row → RowCells
+abbrev pub row_in : FaultRow → RowCells
 row_in r = record { line = place_in r.place; defect = r.defect.now }

@@ -25,7 +25,7 @@ use Rattle.tables.specs.Rows.{RowCells, row_cells}
 
 -- What is told of the faults: the name of the column, what it has for each fault in the order of
 -- the list, which faults have a row, and the sums as a JSON object.
-pub record Told : Type 0 where
+pub record LastColumn : Type 0 where
   pub name : List ℕ
   pub values : List (Option ℕ)
   pub lines : Lines
@@ -51,7 +51,7 @@ classes_object total classes =
     ++ codes "}")))
 
 -- the first test of each fault, or none
-abbrev pub first_column : List (Option ℕ) → Lines → Told
+abbrev pub first_column : List (Option ℕ) → Lines → LastColumn
 first_column firsts lines = record {
   name = codes "first";
   values = firsts;
@@ -60,7 +60,7 @@ first_column firsts lines = record {
 }
 
 -- the class of each fault, of so many classes
-abbrev pub class_column : List ℕ → ℕ → Told
+abbrev pub class_column : List ℕ → ℕ → LastColumn
 class_column class_of classes = record {
   name = codes "class";
   values = map Some class_of;
@@ -104,7 +104,7 @@ csv_header column = row_text default_writer (codes "kind" ∷ codes "name" ∷ c
     ∷ codes "defect" ∷ column ∷ codes "net" ∷ [])
 
 -- the table as comma-separated values: a header, and a record for each row
-abbrev pub csv_table : List Statement → List Fault → Told → List ℕ
+abbrev pub csv_table : List Statement → List Fault → LastColumn → List ℕ
 csv_table c list told = csv_header told.name
     ++ rows_text csv_record c told.lines (zip list told.values)
 
@@ -114,16 +114,16 @@ object_text summary rows =
     (codes "{\"summary\":" ++ summary) ++ (codes ",\"faults\":[" ++ (rows ++ codes "\n]}\n"))
 
 -- the table as a JSON object, in which the first row has no comma before it
-abbrev pub json_table : List Statement → List Fault → Told → List ℕ
+abbrev pub json_table : List Statement → List Fault → LastColumn → List ℕ
 json_table c list told = object_text told.summary
     (drop 1 (rows_text (json_object told.name) c told.lines (zip list told.values)))
 
-abbrev pub table_text : Format → List Statement → List Fault → Told → List ℕ
+abbrev pub table_text : Format → List Statement → List Fault → LastColumn → List ℕ
 table_text Csv c list told = csv_table c list told
 table_text Json c list told = json_table c list told
 
 -- the bytes are this table
-abbrev pub IsTable : Format → List Statement → List Fault → Told → List ℕ → Type 0
+abbrev pub IsTable : Format → List Statement → List Fault → LastColumn → List ℕ → Type 0
 IsTable format c list told bytes = bytes ≡ table_text format c list told
 
 -- the bytes are the table of a run of a bench text and a test text under a model: each fault with
@@ -155,7 +155,7 @@ IsClassTableOfCircuit m c format bytes = (classes : Collapsed) × AreClassesOf m
     (class_column classes.class_of (length classes.representative)))
 
 -- what the program keeps of what is told
-abbrev pub column_in : Column → Told
+abbrev pub column_in : Column → LastColumn
 column_in (column.First verdicts lines) = first_column verdicts.now.firsts lines
 column_in (column.Merged merged lines) = first_column (run_of merged.now).firsts lines
 column_in (column.Class classes) =

@@ -9,7 +9,7 @@ ghost use Rattle.tables.specs.Tables.{column_in, csv_record, csv_table};
 
 use crate::column::Column;
 use crate::number::{number_text, widened};
-use crate::row::{Row, row_of};
+use crate::row::{FaultRow, row_of};
 use bench_net::Circuit;
 use csv::{Writer, WriterBuilder};
 use fault_model::Faults;
@@ -63,13 +63,13 @@ fn text_of(writer: Writer<Vec<u8>>) -> Result<Vec<u8>, AllocError>
 /// Writes the record of a row.
 fn put_row(
     writer: &mut Writer<Vec<u8>>,
-    row: &Row<'_>,
+    row: &FaultRow<'_>,
     value: Option<u32>,
 ) -> Result<(), AllocError>
     ensures { (taken : List ℕ) → HasTaken writer.old taken
         → OnOk result (HasTaken writer.new (taken ++ csv_record (row_in row.now) value)) }
 {
-    let Row { place, defect } = *row;
+    let FaultRow { place, defect } = *row;
     let mut pin = Buffer::new();
     let mut last = Buffer::new();
     put_record(

@@ -5,19 +5,19 @@ ghost use Rattle.std.specs.Prelude.{string_bytes, zip};
 ghost use Rattle.std.specs.List.{flat_map};
 ghost use Rattle.json.specs.Print.{quoted};
 ghost use Rattle.fault_model.specs.Fault.{faults};
-ghost use Rattle.output.specs.Output.{Writes};
+ghost use Rattle.byte_output.specs.Output.{Writes};
 ghost use Rattle.tables.specs.Rows.{row_in};
 ghost use Rattle.tables.specs.Tables.{classes_object, column_in, coverage_object, json_object};
 ghost use Rattle.tables.specs.Tables.{object_of, object_text, rows_text};
 
 use crate::column::Column;
 use crate::number::{number_text, widened};
-use crate::row::{Row, row_of};
+use crate::row::{FaultRow, row_of};
 use bench_net::Circuit;
+use byte_output::{Out, OutFailed, put_all, put_pieces};
 use fault_model::Faults;
 use itoa::Buffer;
-use jobs::ReportFault;
-use output::{Out, OutFailed, put_all, put_pieces};
+use job_loading::ReportFault;
 use serde_json::Value;
 use std::alloc::{AllocError, Global};
 
@@ -64,13 +64,13 @@ fn add_row(
     rows: &mut Vec<u8>,
     alloc: Global,
     column: &str,
-    row: &Row<'_>,
+    row: &FaultRow<'_>,
     value: Option<u32>,
 ) -> Result<(), AllocError>
     ensures { OnOk result (rows.new.items
         ≡ rows.old.items ++ json_object column.now (row_in row.now) value) }
 {
-    let Row { place, defect } = *row;
+    let FaultRow { place, defect } = *row;
     let name = quoted(alloc, place.name)?;
     let net = quoted(alloc, place.net)?;
     let mut pin = Buffer::new();

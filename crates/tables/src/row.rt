@@ -28,21 +28,21 @@ pub(crate) struct Place<'a> {
 
 /// A fault in columns.
 #[derive(Clone, Copy)]
-pub(crate) struct Row<'a> {
+pub(crate) struct FaultRow<'a> {
     pub(crate) place: Place<'a>,
     /// `sa0`, `sa1`, `str` or `stf`.
     pub(crate) defect: &'static str,
 }
 
 /// Returns the row of a fault.
-pub(crate) fn row_of<'a>(circuit: &'a Circuit, list: &Faults, fault: u32) -> Row<'a>
+pub(crate) fn row_of<'a>(circuit: &'a Circuit, list: &Faults, fault: u32) -> FaultRow<'a>
     requires list { list.now.list ≡ faults list.now.model circuit.now }
     requires in_range { fault < length list.now.list }
     ensures { (f : Fault) → slice_get list.now.list fault ≡ Some f
         → row_in result ≡ row_cells circuit.now f }
 {
     let _signals = circuit.signals();
-    Row {
+    FaultRow {
         place: place_of(circuit, list.line_of(fault)),
         defect: defect(list.model(), list.stuck_of(fault)),
     }

@@ -2,7 +2,7 @@
 
 use block_sim::Job;
 use fault_model::Model;
-use jobs::SimFault;
+use job_loading::SimFault;
 use std::alloc::{AllocError, Global};
 use std::process::Abort;
 use worked_circuits::C17_TEXT;
@@ -70,7 +70,7 @@ pub(crate) const WIRE: &str = "INPUT(a)\nOUTPUT(a)\n";
 pub(crate) fn job_of(alloc: Global, job: &JobText) -> Result<Job, SimFault> {
     let mut tests = Vec::new(alloc);
     push_all_rows(&mut tests, job.rows)?;
-    jobs::job_of(alloc, job.model, job.bench.as_bytes(), tests.as_slice())
+    job_loading::job_of(alloc, job.model, job.bench.as_bytes(), tests.as_slice())
 }
 
 /// Adds rows of tests, each as often as it is to stand there.

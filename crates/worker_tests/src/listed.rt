@@ -1,13 +1,13 @@
 //! Runs of one thread over lists of classes.
 
 ghost use Rattle.std.specs.Prelude.{◌↔◌, ◌<◌, All, IfOk, IsTrue};
-ghost use Rattle.workers.specs.Listed.{ServesLists};
+ghost use Rattle.workers.specs.ListRunners.{ServesLists};
 
 use crate::fixtures::{C17_FIRSTS, JobText, check, has_firsts, job_of};
 use crate::gates::ShutFor;
 use block_sim::Job;
 use fault_model::Model;
-use jobs::SimFault;
+use job_loading::SimFault;
 use std::alloc::{AllocError, Global};
 use std::sync::Wait;
 use std::thread::Threads;

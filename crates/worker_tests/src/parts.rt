@@ -6,7 +6,7 @@ use crate::fixtures::{C17, C17_FIRSTS, JobText, check, has_firsts, job_of};
 use crate::gates::{Shut, ShutFor};
 use block_sim::Job;
 use fault_model::Model;
-use jobs::SimFault;
+use job_loading::SimFault;
 use std::alloc::Global;
 use std::sync::Wait;
 use std::thread::Threads;

@@ -3,7 +3,7 @@
 use crate::fixtures::{BUFFER, C17, C17_FIRSTS, JobText, WIRE, check, has_firsts, job_of};
 use block_sim::Job;
 use fault_model::Model;
-use jobs::SimFault;
+use job_loading::SimFault;
 use std::alloc::{AllocError, Global};
 use workers::{RunFault, run_schedule};
 

@@ -4,7 +4,7 @@ use crate::fixtures::{C17, C17_FIRSTS, check, has_firsts, job_of};
 use crate::gates::{Holding, Meeting, Roll, ShutForWorker};
 use block_sim::Job;
 use fault_ledger::Finish;
-use jobs::SimFault;
+use job_loading::SimFault;
 use std::alloc::Global;
 use std::sync::Wait;
 use std::thread::Threads;

@@ -8,7 +8,7 @@ use crate::gates::{Counter, Meeting, Roll, Shut, ShutFor, ShutForTwo, TwoByTwo};
 use block_sim::{Job, Workspace};
 use fault_ledger::{Finish, LedgerFault, Seat, SharedLedger, Status};
 use fault_model::Model;
-use jobs::SimFault;
+use job_loading::SimFault;
 use std::alloc::{AllocError, Global};
 use std::sync::Wait;
 use std::thread;

@@ -5,7 +5,7 @@ ghost use Rattle.workers.specs.Stops.{no_stop};
 use crate::fixtures::{JobText, job_of};
 use block_sim::Job;
 use fault_model::Model;
-use jobs::{SimFault, Watch, run_watched};
+use job_loading::{SimFault, Watch, run_watched};
 use std::alloc::Global;
 use std::sync::Wait;
 use std::sync::atomic::{AtomicU64, Ordering};

@@ -20,7 +20,7 @@ use Rattle.fault_ledger.specs.Settled.{status, status_from, finish, finish_from}
 use Rattle.fault_ledger.specs.Seats.{ClosedFace, Closes, Place, Sitter, HoldsAll, closed_face}
 use Rattle.fault_ledger.proofs.Public.{held_goes_on, claims_past, legal_claims, ClearBelow}
 use Rattle.fault_ledger.proofs.Public.{skipped_not_first}
-use Rattle.workers.specs.Chosen.{AreChosenOf, Chosen, every, chosen_of}
+use Rattle.workers.specs.ClassSelection.{AreChosenOf, ClassSelection, every, chosen_of}
 use Rattle.workers.specs.Settling.{AreSettled, IsShapeOf, IsShapeOver, shape_over}
 use Rattle.fault_ledger.specs.Settled.{is_skipped}
 use Rattle.workers.specs.Work.{AllReportTruly, AreBack, HasRested, HasRun, IsOfHistory, IsStopped}
@@ -37,10 +37,11 @@ use Rattle.block_sim.specs.First.{IsFirst}
 use Rattle.block_sim.proofs.Public.{true_table}
 use Rattle.fault_model.specs.Collapse.{IsClassOf}
 use Rattle.fault_ledger.specs.Answer.{IsTrueTo}
-use Rattle.lists.proofs.Places.{from_mapped, within_place}
+use Rattle.list_lemmas.proofs.Places.{from_mapped, within_place}
 use Rattle.workers.proofs.TrueReports.{truly_goes_on, all_true, firsts_truly, true_to}
 
-module _ (job : Parts) (over : Chosen) (p : Place) (P : Type 0) (S : Stops) (seats : List Sitter)
+module _ (job : Parts) (over : ClassSelection) (p : Place) (P : Type 0) (S : Stops)
+    (seats : List Sitter)
     (h : History) (back : AreBack job over p P S seats) (holds : HoldsAll h seats) where
   -- the seat of a worker
   seat_of : (w : ℕ) → w < p.shape.workers → (a : Sitter) × ContinuesWithout w h a.seen
@@ -176,7 +177,7 @@ waiting_range s h c b l e =
           (λ k m. absurd (omega (arith, m))) r.1,
     )
 
-module _ (job : Parts) (over : Chosen) (workers : ℕ) (p : Place) (P : Type 0) (S : Stops)
+module _ (job : Parts) (over : ClassSelection) (workers : ℕ) (p : Place) (P : Type 0) (S : Stops)
     (seats : List Sitter) (closed : ClosedFace) (is : p.shape ≡ shape_over job over workers)
     (some : 0 < workers) (back : AreBack job over p P S seats)
     (closes : Closes p.shape seats closed) where
@@ -330,7 +331,7 @@ run_class_firsts job classes workers closed firsts b among run told = record {
     say = told h run.legal run.shows
 
 -- every seat came back to its ledger
-pub back_placed : (job : Parts) (over : Chosen) (p : Place) (P : Type 0) (S : Stops)
+pub back_placed : (job : Parts) (over : ClassSelection) (p : Place) (P : Type 0) (S : Stops)
     (seats : List Sitter) → AreBack job over p P S seats → All (λ seat. seat.place ≡ p) seats
 back_placed job over p P S seats back k d lt =
     let x = within_place seats k lt in

@@ -5,17 +5,17 @@ use Rattle.std.specs.Prelude.{Bool, filter, slice_get}
 use Rattle.std.proofs.lemmas.List.{length-map}
 use Rattle.std.proofs.lemmas.List.Elements.{All-filter}
 use Rattle.std.proofs.lemmas.Option.{get_or_from_slice_get, slice_get_within}
-use Rattle.lists.proofs.Places.{from_mapped}
+use Rattle.list_lemmas.proofs.Places.{from_mapped}
 use Rattle.fault_model.specs.Collapse.{IsClassOf}
 use Rattle.fault_model.specs.Fault.{Fault}
 use Rattle.block_sim.specs.First.{IsFirst}
 use Rattle.block_sim.specs.Parts.{Parts}
 use Rattle.workers.specs.declared.parts.PartVerdict.{PartVerdict}
 use Rattle.workers.specs.declared.parts.PartVerdict.TheVariants.{First, OtherPart}
-use Rattle.workers.specs.Listed.{AreMarked}
+use Rattle.workers.specs.ListRunners.{AreMarked}
 use Rattle.workers.specs.Part.{AreAllByRegion, AreClassVerdicts, IsClassVerdict, first_in}
 use Rattle.workers.specs.Verdict.{AreClassFirsts}
-use Rattle.workers.proofs.ClassRanks.{is_kept, kept_few}
+use Rattle.workers.proofs.ClassOrders.{is_kept, kept_few}
 use Rattle.workers.proofs.PartsOfClasses.{all_within}
 
 module _ (job : Parts) (order : List ℕ) (all : AreAllByRegion job order) where

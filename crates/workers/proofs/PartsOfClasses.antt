@@ -21,21 +21,22 @@ use Rattle.std.proofs.lemmas.List.{get_or-set_same, get_or-set_other}
 use Rattle.std.proofs.lemmas.List.{length-map, length-set, take_all}
 use Rattle.std.proofs.lemmas.List.Elements.{All-drop, All-take}
 use Rattle.std.proofs.lemmas.List.Sums.{sum_by-cons}
-use Rattle.lists.proofs.Places.{from_mapped}
+use Rattle.list_lemmas.proofs.Places.{from_mapped}
 use Rattle.fault_model.specs.Fault.{Fault}
 use Rattle.fault_model.specs.Collapse.{IsClassOf}
 use Rattle.block_sim.specs.Parts.{Parts, BelongTogether}
 use Rattle.workers.specs.declared.parts.PartVerdict.{PartVerdict}
 use Rattle.workers.specs.declared.parts.PartVerdict.TheVariants.{First, OtherPart}
-use Rattle.workers.specs.declared.ranks.Ranked.{Ranked}
+use Rattle.workers.specs.declared.class_order.Ranked.{Ranked}
 use Rattle.workers.specs.Part.{AreClassVerdicts, ArePartOf, ArePartVerdicts, IsClassVerdict}
 use Rattle.workers.specs.Part.{AreAllByRegion, AreByRegion, IsInOnePart, IsOfPart, IsPartVerdict}
 use Rattle.workers.specs.Part.{first_in, stretch, stretch_size}
-use Rattle.workers.specs.Rank.{AreRanked, IsCutOf, IsRanked, RanksBefore}
+use Rattle.workers.specs.ClassOrder.{AreRanked, IsCutOf, IsRanked, RanksBefore}
 use Rattle.workers.specs.Settling.{shape_for}
-use Rattle.workers.specs.Verdict.{AreBehindHits, AreClassFirsts, AreFirsts, behind, pieces_behind}
+use Rattle.workers.specs.Verdict.{AreAfterHits, AreClassFirsts, AreFirsts, blocks_after}
+use Rattle.workers.specs.Verdict.{pieces_after}
 use Rattle.workers.proofs.TrueOutcomes.{class_count, class_in}
-use Rattle.workers.proofs.ClassRanks.{is_kept, kept_few, kept_order, kept_place}
+use Rattle.workers.proofs.ClassOrders.{is_kept, kept_few, kept_order, kept_place}
 
 -- the part of a class is that of its one stem
 pub part_of_stem : (job : Parts) (parts part class stem : ℕ)
@@ -499,8 +500,8 @@ pub all_hits : (job : Parts) (classes : List ℕ)
     → AreAllByRegion job classes
     → AreClassFirsts job.list.model job.circuit job.tests.tests classes firsts
     → AreClassVerdicts (length job.classes.representative) classes firsts (length classes) table
-    → n ≡ blocks (length job.tests.tests) → skipped ≡ pieces_behind n (map first_in table)
-    → AreBehindHits job skipped
+    → n ≡ blocks (length job.tests.tests) → skipped ≡ pieces_after n (map first_in table)
+    → AreAfterHits job skipped
 all_hits job classes firsts table n skipped all known by same is = record {
   firsts = map first_in table;
   count = length-map table first_in ∙ by.long;
@@ -515,26 +516,26 @@ all_hits job classes firsts table n skipped all known by same is = record {
       ap first_in (get_or_from_slice_get table class x.0 OtherPart x.1) ∙ x.2 in
       subst (IsFirst job.circuit job.tests.tests f) own
       (class_first job classes firsts table all known by f class lt of);
-  number = is ∙ ap (λ k. pieces_behind k (map first_in table)) same;
+  number = is ∙ ap (λ k. pieces_after k (map first_in table)) same;
 }
 
 -- the pieces of a class
-behind_le : (n : ℕ) (first : Option ℕ) → behind n first ≤ n
+behind_le : (n : ℕ) (first : Option ℕ) → blocks_after n first ≤ n
 behind_le n None = omega arith
 behind_le n (Some test) = omega arith
 
-pub behind_within : (n r : ℕ) (first : Option ℕ) → r ≡ behind n first → r ≤ n
+pub behind_within : (n r : ℕ) (first : Option ℕ) → r ≡ blocks_after n first → r ≤ n
 behind_within n r first is = omega (arith, is, behind_le n first)
 
 -- those of the classes before one leave room for its own
 pub behind_room : (n : ℕ) (table : List PartVerdict) (i : ℕ) → i < length table
-    → pieces_behind n (map first_in (take i table)) + n ≤ length table * n
+    → pieces_after n (map first_in (take i table)) + n ≤ length table * n
 behind_room n [] i lt = absurd (omega (arith, lt))
 behind_room n (x ∷ xs) zero lt = omega (arith, suc-mul (length xs) n)
 behind_room n (x ∷ xs) (suc i) lt =
     let rest = behind_room n xs i (omega (arith, lt)) in
-    let one : pieces_behind n (map first_in (take (suc i) (x ∷ xs))) ≡ behind n (first_in x)
-    + pieces_behind n (map first_in (take i xs)) = sum_by-cons (behind n) (first_in x)
+    let one : pieces_after n (map first_in (take (suc i) (x ∷ xs))) ≡ blocks_after n (first_in x)
+    + pieces_after n (map first_in (take i xs)) = sum_by-cons (blocks_after n) (first_in x)
     (map first_in (take i xs)) in
     omega (arith, suc-mul (length xs) n, rest, one, behind_le n (first_in x))
 

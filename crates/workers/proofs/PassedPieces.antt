@@ -7,9 +7,9 @@ use Rattle.std.proofs.lemmas.Option.{slice_get_within}
 use Rattle.patterns.specs.Least.{least}
 use Rattle.block_sim.specs.Parts.{BelongTogether, Parts}
 use Rattle.block_sim.proofs.Public.{true_table}
-use Rattle.workers.specs.Alone.{AreFoundUpTo, ArePassed, IsEarlier, IsUndetected}
+use Rattle.workers.specs.StretchRuns.{AreFoundUpTo, ArePassed, IsEarlier, IsUndetected}
 use Rattle.workers.specs.Stops.{Stops}
-use Rattle.workers.proofs.LoneWorkers.{done_high}
+use Rattle.workers.proofs.StretchRuns.{done_high}
 
 -- before the first piece there is none
 pub passed_none : (job : Parts) (classes : List ℕ) (worker : ℕ) (S : Stops)

@@ -7,11 +7,11 @@ use Rattle.std.specs.declared.vec.Vec.{Vec}
 use Rattle.std.proofs.lemmas.List.{length-set}
 use Rattle.std.proofs.lemmas.Option.{get_or_from_slice_get, slice_get_within}
 use Rattle.fault_ledger.specs.Seats.{Sitter}
-use Rattle.workers.specs.declared.taken.Done.{Done}
-use Rattle.workers.specs.declared.taken.Served.{Served}
-use Rattle.workers.specs.Alone.{AreGivenBack, ArePut}
+use Rattle.workers.specs.declared.stretch_workers.Done.{Done}
+use Rattle.workers.specs.declared.stretch_workers.Served.{Served}
+use Rattle.workers.specs.StretchRuns.{AreGivenBack, ArePut}
 use Rattle.workers.specs.Stretches.{AreApart}
-use Rattle.workers.proofs.ClassRanks.{pushed}
+use Rattle.workers.proofs.ClassOrders.{pushed}
 
 -- what stands in a list stands there still with more behind it
 pub kept : {X : Type 0} (xs ys : List X) (k : ℕ) (x : X) → slice_get xs k ≡ Some x

@@ -8,24 +8,24 @@ use Rattle.patterns.specs.Tests.{blocks}
 use Rattle.block_sim.specs.First.{IsFirst}
 use Rattle.block_sim.specs.Parts.{Parts, BelongTogether}
 use Rattle.block_sim.proofs.Public.{least_is_first, true_table}
-use Rattle.lists.proofs.Places.{within_place}
-use Rattle.workers.specs.declared.alone.Stop.{Stop}
-use Rattle.workers.specs.declared.alone.Waiting.{Waiting}
-use Rattle.workers.specs.declared.taken.Done.{Done}
-use Rattle.workers.specs.Alone.{AreAllFound, AreAllLowest, AreAllStopped, AreFoundByPart}
-use Rattle.workers.specs.Alone.{AreFoundUpTo, AreRunsOf, AreWhole, HasEnded, HasPassed, HasRunSo}
-use Rattle.workers.specs.Alone.{IsDone, IsFoundAt, IsLowerOf, IsLowest, IsLowestAt, IsLowestIn}
-use Rattle.workers.specs.Alone.{IsOpenIn}
-use Rattle.workers.specs.Alone.{IsStopAt, IsWholeAt, PartRun, StretchesWaitFor, WaitsIn, at_first}
-use Rattle.workers.specs.Alone.{run_at, runs_from, unbegun_run}
+use Rattle.list_lemmas.proofs.Places.{within_place}
+use Rattle.workers.specs.declared.stretch_run.Stop.{Stop}
+use Rattle.workers.specs.declared.stretch_run.Waiting.{Waiting}
+use Rattle.workers.specs.declared.stretch_workers.Done.{Done}
+use Rattle.workers.specs.StretchRuns.{AreAllFound, AreAllLowest, AreAllStopped, AreFoundByPart}
+use Rattle.workers.specs.StretchRuns.{AreFoundUpTo, AreRunsOf, AreWhole, HasEnded, HasPassed}
+use Rattle.workers.specs.StretchRuns.{HasRunSo, IsDone, IsFoundAt, IsLowerOf, IsLowest, IsLowestAt}
+use Rattle.workers.specs.StretchRuns.{IsLowestIn, IsOpenIn, IsStopAt, IsWholeAt, PartRun}
+use Rattle.workers.specs.StretchRuns.{StretchesWaitFor, WaitsIn, at_first, run_at, runs_from}
+use Rattle.workers.specs.StretchRuns.{unbegun_run}
 use Rattle.workers.specs.Part.{stretch}
-use Rattle.workers.specs.Rank.{IsCutOf}
+use Rattle.workers.specs.ClassOrder.{IsCutOf}
 use Rattle.workers.specs.Verdict.{AreClassFirsts}
 use Rattle.workers.specs.Stops.{Stops}
 use Rattle.workers.proofs.ReturnsByPart.{kept, last_of}
 use Rattle.workers.proofs.PartsOfClasses.{FirstsUpTo, firsts_more, stretch_within}
-use Rattle.workers.proofs.ClassRanks.{pushed}
-use Rattle.workers.proofs.LoneWorkers.{done_high, lowest_along, lowest_join}
+use Rattle.workers.proofs.ClassOrders.{pushed}
+use Rattle.workers.proofs.StretchRuns.{done_high, lowest_along, lowest_join}
 
 -- where all blocks are done the first tests are found
 pub firsts_found : (job : Parts) (classes : List ℕ) (firsts : List (Option ℕ)) → BelongTogether job

@@ -25,7 +25,7 @@ use Rattle.fault_ledger.proofs.Public.{sitter_sees}
 use Rattle.std.proofs.Math.Nat.{mod-lt}
 use Rattle.fault_ledger.specs.declared.Status.{Status}
 use Rattle.fault_ledger.specs.declared.Status.TheVariants as status_is
-use Rattle.workers.specs.Chosen.{Chosen}
+use Rattle.workers.specs.ClassSelection.{ClassSelection}
 use Rattle.workers.specs.Settling.{AreSettled, IsShapeOver}
 use Rattle.workers.specs.Stops.{Stops}
 use Rattle.workers.specs.Work.{EachReport, GivesTrue, IsStopped, ReportsTruly, WasNoDrop}
@@ -44,7 +44,7 @@ reports_none H w (Event.Report u o ∷ newer) earlier n = (
 )
 reports_none H w (Event.Drop u ∷ newer) earlier n = reports_none H w newer earlier n.1
 
-pub truly_none : (job : Parts) (over : Chosen) (s : Shape) (w : ℕ) (newer earlier : History)
+pub truly_none : (job : Parts) (over : ClassSelection) (s : Shape) (w : ℕ) (newer earlier : History)
     → NoneOf w newer → ReportsTruly job over s w newer earlier
 truly_none job over s w newer earlier n =
     reports_none (λ o h. GivesTrue job over s (held_by w h) o × WasNoDrop s w h) w newer earlier n
@@ -63,7 +63,8 @@ reports_append H w (Event.Report v o ∷ later) newer earlier t u = (
 reports_append H w (Event.Drop v ∷ later) newer earlier t u =
     reports_append H w later newer earlier t u
 
-pub truly_append : (job : Parts) (over : Chosen) (s : Shape) (w : ℕ) (later newer earlier : History)
+pub truly_append : (job : Parts) (over : ClassSelection) (s : Shape) (w : ℕ)
+    (later newer earlier : History)
     → ReportsTruly job over s w newer earlier → ReportsTruly job over s w later (newer ++ earlier)
     → ReportsTruly job over s w (later ++ newer) earlier
 truly_append job over s w later newer earlier t u =
@@ -91,7 +92,8 @@ no_drop_later : (s : Shape) (w : ℕ) (later earlier : History) → ContinuesWit
 no_drop_later s w later earlier c n = (n.0, without_twice w later earlier n.0 c n.1, n.2)
 
 -- a seat that does nothing
-pub works_same : (job : Parts) (over : Chosen) (a : Sitter) → IsSitter a → WorksOver job over a a
+pub works_same : (job : Parts) (over : ClassSelection) (a : Sitter) → IsSitter a
+    → WorksOver job over a a
 works_same job over a i = record {
   place = refl;
   worker = refl;
@@ -102,7 +104,7 @@ works_same job over a i = record {
 }
 
 -- work after work
-pub works_twice : (job : Parts) (over : Chosen) (a b d : Sitter) → WorksOver job over a b
+pub works_twice : (job : Parts) (over : ClassSelection) (a b d : Sitter) → WorksOver job over a b
     → WorksOver job over b d → WorksOver job over a d
 works_twice job over a b d x y = record {
   place = y.place ∙ x.place;
@@ -117,7 +119,7 @@ works_twice job over a b d x y = record {
 }
 
 -- looks
-pub sees_works : (job : Parts) (over : Chosen) (a b : Sitter) (told : Bool) → Sees a told b
+pub sees_works : (job : Parts) (over : ClassSelection) (a b : Sitter) (told : Bool) → Sees a told b
     → WorksOver job over a b
 sees_works job over a b told s = record {
   place = ap (λ (x : Sitter). x.place) s.seat;
@@ -129,7 +131,7 @@ sees_works job over a b told s = record {
 }
 
 -- an event
-pub makes_works : (job : Parts) (over : Chosen) (a b : Sitter) (e : Event) (r : Reply)
+pub makes_works : (job : Parts) (over : ClassSelection) (a b : Sitter) (e : Event) (r : Reply)
     (m : Makes a e r b) → ReportsTruly job over a.place.shape a.worker (e ∷ []) m.before
     → WorksOver job over a b
 makes_works job over a b e r m t = record {
@@ -175,7 +177,7 @@ given a b class block m =
     )
 
 -- a drop that was made
-pub dropped : (job : Parts) (over : Chosen) (a b : Sitter) (r : Reply)
+pub dropped : (job : Parts) (over : ClassSelection) (a b : Sitter) (r : Reply)
     → Makes a (Event.Drop a.worker) r b → WorksOver job over a b × (b.told ≡ a.told)
     × (held_by b.worker b.seen ≡ None)
 dropped job over a b r m = (
@@ -186,7 +188,7 @@ dropped job over a b r m = (
 )
 
 -- a report of the true outcome that was made, of a piece that could not be dropped
-pub reported : (job : Parts) (over : Chosen) (a b : Sitter) (o : Outcome) (r : Reply)
+pub reported : (job : Parts) (over : ClassSelection) (a b : Sitter) (o : Outcome) (r : Reply)
     → Makes a (Event.Report a.worker o) r b
     → GivesTrue job over a.place.shape (held_by a.worker a.seen) o
     → WasNoDrop a.place.shape a.worker a.seen → WorksOver job over a b × (b.told ≡ a.told)
@@ -240,7 +242,8 @@ holds_none a b i e s = go (nat_lt (claims a.seen) (piece_count a.place.shape)) (
     go false q = absurd (cc)
 
 -- what is true of a class and a block is true of their piece
-pub true_of_piece : (job : Parts) (over : Chosen) (s : Shape) (class block : ℕ) (o : Outcome)
+pub true_of_piece : (job : Parts) (over : ClassSelection) (s : Shape) (class block : ℕ)
+    (o : Outcome)
     (x : Option ℕ) → class < s.classes → x ≡ Some (piece_at s class block)
     → IsTrueOutcome job.list.model job.circuit job.tests.tests (over.class_at class) block o
     → GivesTrue job over s x o
@@ -252,7 +255,8 @@ true_of_piece job over s class block o x lt e t =
     (sym (block_of-at s class block lt)) t))
 
 -- a true outcome of the piece that a seat holds is not refused
-pub report_taken : (job : Parts) (over : Chosen) (a b : Sitter) (class block : ℕ) (o : Outcome)
+pub report_taken : (job : Parts) (over : ClassSelection) (a b : Sitter) (class block : ℕ)
+    (o : Outcome)
     (r : _) → IsSitter a → IsShapeOver job over a.place.shape → class < a.place.shape.classes
     → held_by a.worker a.seen ≡ Some (piece_at a.place.shape class block)
     → IsTrueOutcome job.list.model job.circuit job.tests.tests (over.class_at class) block o
@@ -267,7 +271,7 @@ report_taken job over a b class block o r i is lt e t s =
     (piece_at a.place.shape class block) o i.among e g in
     absurd (cc)
 
-module _ (job : Parts) (over : Chosen) (a b : Sitter) (p : Place) (class block : ℕ)
+module _ (job : Parts) (over : ClassSelection) (a b : Sitter) (p : Place) (class block : ℕ)
     (at : a.place ≡ p) (i : IsSitter a) (is : IsShapeOver job over p.shape)
     (lt : class < p.shape.classes)
     (holding : held_by a.worker a.seen ≡ Some (piece_at p.shape class block)) where
@@ -319,7 +323,7 @@ module _ (job : Parts) (over : Chosen) (a b : Sitter) (p : Place) (class block :
         true s
 
 -- the work of a claim that was told that all pieces are claimed
-pub exhausted : (job : Parts) (over : Chosen) (a b : Sitter) (r : Reply) → IsSitter a
+pub exhausted : (job : Parts) (over : ClassSelection) (a b : Sitter) (r : Reply) → IsSitter a
     → (a.told ≡ false → Sees a true b) → (a.told ≡ true → Stays a (call.Claim a.worker) r b)
     → WorksOver job over a b
 exhausted job over a b r i sees stays = go a.told refl
@@ -329,17 +333,17 @@ exhausted job over a b r i sees stays = go a.told refl
     go true e = subst (WorksOver job over a) (sym (stays e).seat) (works_same job over a i)
 
 -- a claim of a piece
-pub claimed : (job : Parts) (over : Chosen) (a b : Sitter) (r : Reply)
+pub claimed : (job : Parts) (over : ClassSelection) (a b : Sitter) (r : Reply)
     → Makes a (Event.Claim a.worker) r b → WorksOver job over a b
 claimed job over a b r m = makes_works job over a b (Event.Claim a.worker) r m tt
 
-works_claims : (job : Parts) (over : Chosen) (a b : Sitter) → WorksOver job over a b
+works_claims : (job : Parts) (over : ClassSelection) (a b : Sitter) → WorksOver job over a b
     → claims a.seen ≤ claims b.seen
 works_claims job over a b x = subst (λ h. claims a.seen ≤ claims h) (sym x.begins)
     (claims_past x.newer a.seen)
 
 -- a piece that was claimed leaves fewer
-pub fewer : (job : Parts) (over : Chosen) (a b d : Sitter) (p : Place) (class block : ℕ)
+pub fewer : (job : Parts) (over : ClassSelection) (a b d : Sitter) (p : Place) (class block : ℕ)
     → a.place ≡ p → Makes a (Event.Claim a.worker) (Claimed (claim_is.Piece class block)) b
     → WorksOver job over b d
     → piece_count p.shape - claims d.seen < piece_count p.shape - claims a.seen
@@ -379,7 +383,7 @@ stopped_holding stops a b class block m s =
     )
 
 -- what stays settled
-pub settled_works : (job : Parts) (over : Chosen) (s : Shape) (n : ℕ) (a b : Sitter)
+pub settled_works : (job : Parts) (over : ClassSelection) (s : Shape) (n : ℕ) (a b : Sitter)
     → WorksOver job over a b → AreSettled s a.seen n → AreSettled s b.seen n
 settled_works job over s n a b x t = subst (λ h. AreSettled s h n) (sym x.begins)
     (settled_past s n x.newer a.seen t)

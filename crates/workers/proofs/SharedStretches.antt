@@ -30,15 +30,16 @@ use Rattle.fault_ledger.specs.Seats.{ClosedFace, Closes, Place, Sitter, closed_f
 use Rattle.fault_ledger.proofs.Public.{claim_accepted, claims_past, held_once, held_open}
 use Rattle.fault_ledger.proofs.Public.{held_piece, legal_claims, report_accepted, status-open}
 use Rattle.fault_ledger.proofs.Public.{unclaimed_open}
-use Rattle.lists.proofs.Places.{within_place}
-use Rattle.workers.specs.declared.alone.Stop.{Stop}
-use Rattle.workers.specs.declared.alone.Waiting.{Waiting}
-use Rattle.workers.specs.declared.taken.Done.{Done}
-use Rattle.workers.specs.declared.taken.Served.{Served}
-use Rattle.workers.specs.Alone.{AreFoundByPart, AreGivenBack, AreWhole, HasEnded, IsDone, IsLowest}
-use Rattle.workers.specs.Alone.{IsOpenIn, IsStopAt, IsStoppedAmong, IsWholeAt, run_at, runs_from}
+use Rattle.list_lemmas.proofs.Places.{within_place}
+use Rattle.workers.specs.declared.stretch_run.Stop.{Stop}
+use Rattle.workers.specs.declared.stretch_run.Waiting.{Waiting}
+use Rattle.workers.specs.declared.stretch_workers.Done.{Done}
+use Rattle.workers.specs.declared.stretch_workers.Served.{Served}
+use Rattle.workers.specs.StretchRuns.{AreFoundByPart, AreGivenBack, AreWhole, HasEnded, IsDone}
+use Rattle.workers.specs.StretchRuns.{IsLowest, IsOpenIn, IsStopAt, IsStoppedAmong, IsWholeAt}
+use Rattle.workers.specs.StretchRuns.{run_at, runs_from}
 use Rattle.workers.specs.Part.{stretch, stretch_count, stretch_size}
-use Rattle.workers.specs.Rank.{IsCutOf}
+use Rattle.workers.specs.ClassOrder.{IsCutOf}
 use Rattle.workers.specs.Stretches.{AreApart, AreOfStretches, AreServed, AreShared}
 use Rattle.workers.specs.Stretches.{EachClaim, StandsFor}
 use Rattle.workers.specs.Stretches.{EndsServing, HasServed, IsAmong, Stands, crew_of}

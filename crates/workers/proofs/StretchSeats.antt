@@ -22,9 +22,9 @@ use Rattle.fault_ledger.specs.Answer.{IsLegal}
 use Rattle.fault_ledger.specs.Seats.{IsSitter, Makes, Place, Sees, Sitter, Stays, newcomer}
 use Rattle.fault_ledger.proofs.Public.{claims_past, entry_past, goes_on_same, held-holds}
 use Rattle.fault_ledger.proofs.Public.{held_goes_on, legal_claims, report_answer}
-use Rattle.workers.specs.declared.alone.Waiting.{Waiting}
-use Rattle.workers.specs.declared.taken.Done.{Done}
-use Rattle.workers.specs.Alone.{IsDone}
+use Rattle.workers.specs.declared.stretch_run.Waiting.{Waiting}
+use Rattle.workers.specs.declared.stretch_workers.Done.{Done}
+use Rattle.workers.specs.StretchRuns.{IsDone}
 use Rattle.workers.specs.Stretches.{Accounts, AfterRun, ClaimsStretch, EachClaim}
 use Rattle.workers.specs.Stretches.{HasServed, IsAmong, SeesAllClaimed, Stands}
 use Rattle.workers.specs.Stops.{Stops}

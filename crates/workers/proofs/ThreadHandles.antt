@@ -7,8 +7,8 @@ use Rattle.block_sim.specs.Simulation.{Serves}
 use Rattle.fault_ledger.specs.History.{class_of, block_of}
 use Rattle.fault_ledger.specs.Seats.{Place, Sitter, newcomer, newcomers}
 use Rattle.patterns.proofs.Public.{length-map-below, get_or-map-below}
-use Rattle.workers.specs.Chosen.{Chosen}
-use Rattle.workers.specs.declared.threads.Worker.{Worker}
+use Rattle.workers.specs.ClassSelection.{ClassSelection}
+use Rattle.workers.specs.declared.piece_threads.Worker.{Worker}
 use Rattle.workers.specs.Stops.{Stops}
 use Rattle.workers.specs.Work.{HasRested, IsStopped, Returns, stops_over}
 
@@ -45,7 +45,7 @@ pub own_newcomer : (p : Place) (n : ℕ) (a : Sitter) → a ≡ newcomer p n →
 own_newcomer p n a e = e ∙ ap (newcomer p) (ap (λ (x : Sitter). x.worker) (sym e))
 
 -- what became of a seat, under other names of the same
-pub returns_along : (j j' : Parts) (o o' : Chosen) (p p' : Place) (w w' : ℕ) (P P' : Type 0)
+pub returns_along : (j j' : Parts) (o o' : ClassSelection) (p p' : Place) (w w' : ℕ) (P P' : Type 0)
     (S S' : Stops) (a a' : Sitter) → j ≡ j' → o ≡ o' → p ≡ p' → w ≡ w' → (P' → P)
     → ((u k b : ℕ) → S.may u k b → S'.may u k b) → a ≡ a' → Returns j o p w P S a
     → Returns j' o' p' w' P' S' a'

@@ -4,7 +4,7 @@ use Rattle.std.proofs.Common.{Option, Some, None, refl, sym, ap, ◌∙◌, subs
 use Rattle.std.specs.Prelude.{slice_get, unwrap_or}
 use Rattle.std.proofs.lemmas.List.{length-map}
 use Rattle.std.proofs.lemmas.Option.{slice_get_within}
-use Rattle.lists.proofs.Places.{within_place, from_mapped}
+use Rattle.list_lemmas.proofs.Places.{within_place, from_mapped}
 use Rattle.fault_model.specs.Fault.{Fault, faults}
 use Rattle.fault_model.specs.Collapse.{representatives, IsClassOf}
 use Rattle.patterns.specs.declared.Outcome.{Outcome}
@@ -20,7 +20,7 @@ use Rattle.fault_ledger.specs.Answer.{IsTrueTo, fits_size}
 use Rattle.fault_ledger.specs.Settled.{status, IsSettledAt}
 use Rattle.fault_ledger.proofs.Public.{settles_at_least}
 use Rattle.workers.specs.Schedule.{IsTableOf}
-use Rattle.workers.specs.Chosen.{Chosen, every}
+use Rattle.workers.specs.ClassSelection.{ClassSelection, every}
 use Rattle.workers.specs.Settling.{AreSettled, IsShapeOf, IsShapeOver}
 use Rattle.workers.specs.Verdict.{AreFirsts, settled_at, verdicts}
 
@@ -44,11 +44,11 @@ true_fits job s class block (outcome.Hit k) is t =
     lt-ltb k (size_of s.tests block) (subst (λ n. k < n) (sym e) t.2.0)
 
 -- the table of chosen classes, by the ledger's numbers
-abbrev pub table_over : Chosen → Table → Table
+abbrev pub table_over : ClassSelection → Table → Table
 table_over over table k block = table (over.class_at k) block
 
 -- where a history is true to the true table of chosen classes, a settled class has its first test
-pub first_over : (job : Parts) (over : Chosen) (s : Shape) (table : Table) (h : History)
+pub first_over : (job : Parts) (over : ClassSelection) (s : Shape) (table : Table) (h : History)
     → BelongTogether job → IsShapeOver job over s → IsTableOf job table
     → IsTrueTo s (table_over over table) h
     → (k : ℕ) (at : Option ℕ) (f : Fault) → k < s.classes → IsSettledAt s h k at

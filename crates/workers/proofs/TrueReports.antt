@@ -13,7 +13,7 @@ use Rattle.fault_ledger.specs.History.{History, ContinuesWithout, class_of, bloc
 use Rattle.fault_ledger.specs.Answer.{IsLegal, Gives, IsTrueTo}
 use Rattle.fault_ledger.proofs.Public.{report_accepted, held_piece, block_of-below, some_class}
 use Rattle.workers.specs.Schedule.{IsTableOf}
-use Rattle.workers.specs.Chosen.{Chosen, AreChosenOf, every}
+use Rattle.workers.specs.ClassSelection.{ClassSelection, AreChosenOf, every}
 use Rattle.workers.specs.Settling.{AreSettled, IsShapeOf, IsShapeOver}
 use Rattle.workers.specs.Verdict.{AreFirsts, verdicts}
 use Rattle.workers.specs.Work.{GivesTrue, ReportsTruly}
@@ -21,7 +21,7 @@ use Rattle.workers.proofs.TrueOutcomes.{class_count, firsts_of, table_over}
 use Rattle.workers.proofs.SeatCalls.{truly_append, truly_none}
 
 -- every report gives the true outcome
-abbrev pub AllTrue : Parts → Chosen → Shape → History → Type 0
+abbrev pub AllTrue : Parts → ClassSelection → Shape → History → Type 0
 AllTrue job over s [] = Unit {0}
 AllTrue job over s (Event.Report u o ∷ h) = GivesTrue job over s (held_by u h) o
     × AllTrue job over s h
@@ -29,7 +29,7 @@ AllTrue job over s (Event.Claim u ∷ h) = AllTrue job over s h
 AllTrue job over s (Event.Drop u ∷ h) = AllTrue job over s h
 
 -- where each worker's reports do
-pub all_true : (job : Parts) (over : Chosen) (s : Shape) (h : History) → IsLegal s h
+pub all_true : (job : Parts) (over : ClassSelection) (s : Shape) (h : History) → IsLegal s h
     → ((w : ℕ) → w < s.workers → ReportsTruly job over s w h []) → AllTrue job over s h
 all_true job over s [] l t = tt
 all_true job over s (Event.Claim u ∷ h) l t = all_true job over s h l.1 t
@@ -41,7 +41,8 @@ all_true job over s (Event.Report u o ∷ h) l t =
     )
 
 -- a worker's reports, in a history that goes on without it
-pub truly_goes_on : (job : Parts) (over : Chosen) (s : Shape) (w : ℕ) (later earlier : History)
+pub truly_goes_on : (job : Parts) (over : ClassSelection) (s : Shape) (w : ℕ)
+    (later earlier : History)
     → ContinuesWithout w later earlier → ReportsTruly job over s w earlier []
     → ReportsTruly job over s w later []
 truly_goes_on job over s w later earlier c t =
@@ -50,7 +51,7 @@ truly_goes_on job over s w later earlier c t =
     ++ []) c.2))
 
 -- true reports are those of the true table
-pub true_to : (job : Parts) (over : Chosen) (s : Shape) (table : Table) (h : History)
+pub true_to : (job : Parts) (over : ClassSelection) (s : Shape) (table : Table) (h : History)
     → BelongTogether job → AreChosenOf job over → IsShapeOver job over s → IsTableOf job table
     → IsLegal s h
     → AllTrue job over s h → IsTrueTo s (table_over over table) h

@@ -6,8 +6,8 @@ use Rattle.workers.specs.declared.RunFault.{RunFault}
 use Rattle.workers.specs.declared.RunFault.TheVariants.{NoWorkers, TooManyWorkers, NoSuchMove}
 use Rattle.workers.specs.declared.RunFault.TheVariants.{TooManyPieces, Memory, Threads}
 use Rattle.workers.specs.declared.RunFault.TheVariants.{Unfinished}
-use Rattle.workers.specs.Alone.{PartsWaitFor, PartWaitsFor, StretchesWaitFor}
-use Rattle.workers.specs.Chosen.{Chosen, every}
+use Rattle.workers.specs.StretchRuns.{PartsWaitFor, PartWaitsFor, StretchesWaitFor}
+use Rattle.workers.specs.ClassSelection.{ClassSelection, every}
 use Rattle.workers.specs.Part.{ArePartOf, stretch_size}
 use Rattle.workers.specs.Stops.{Stops}
 use Rattle.workers.specs.Work.{WaitsFor}
@@ -58,7 +58,7 @@ IsScheduleFault pieces workers moves fault = IsWorkersFault workers fault
 -- pieces, and then for want of memory or of a thread. One whose gate always lets pass finishes;
 -- else the fault names the class
 -- and the block of the job for which the run waits.
-abbrev pub IsRunFaultOver : Parts → Chosen → ℕ → Type 0 → Stops → RunFault → Type 0
+abbrev pub IsRunFaultOver : Parts → ClassSelection → ℕ → Type 0 → Stops → RunFault → Type 0
 IsRunFaultOver job chosen workers passing stops TooManyPieces = (0 < workers) × (workers ≤ 64)
     × (max_pieces < chosen.count * blocks (length job.tests.tests))
 IsRunFaultOver job chosen workers passing stops Memory = (0 < workers) × (workers ≤ 64)

@@ -4,10 +4,10 @@ use Rattle.block_sim.specs.Parts.{Parts}
 use Rattle.fault_ledger.specs.declared.Shape.{Shape}
 use Rattle.fault_ledger.specs.History.{History}
 use Rattle.fault_ledger.specs.Settled.{IsSettledAt}
-use Rattle.workers.specs.Chosen.{Chosen, every}
+use Rattle.workers.specs.ClassSelection.{ClassSelection, every}
 
 -- the shape of a ledger for chosen classes of a job, and for all of them
-abbrev pub shape_over : Parts → Chosen → ℕ → Shape
+abbrev pub shape_over : Parts → ClassSelection → ℕ → Shape
 shape_over job chosen workers = record {
   classes = chosen.count;
   tests = length job.tests.tests;
@@ -18,7 +18,7 @@ abbrev pub shape_for : Parts → ℕ → Shape
 shape_for job workers = shape_over job (every job.classes) workers
 
 -- the ledger has the numbers of the chosen classes and of the job's tests
-pub record IsShapeOver (job : Parts) (chosen : Chosen) (shape : Shape) : Type 0 where
+pub record IsShapeOver (job : Parts) (chosen : ClassSelection) (shape : Shape) : Type 0 where
   pub classes : shape.classes ≡ chosen.count
   pub tests : shape.tests ≡ length job.tests.tests
 

@@ -14,10 +14,10 @@ use Rattle.fault_ledger.specs.History.{piece_count}
 use Rattle.fault_ledger.specs.Answer.{IsLegal}
 use Rattle.fault_ledger.specs.Settled.{finish}
 use Rattle.fault_ledger.specs.Seats.{ClosedFace, Makes, Place, Sitter, closed_face}
-use Rattle.workers.specs.declared.alone.Waiting.{Waiting}
-use Rattle.workers.specs.declared.taken.Done.{Done}
-use Rattle.workers.specs.declared.taken.Served.{Served}
-use Rattle.workers.specs.Alone.{AreDone}
+use Rattle.workers.specs.declared.stretch_run.Waiting.{Waiting}
+use Rattle.workers.specs.declared.stretch_workers.Done.{Done}
+use Rattle.workers.specs.declared.stretch_workers.Served.{Served}
+use Rattle.workers.specs.StretchRuns.{AreDone}
 use Rattle.workers.specs.declared.parts.PartVerdict.{PartVerdict}
 use Rattle.workers.specs.declared.parts.PartVerdict.TheVariants.{First}
 use Rattle.workers.specs.Part.{AreAllByRegion, ArePartOf, stretch, stretch_count, stretch_size}

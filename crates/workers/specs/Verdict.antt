@@ -51,20 +51,20 @@ pub record AreFirsts (m : Model) (c : List Statement) (tests : List Test)
       → slice_get firsts i ≡ Some first → IsFirst c tests f first
 
 -- of so many blocks those behind the block of a first test, none where there is no test
-abbrev pub behind : ℕ → Option ℕ → ℕ
-behind n None = 0
-behind n (Some test) = n - (test / 64 + 1)
+abbrev pub blocks_after : ℕ → Option ℕ → ℕ
+blocks_after n None = 0
+blocks_after n (Some test) = n - (test / 64 + 1)
 
 -- the number of such pieces of all classes
-abbrev pub pieces_behind : ℕ → List (Option ℕ) → ℕ
-pieces_behind n firsts = sum_by (behind n) firsts
+abbrev pub pieces_after : ℕ → List (Option ℕ) → ℕ
+pieces_after n firsts = sum_by (blocks_after n) firsts
 
 -- So many pieces of a job stand behind the first hits of their classes. With the first test of each
 -- class, by its number, or none where no test detects.
-pub record AreBehindHits (job : Parts) (skipped : ℕ) : Type 0 where
+pub record AreAfterHits (job : Parts) (skipped : ℕ) : Type 0 where
   pub firsts : List (Option ℕ)
   pub count : length firsts ≡ length job.classes.representative
   pub first : (class : ℕ) (f : Fault) (first : Option ℕ)
       → IsClassOf job.list.model job.circuit f class → slice_get firsts class ≡ Some first
       → IsFirst job.circuit job.tests.tests f first
-  pub number : skipped ≡ pieces_behind (blocks (length job.tests.tests)) firsts
+  pub number : skipped ≡ pieces_after (blocks (length job.tests.tests)) firsts

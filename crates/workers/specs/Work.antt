@@ -15,15 +15,15 @@ use Rattle.fault_ledger.specs.History.{ContinuesWithout, states_of}
 use Rattle.fault_ledger.specs.Answer.{IsLegal, answer}
 use Rattle.fault_ledger.specs.Settled.{finish, is_skipped}
 use Rattle.fault_ledger.specs.Seats.{ClosedFace, Place, Sitter, closed_face}
-use Rattle.workers.specs.declared.worker.End.{End}
-use Rattle.workers.specs.declared.worker.End.TheVariants.{Exhausted, AllSettled, Stopped}
-use Rattle.workers.specs.Chosen.{Chosen, every}
+use Rattle.workers.specs.declared.piece_worker.End.{End}
+use Rattle.workers.specs.declared.piece_worker.End.TheVariants.{Exhausted, AllSettled, Stopped}
+use Rattle.workers.specs.ClassSelection.{ClassSelection, every}
 use Rattle.workers.specs.Settling.{AreSettled, shape_for, shape_over}
 use Rattle.workers.specs.Stops.{Stops}
 use Rattle.workers.specs.Verdict.{VerdictList, verdicts}
 
 -- the outcome is the true one of the piece that is held, in a ledger of chosen classes
-abbrev pub GivesTrue : Parts → Chosen → Shape → Option ℕ → Outcome → Type 0
+abbrev pub GivesTrue : Parts → ClassSelection → Shape → Option ℕ → Outcome → Type 0
 GivesTrue job chosen shape None o = ⊥
 GivesTrue job chosen shape (Some piece) o =
     IsTrueOutcome job.list.model job.circuit job.tests.tests
@@ -45,14 +45,14 @@ EachReport Holds w (_ ∷ newer) earlier = EachReport Holds w newer earlier
 
 -- Each report of the worker among the newer events gives the true outcome of the piece that it
 -- held, which the worker could not drop.
-abbrev pub ReportsTruly : Parts → Chosen → Shape → ℕ → History → History → Type 0
+abbrev pub ReportsTruly : Parts → ClassSelection → Shape → ℕ → History → History → Type 0
 ReportsTruly job chosen shape w newer earlier =
     EachReport (λ o h. GivesTrue job chosen shape (held_by w h) o × WasNoDrop shape w h) w newer
     earlier
 
 -- What a seat has seen after its worker's work is legal and begins with what it had seen, and
 -- each new report of the worker in it is true, of a piece that could not be dropped.
-pub record WorksOver (job : Parts) (chosen : Chosen) (old new : Sitter) : Type 0 where
+pub record WorksOver (job : Parts) (chosen : ClassSelection) (old new : Sitter) : Type 0 where
   pub place : new.place ≡ old.place
   pub worker : new.worker ≡ old.worker
   pub newer : History
@@ -65,7 +65,7 @@ abbrev pub Works : Parts → Sitter → Sitter → Type 0
 Works job old new = WorksOver job (every job.classes) old new
 
 -- where a gate stops workers, by the ledger's numbers of chosen classes
-abbrev pub stops_over : Chosen → Stops → Stops
+abbrev pub stops_over : ClassSelection → Stops → Stops
 stops_over chosen stops = record {
   may = λ worker class block. stops.may worker (chosen.class_at class) block;
   must = λ worker class block. stops.must worker (chosen.class_at class) block;
@@ -96,7 +96,8 @@ pub record HasRested (seat : Sitter) : Type 0 where
 -- What became of a worker's seat of a new ledger: it came back, what it has seen is legal, and
 -- each report of the worker is true, of a piece that could not be dropped. The worker has rested or
 -- was stopped; where its gate always lets pass, it has rested.
-pub record Returns (job : Parts) (chosen : Chosen) (place : Place) (w : ℕ) (passing : Type 0)
+pub record Returns (job : Parts) (chosen : ClassSelection) (place : Place) (w : ℕ)
+    (passing : Type 0)
     (stops : Stops) (seat : Sitter) : Type 0 where
   pub place_is : seat.place ≡ place
   pub worker_is : seat.worker ≡ w
@@ -106,20 +107,21 @@ pub record Returns (job : Parts) (chosen : Chosen) (place : Place) (w : ℕ) (pa
   pub ended : HasRested seat ⊎ IsStopped place.shape (stops_over chosen stops) w seat.seen
 
 -- all seats came back: one of each worker, by number
-pub record AreBack (job : Parts) (chosen : Chosen) (place : Place) (passing : Type 0)
+pub record AreBack (job : Parts) (chosen : ClassSelection) (place : Place) (passing : Type 0)
     (stops : Stops) (seats : List Sitter) : Type 0 where
   pub count : length seats ≡ place.shape.workers
   pub each : (w : ℕ) (seat : Sitter) → slice_get seats w ≡ Some seat
       → Returns job chosen place w passing stops seat
 
 -- each worker's reports in a history are true, of pieces that it could not drop
-abbrev pub AllReportTruly : Parts → Chosen → Shape → History → Type 0
+abbrev pub AllReportTruly : Parts → ClassSelection → Shape → History → Type 0
 AllReportTruly job chosen shape h =
     (w : ℕ) → w < shape.workers → ReportsTruly job chosen shape w h []
 
 -- What a run over chosen classes leaves: the closed ledger shows a legal and finished history of a
 -- ledger of these classes, in which each report is true, of a piece that could not be dropped.
-pub record HasRun (job : Parts) (chosen : Chosen) (workers : ℕ) (closed : ClosedFace) : Type 0 where
+pub record HasRun (job : Parts) (chosen : ClassSelection) (workers : ℕ) (closed : ClosedFace) : Type
+    0 where
   pub shape : closed.shape ≡ shape_over job chosen workers
   pub history : History
   pub legal : IsLegal closed.shape history
@@ -142,7 +144,7 @@ pub record IsOfHistory (job : Parts) (workers : ℕ) (v : VerdictList) : Type 0 
 -- says some legal history of a ledger of these classes, whose reports are true, of pieces that
 -- could
 -- not be dropped, and at whose end each worker was stopped, or all pieces are claimed.
-pub record WaitsFor (job : Parts) (chosen : Chosen) (workers : ℕ) (stops : Stops)
+pub record WaitsFor (job : Parts) (chosen : ClassSelection) (workers : ℕ) (stops : Stops)
     (class block : ℕ) : Type 0 where
   pub history : History
   pub legal : IsLegal (shape_over job chosen workers) history

@@ -13,23 +13,23 @@
 //! the classes of one part of a run that several machines share.
 #![tactic(auto)]
 
-mod alone;
-mod arrange;
-mod chosen;
-mod classes;
-mod listed;
-mod open;
-mod open_places;
-mod pace;
+mod claim_backoff;
+mod class_list_run;
+mod class_order;
+mod class_selection;
+mod counting_sort;
+mod list_runner;
+mod open_classes;
+mod open_run;
 mod parts;
-mod ranks;
+mod piece_simulator;
+mod piece_threads;
+mod piece_worker;
 mod schedule;
-mod simulator;
+mod stretch_run;
+mod stretch_workers;
 mod stretches;
-mod taken;
-mod threads;
 mod verdicts;
-mod worker;
 
 ghost use Rattle.std.specs.Prelude.{◌≡◌, ◌<◌, ◌≤◌, ◌*◌, IfErr, OnOk, length};
 ghost use Rattle.patterns.specs.Tests.{blocks, max_pieces};
@@ -37,21 +37,21 @@ ghost use Rattle.block_sim.specs.Parts.{piece_count};
 ghost use Rattle.workers.specs.Refused.{IsWorkersFault};
 
 use block_sim::Job;
-pub use classes::run_classes;
+pub use class_list_run::run_classes;
 pub use fault_ledger::MAX_WORKERS;
-pub use listed::ListRunner;
-pub use open::run_open;
+pub use list_runner::ListRunner;
+pub use open_run::run_open;
 pub use parts::{
     LedgerRun, PartVerdict, in_one_part, part_of, run_in_parts, run_over_ledger, run_part,
 };
 use patterns::MAX_PIECES;
+pub use piece_threads::run;
+pub use piece_worker::{End, Gate, OpenGate, work};
 pub use schedule::run_schedule;
 use std::alloc::{AllocError, AllocFailed};
 pub use stretches::parts_for;
 use thiserror::Error;
-pub use threads::run;
 pub use verdicts::Verdicts;
-pub use worker::{End, Gate, OpenGate, work};
 
 /// An error of a run.
 #[derive(Clone, Copy, Debug, PartialEq, Eq, Error)]

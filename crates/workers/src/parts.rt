@@ -5,24 +5,25 @@ ghost use Rattle.std.specs.Prelude.{OnOk, Some, length, map, slice_index_or, vec
 ghost use Rattle.patterns.specs.Tests.{blocks, max_pieces};
 ghost use Rattle.block_sim.specs.Parts.{BelongTogether, Parts};
 ghost use Rattle.fault_ledger.specs.Seats.{ClosedFace, Closes, Sitter, newcomers};
-ghost use Rattle.workers.specs.Alone.{AreAllFound, AreAllLowest, AreGivenBack, ArePut, IsLowest};
-ghost use Rattle.workers.specs.Alone.{IsLowestAt, IsLowestIn, WaitsIn, run_at, runs_from};
+ghost use Rattle.workers.specs.StretchRuns.{AreAllFound, AreAllLowest, AreGivenBack, ArePut};
+ghost use Rattle.workers.specs.StretchRuns.{IsLowest, IsLowestAt, IsLowestIn, WaitsIn, run_at};
+ghost use Rattle.workers.specs.StretchRuns.{runs_from};
 ghost use Rattle.workers.specs.Part.{AreClassVerdicts, ArePartVerdicts, IsInOnePart};
 ghost use Rattle.workers.specs.Part.{IsOfPart, first_in, stretch, stretch_count};
-ghost use Rattle.workers.specs.Rank.{IsCutOf};
+ghost use Rattle.workers.specs.ClassOrder.{IsCutOf};
 ghost use Rattle.workers.specs.Refused.{ArePartsWithin, IsPartFault, IsPartsFault, IsPartWithin};
 ghost use Rattle.workers.specs.Refused.{IsStretchesFault};
 ghost use Rattle.workers.specs.Stretches.{AreApart, AreOfStretches, AreShared};
 ghost use Rattle.workers.specs.Stretches.{IsOfStretches, IsPartOfStretches, crew_of};
 ghost use Rattle.workers.specs.Stretches.{shape_of_stretches};
-ghost use Rattle.workers.specs.Verdict.{AreBehindHits, AreClassFirsts, AreFirsts};
-ghost use Rattle.workers.specs.Verdict.{behind, pieces_behind};
+ghost use Rattle.workers.specs.Verdict.{AreAfterHits, AreClassFirsts, AreFirsts};
+ghost use Rattle.workers.specs.Verdict.{blocks_after, pieces_after};
 
-use crate::alone::{Waiting, lower_of};
-use crate::ranks::{all_classes, part_classes};
+use crate::class_order::{all_classes, part_classes};
+use crate::piece_worker::Gate;
+use crate::stretch_run::{Waiting, lower_of};
+use crate::stretch_workers::{Done, Served, empty_table, not_begun, take_parts};
 use crate::stretches::{Cut, count_in, filled, stretches_for};
-use crate::taken::{Done, Served, empty_table, not_begun, take_parts};
-use crate::worker::Gate;
 use crate::{RunFault, Verdicts, check_pieces, check_workers};
 use block_sim::Job;
 use fault_ledger::{Closed, Finish, Seat, SharedLedger};
@@ -205,7 +206,7 @@ pub fn run_in_parts<G: Gate + Sync, R: Threads + Wait>(
     requires { 0 < parts }
     ensures firsts { IfOk result (λ v.
         AreFirsts job.now.list.model job.now.circuit job.now.tests.tests v.firsts) }
-    ensures skipped { IfOk result (λ v. AreBehindHits job.now v.skipped) }
+    ensures skipped { IfOk result (λ v. AreAfterHits job.now v.skipped) }
     ensures workers { OnOk result ((0 < workers) × (workers ≤ 64)) }
     ensures within { OnOk result (ArePartsWithin job.now parts) }
     ensures stretches { IfOk result (λ v. (ledger : ClosedFace)
@@ -247,7 +248,7 @@ pub fn run_over_ledger<G: Gate + Sync, R: Threads + Wait>(
     requires { 0 < parts }
     ensures firsts { IfOk result (λ run.
         AreFirsts job.now.list.model job.now.circuit job.now.tests.tests run.verdicts.firsts) }
-    ensures skipped { IfOk result (λ run. AreBehindHits job.now run.verdicts.skipped) }
+    ensures skipped { IfOk result (λ run. AreAfterHits job.now run.verdicts.skipped) }
     ensures workers { OnOk result ((0 < workers) × (workers ≤ 64)) }
     ensures within { OnOk result (ArePartsWithin job.now parts) }
     ensures stretches { IfOk result (λ run.
@@ -264,28 +265,28 @@ pub fn run_over_ledger<G: Gate + Sync, R: Threads + Wait>(
     let Gathered { firsts, ledger } = gathered;
     let table = by_class(alloc, count, cut.classes.as_slice(), firsts.as_slice())?;
     let blocks = job.tests().blocks();
-    let skipped = skipped_behind(table.as_slice(), blocks);
+    let skipped = skipped_after(table.as_slice(), blocks);
     let found = firsts_of_faults(alloc, job, table.as_slice())?;
     let verdicts = Verdicts::of(found, skipped);
     Ok(LedgerRun { verdicts, ledger })
 }
 
 /// Returns the number of pieces after the first hits of all classes.
-pub(crate) fn skipped_behind(by_class: &[PartVerdict], blocks: u32) -> u64
+pub(crate) fn skipped_after(by_class: &[PartVerdict], blocks: u32) -> u64
     requires { length by_class.now < 2 ^ 32 }
-    ensures { result ≡ pieces_behind blocks (map first_in by_class.now) }
+    ensures { result ≡ pieces_after blocks (map first_in by_class.now) }
 {
     let mut skipped = 0;
     for verdict in by_class {
-        let more = behind(*verdict, blocks);
+        let more = blocks_after(*verdict, blocks);
         skipped += u64::from(more);
     }
     skipped
 }
 
 /// Returns the number of blocks after the block of a first hit, none if no test detects.
-fn behind(verdict: PartVerdict, blocks: u32) -> u32
-    ensures { result ≡ behind blocks (first_in verdict) }
+fn blocks_after(verdict: PartVerdict, blocks: u32) -> u32
+    ensures { result ≡ blocks_after blocks (first_in verdict) }
 {
     match verdict {
         PartVerdict::First(Some(test)) => blocks.saturating_sub(test / 64 + 1),

@@ -4,7 +4,7 @@ ghost use Rattle.std.specs.Prelude.{◌≡◌, ◌<◌, ◌≤◌, All, length};
 ghost use Rattle.patterns.specs.Tests.{max_pieces};
 ghost use Rattle.block_sim.specs.Parts.{BelongTogether};
 ghost use Rattle.workers.specs.Part.{parts_for, stretch, stretch_count, stretches_for};
-ghost use Rattle.workers.specs.Rank.{IsCutOf};
+ghost use Rattle.workers.specs.ClassOrder.{IsCutOf};
 
 use crate::MAX_WORKERS;
 use block_sim::Job;

@@ -9,7 +9,7 @@ use Rattle.bench_net.specs.declared.BenchFault.TheVariants.{Memory}
 use Rattle.bench_net.specs.declared.Limit.{Limit}
 use Rattle.bench_net.specs.declared.Limit.TheVariants.{Bytes, Signals, Sinks}
 use Rattle.bench_net.specs.Circuit.{max_signals, max_sinks}
-use Rattle.bench_net.specs.declared.line.Line.{Line}
+use Rattle.bench_net.specs.declared.line.NumberedLine.{NumberedLine}
 use Rattle.bench_net.specs.Stored.{name_at, statement_of, statements_of}
 use Rattle.bench_net.specs.Stored.{defined_numbers, read_numbers, numbers}
 use Rattle.bench_net.specs.declared.number.StatedLine.{StatedLine}
@@ -90,13 +90,14 @@ abbrev pub IsNextFor : List Name → ℕ → Statement → Type 0
 IsNextFor ns next s = map (λ n. name_at ns next) (defined s) ≡ defined s
 
 -- the stored line stands for the statement, whose own name has this number
-pub record IsNumberedLine (ns : List Name) (next : ℕ) (s : Statement) (line : Line) : Type 0 where
-  pub stands : statement_of ns line ≡ s
-  pub own : defined_numbers line ≡ map (λ n. next) (defined s)
-  pub in_range : All (λ number. number < length ns) (read_numbers line)
+pub record IsNumberedLine (ns : List Name) (next : ℕ) (s : Statement) (line : NumberedLine) : Type 0
+  where
+    pub stands : statement_of ns line ≡ s
+    pub own : defined_numbers line ≡ map (λ n. next) (defined s)
+    pub in_range : All (λ number. number < length ns) (read_numbers line)
 
 -- the stored lines stand for the statements of these lines, and each number has a name
 pub record AreNumberedLines (ns : List Name) (stated : List StatedLine)
-    (lines : List Line) : Type 0 where
+    (lines : List NumberedLine) : Type 0 where
   pub stand : statements_of ns lines ≡ statements_in stated
   pub in_range : All (λ number. number < length ns) (flat_map numbers lines)

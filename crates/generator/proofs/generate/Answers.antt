@@ -1,6 +1,6 @@
 use Rattle.std.proofs.Common.{◌≢◌, Err, sym, ap, subst, ◌∙◌, rules}
-use Rattle.jobs.specs.declared.fault.ReportFault.{ReportFault}
-use Rattle.jobs.specs.declared.fault.SimFault.TheVariants as fault
+use Rattle.job_loading.specs.declared.fault.ReportFault.{ReportFault}
+use Rattle.job_loading.specs.declared.fault.SimFault.TheVariants as fault
 use Rattle.generator.specs.Generated.{HasJob, IsGeneratorFault}
 use Rattle.generator.proofs.Texts.{report_refused}
 use Rattle.generator.proofs.generate.Goals as goal

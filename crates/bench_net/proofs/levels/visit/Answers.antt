@@ -2,7 +2,7 @@ use Rattle.std.proofs.Common.{◌≡◌, ◌<◌, ◌∙◌, ap, sym, arith, len
 use Rattle.std.specs.Prelude.{Some, slice_get}
 use Rattle.std.proofs.lemmas.List.{reverse-append}
 use Rattle.std.proofs.lemmas.Option.{slice_get_read, slice_get-get_or, slice_get_within}
-use Rattle.lists.proofs.Places.{at_place}
+use Rattle.list_lemmas.proofs.Places.{at_place}
 use Rattle.bench_net.specs.Marks.{gate_pins, IsLowestStuck}
 use Rattle.bench_net.proofs.LevelSearch.{finished, advanced, opened, met}
 use Rattle.bench_net.proofs.levels.visit.Goals.{In-Open, In-Some, After-index}

@@ -4,8 +4,8 @@ use Rattle.std.specs.Prelude.{AllPairs}
 use Rattle.std.specs.Option.{option_to_list}
 use Rattle.std.proofs.lemmas.List.{take_all}
 use Rattle.std.proofs.lemmas.Bool.{not-true, not-false, both_ways}
-use Rattle.lists.proofs.Members.{among}
-use Rattle.lists.proofs.Distinct.{distinct_append}
+use Rattle.list_lemmas.proofs.Members.{among}
+use Rattle.list_lemmas.proofs.Distinct.{distinct_append}
 use Rattle.bench_net.specs.reader.Parsed.{names_of}
 use Rattle.bench_net.specs.reader.Entries.{names_in, defined_of}
 use Rattle.bench_net.proofs.NumberedLines.{redefined, names_more}

@@ -1,7 +1,7 @@
 use Rattle.std.proofs.Common.{◌≡◌, take}
 use Rattle.bench_net.specs.reader.Parsed.{names_of}
 use Rattle.bench_net.specs.reader.Entries.{names_in}
-use Rattle.lists.proofs.Distinct.{Distinct}
+use Rattle.list_lemmas.proofs.Distinct.{Distinct}
 use Rattle.bench_net.proofs.number.number_names.Given as goal
 
 abbrev pub invariant-loop-line : goal.invariant-loop-line

@@ -15,7 +15,7 @@ returns c = λ f k starts lt.
       ap (λ t. length t.tests) c.tests.ensures.part,
     ) in
     activating_lane job.circuit job.tests.tests f group k c.lanes_below.result
-    c.lanes_that_fit.result c.opposite_lanes.result
+    c.launch_lanes.result c.opposite_lanes.result
     (listed_lanes count group c.min-size.result c.lanes_below.result k some size
     (c.lanes_below.ensures k lt) lt)
-    (c.lanes_that_fit.ensures f k starts lt) (c.opposite_lanes.ensures f k starts lt)
+    (c.launch_lanes.ensures f k starts lt) (c.opposite_lanes.ensures f k starts lt)

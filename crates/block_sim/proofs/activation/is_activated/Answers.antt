@@ -1,6 +1,6 @@
 use Rattle.std.proofs.Common.{◌≢◌, ap, arith, length, refl}
 use Rattle.std.proofs.lemmas.Bool.{false≢true}
-use Rattle.lists.proofs.Places.{place_within, within_place}
+use Rattle.list_lemmas.proofs.Places.{place_within, within_place}
 use Rattle.block_sim.specs.Activation.{ActivatesAt}
 use Rattle.block_sim.proofs.ActiveLanes.{no_lane, some_lane, stuck_at}
 use Rattle.block_sim.proofs.activation.is_activated.Goals as goal

@@ -8,7 +8,7 @@ use Rattle.bench_net.specs.Statement.{Statement}
 use Rattle.bench_net.specs.Circuit.{IsWellFormed}
 use Rattle.bench_net.specs.Scan.{names, signal}
 use Rattle.bench_net.proofs.Public.{name_of-signal}
-use Rattle.lists.proofs.Places.{place_within}
+use Rattle.list_lemmas.proofs.Places.{place_within}
 use Rattle.fault_model.specs.Detection.{HasBit}
 use Rattle.fault_model.specs.Fault.{Fault}
 use Rattle.fault_model.specs.Reordered.{moved_line}
@@ -24,12 +24,12 @@ use Rattle.block_sim.proofs.BitBefore.{fits_where, lane_has_bit}
 use Rattle.block_sim.proofs.activation.opposite_lanes.Goals as goal
 
 -- the word of the line's signal tells the line's bits
-told : (c d : List Statement) (tests : List Test) (group : ℕ) (f : Fault) (origin : Origin)
+detection : (c d : List Statement) (tests : List Test) (group : ℕ) (f : Fault) (origin : Origin)
     (row : List ℕ) → IsWellFormed c → IsArranged c d → Starts c d f origin
     → AreWords d tests group None row → (k : ℕ) (bit : Bool) → k < 128
     → (lane (slice_index_or row origin.carried 0) k ≡ bit)
     ↔ HasBit c (test_of tests group k) f.line bit
-told c d tests group f origin row well arranged starts words k bit lt =
+detection c d tests group f origin row well arranged starts words k bit lt =
     let named = carried_is c d f origin well arranged starts in
     let own = lane_has_bit d tests group k row (moved_line c d f.line) named.0 bit
     (well_there c d well arranged) words lt named.1 named.2 in
@@ -84,7 +84,7 @@ returns-then-stuck c = λ f k starts lt.
     let bit : not f.stuck ≡ false = ap not (sym stuck ∙ c.if-stuck.true) in
     decided word (bit_not w128 word) k (not f.stuck)
     (HasBit job.circuit (test_of job.tests.tests c.args.group k) f.line)
-    (λ b. told job.circuit there job.tests.tests c.args.group f c.origin_of-origin.result row
+    (λ b. detection job.circuit there job.tests.tests c.args.group f c.origin_of-origin.result row
     c.words-words.ensures.together.circuit.well_formed c.words-words.ensures.arranged origin free
     k b lt)
     (fits_where (not f.stuck) word (bit_not w128 word) k few lt (inr (bit, refl)))
@@ -104,7 +104,7 @@ returns-else-stuck c = λ f k starts lt.
     let bit : not f.stuck ≡ true = ap not (sym stuck ∙ c.if-stuck.false) in
     decided word word k (not f.stuck)
     (HasBit job.circuit (test_of job.tests.tests c.args.group k) f.line)
-    (λ b. told job.circuit there job.tests.tests c.args.group f c.origin_of-origin.result row
+    (λ b. detection job.circuit there job.tests.tests c.args.group f c.origin_of-origin.result row
     c.words-words.ensures.together.circuit.well_formed c.words-words.ensures.arranged origin free
     k b lt)
     (fits_where (not f.stuck) word word k few lt (inl (bit, refl)))

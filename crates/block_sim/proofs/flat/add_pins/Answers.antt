@@ -3,8 +3,8 @@ use Rattle.std.specs.Prelude.{Some, map, option_map, slice_index_or}
 use Rattle.std.proofs.lemmas.List.{append-nil}
 use Rattle.std.proofs.lemmas.Option.{get_or_from_slice_get}
 use Rattle.bench_net.specs.Scan.{gate_of, names}
-use Rattle.lists.proofs.Members.{Among}
-use Rattle.lists.proofs.Places.{place_within, placed}
+use Rattle.list_lemmas.proofs.Members.{Among}
+use Rattle.list_lemmas.proofs.Places.{place_within, placed}
 use Rattle.fault_model.specs.Reordered.{in_order, moved_gate, place}
 use Rattle.block_sim.specs.Arranged.{IsArranged}
 use Rattle.block_sim.proofs.Equations.{pins_within}

@@ -4,7 +4,7 @@ use Rattle.std.specs.Prelude.{map, slice_index_or}
 use Rattle.std.proofs.lemmas.List.{append_assoc, append-nil, map-append}
 use Rattle.bench_net.specs.declared.Sink.TheVariants as sink
 use Rattle.bench_net.specs.Scan.{names}
-use Rattle.lists.proofs.Places.{within_place}
+use Rattle.list_lemmas.proofs.Places.{within_place}
 use Rattle.fault_model.specs.Reordered.{in_order, place}
 use Rattle.block_sim.proofs.Flats.{gathered_none, gathered_passed, gathered_dead, gathered_more}
 use Rattle.block_sim.proofs.Flats.{gathered_all}

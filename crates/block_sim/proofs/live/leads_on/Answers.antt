@@ -2,7 +2,7 @@ use Rattle.std.proofs.Common.{refl, inl, inr, sym, ◌∙◌, arith}
 use Rattle.std.proofs.lemmas.Bool.{false≢true}
 use Rattle.bench_net.specs.declared.Sink.TheVariants as sink
 use Rattle.bench_net.specs.Scan.{names}
-use Rattle.lists.proofs.Places.{within_place}
+use Rattle.list_lemmas.proofs.Places.{within_place}
 use Rattle.block_sim.specs.Events.{IsLive}
 use Rattle.block_sim.proofs.LiveSignals.{dead_all, dead_more, dead_none, live_by_gate}
 use Rattle.block_sim.proofs.LiveSignals.{live_by_observer}

@@ -3,9 +3,9 @@ use Rattle.std.proofs.Common.{◌⊎◌, arith}
 use Rattle.std.specs.Prelude.{Contains, Some, bit_or, slice_get, slice_index_or}
 use Rattle.std.proofs.lemmas.Bool.{false≢true, or_left, or_right}
 use Rattle.std.proofs.lemmas.List.{get_or_default}
-use Rattle.lists.proofs.Members.{among}
-use Rattle.lists.proofs.Places.{place_within, placed}
-use Rattle.block_sim.specs.declared.spread.Followed.{Followed}
+use Rattle.list_lemmas.proofs.Members.{among}
+use Rattle.list_lemmas.proofs.Places.{place_within, placed}
+use Rattle.block_sim.specs.declared.propagation.Followed.{Followed}
 use Rattle.block_sim.specs.Words.{lane}
 use Rattle.block_sim.proofs.Lanes.{lane_or, lane_zero}
 use Rattle.block_sim.proofs.ListPlaces.{index_of}

@@ -1,6 +1,6 @@
 use Rattle.std.proofs.Common.{◌≡◌, ◌<◌, ℕ, true}
 use Rattle.std.specs.Prelude.{Contains, Some, slice_get}
-use Rattle.block_sim.specs.declared.spread.Followed.{Followed}
+use Rattle.block_sim.specs.declared.propagation.Followed.{Followed}
 use Rattle.block_sim.specs.Words.{lane}
 use Rattle.block_sim.proofs.region.all_lanes.Given as goal
 

@@ -4,7 +4,7 @@ use Rattle.bench_net.specs.Scan.{names}
 use Rattle.bench_net.specs.Level.{HasLevel}
 use Rattle.fault_model.specs.Fault.{Fault}
 use Rattle.fault_model.specs.Solution.{Test}
-use Rattle.block_sim.specs.Changes.{IsAsLarge, IsClear}
+use Rattle.block_sim.specs.PropagationState.{IsAsLarge, IsClear}
 use Rattle.block_sim.specs.Regions.{HasCome, IsStemOf, LeadsTo}
 use Rattle.block_sim.specs.Ways.{steps}
 use Rattle.block_sim.specs.Words.{AreWords}

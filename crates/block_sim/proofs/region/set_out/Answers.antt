@@ -2,7 +2,7 @@ use Rattle.std.proofs.Common.{◌≡◌, ◌<◌, sym, ◌∙◌, ap, subst, len
 use Rattle.std.specs.Prelude.{Some, None, slice_index_or, bit_and, bit_xor}
 use Rattle.bench_net.specs.Scan.{names, signal, name_of, definition, gate_of, gate_line}
 use Rattle.bench_net.proofs.Public.{name_of-signal}
-use Rattle.lists.proofs.Places.{place_within}
+use Rattle.list_lemmas.proofs.Places.{place_within}
 use Rattle.fault_model.specs.Detection.{argument, name_on}
 use Rattle.fault_model.proofs.Public.{carries}
 use Rattle.block_sim.specs.Stuck.{stuck_fault}
@@ -123,15 +123,16 @@ returns-in-Data-clause-reached c = λ tests group words k lt.
     let fault = stuck_fault c.args.origin.fault in
     let n = carries c.args.origin.fault.model circuit fault well c.requires.listed in
     let number : c.args.origin.carried ≡ signal circuit n.0 = c.requires.carried n.0 n.1 in
-    let told = λ (none : start_of fault.line ≡ None). observer_told circuit well tests group fault
+    let detection = λ (none : start_of fault.line ≡ None). observer_told circuit well tests group
+    fault
     good words lanes c.args.origin.fault.model
     (bit_and (bit_xor c.word.result (slice_index_or good c.args.origin.carried 0)) lanes) n.0
     c.requires.listed none n.1
     (turned_is circuit fault good lanes c.args.origin.carried c.word.result n.0 number
     c.word.ensures) k lt in
     elim c.in-Data.is [
-      | inl x ↦ told (ap start_of x.1)
-      | inr x ↦ told (ap start_of x.1)
+      | inl x ↦ detection (ap start_of x.1)
+      | inr x ↦ detection (ap start_of x.1)
     ]
 
 pub returns-in-Stem-clause-signal : goal.returns-in-Stem-clause-signal

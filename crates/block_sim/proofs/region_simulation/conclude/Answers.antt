@@ -1,7 +1,7 @@
 use Rattle.std.proofs.Common.{◌≡◌, ◌+◌, ◌<◌, ap, arith, length, refl, sym, ◌∙◌, subst}
 use Rattle.std.specs.Prelude.{slice_get, slice_index_or}
 use Rattle.std.proofs.lemmas.Option.{slice_get-get_or, slice_get_within}
-use Rattle.block_sim.specs.declared.spread.Followed.{Followed}
+use Rattle.block_sim.specs.declared.propagation.Followed.{Followed}
 use Rattle.block_sim.proofs.RegionHits.{AreToldBelow, member_at, place_of_member}
 use Rattle.block_sim.proofs.RegionHits.{told_more}
 use Rattle.block_sim.proofs.region_simulation.conclude.Goals as goal
@@ -24,7 +24,7 @@ pub loop-one-init : goal.loop-one-init
 loop-one-init c = record {
   count = refl;
   kept = λ place h. refl;
-  told = λ i one lt is. absurd (omega (arith, lt));
+  detection = λ i one lt is. absurd (omega (arith, lt));
 }
 
 pub loop-one-preserved : goal.loop-one-preserved
@@ -44,12 +44,12 @@ pub returns-clause-kept : goal.returns-clause-kept
 returns-clause-kept c = λ place h. c.loop-one.invariant.kept place
     (λ i one lt is e. h (one, member_at c.args.followed.now i one is, e))
 
-pub returns-clause-told : goal.returns-clause-told
-returns-clause-told c = λ place there.
+pub returns-clause-detection : goal.returns-clause-detection
+returns-clause-detection c = λ place there.
     let followed = c.args.followed.now in
     let at = place_of_member followed there.0 there.1 in
     let low = slice_get_within followed at.0 there.0 at.1 in
-    let t = c.loop-one.invariant.told at.0 there.0
+    let t = c.loop-one.invariant.detection at.0 there.0
     (omega (arith, low, c.loop-one-test.false)) at.1 in (
       t.0,
       t.1,

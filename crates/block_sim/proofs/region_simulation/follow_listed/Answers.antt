@@ -3,7 +3,7 @@ use Rattle.std.specs.Prelude.{Contains, Option, bit_and, unwrap_or}
 use Rattle.std.proofs.lemmas.Bool.{false≢true}
 use Rattle.fault_model.specs.Fault.{Fault, faults}
 use Rattle.fault_model.specs.Reordered.{moved_fault, place}
-use Rattle.block_sim.specs.Spans.{group_of}
+use Rattle.block_sim.specs.BlockSpans.{group_of}
 use Rattle.block_sim.specs.declared.region.Reach.TheVariants.{Observed, Stem}
 use Rattle.block_sim.specs.Regions.{AreLanesFor, HasCome, IsReached, IsStemOfLine}
 use Rattle.block_sim.specs.Stuck.{stuck_fault}
@@ -76,11 +76,11 @@ returns-in-Observed-clause-approach c =
     let tests = job.tests.tests in
     let span = c.args.span in
     let group = group_of span in
-    let lanes = bit_and c.args.view.lanes c.lanes_that_fit.result in
+    let lanes = bit_and c.args.view.lanes c.launch_lanes.result in
     let own = c.requires.view.lanes in
     let decides : AreLanesFor tests span circuit fault lanes =
-    λ k lt. lanes_decide c.args.view.lanes c.lanes_that_fit.result k (own k lt)
-    (λ is. c.lanes_that_fit.ensures fault k starts lt is.listed) in
+    λ k lt. lanes_decide c.args.view.lanes c.launch_lanes.result k (own k lt)
+    (λ is. c.launch_lanes.ensures fault k starts lt is.listed) in
     let start = starts_there circuit there c.args.view.circuit.now.statements
     c.args.row.representative
     c.origin_of-origin.result c.requires.view.part c.origin_of-origin.ensures fault starts in
@@ -111,11 +111,11 @@ returns-then-lanes-eq0-clause-approach c =
     let tests = job.tests.tests in
     let span = c.args.span in
     let group = group_of span in
-    let lanes = bit_and c.args.view.lanes c.lanes_that_fit.result in
+    let lanes = bit_and c.args.view.lanes c.launch_lanes.result in
     let own = c.requires.view.lanes in
     let decides : AreLanesFor tests span circuit fault lanes =
-    λ k lt. lanes_decide c.args.view.lanes c.lanes_that_fit.result k (own k lt)
-    (λ is. c.lanes_that_fit.ensures fault k starts lt is.listed) in
+    λ k lt. lanes_decide c.args.view.lanes c.launch_lanes.result k (own k lt)
+    (λ is. c.launch_lanes.ensures fault k starts lt is.listed) in
     let start = starts_there circuit there c.args.view.circuit.now.statements
     c.args.row.representative
     c.origin_of-origin.result c.requires.view.part c.origin_of-origin.ensures fault starts in
@@ -154,11 +154,11 @@ returns-else-lanes-eq0-clause-approach c =
     let tests = job.tests.tests in
     let span = c.args.span in
     let group = group_of span in
-    let lanes = bit_and c.args.view.lanes c.lanes_that_fit.result in
+    let lanes = bit_and c.args.view.lanes c.launch_lanes.result in
     let own = c.requires.view.lanes in
     let decides : AreLanesFor tests span circuit fault lanes =
-    λ k lt. lanes_decide c.args.view.lanes c.lanes_that_fit.result k (own k lt)
-    (λ is. c.lanes_that_fit.ensures fault k starts lt is.listed) in
+    λ k lt. lanes_decide c.args.view.lanes c.launch_lanes.result k (own k lt)
+    (λ is. c.launch_lanes.ensures fault k starts lt is.listed) in
     let start = starts_there circuit there c.args.view.circuit.now.statements
     c.args.row.representative
     c.origin_of-origin.result c.requires.view.part c.origin_of-origin.ensures fault starts in
@@ -256,8 +256,8 @@ returns-else-lanes-eq0-clause-counted c = λ way w.
     c.follow_within.ensures.counted way
     (subst (λ f. IsWayOfLine there f.line way) (sym is) on)
 
-pub lanes_that_fit-requires-clause-stuck : goal.lanes_that_fit-requires-clause-stuck
-lanes_that_fit-requires-clause-stuck c = (c.requires.row.stands.0, c.requires.row.stands.2)
+pub launch_lanes-requires-clause-stuck : goal.launch_lanes-requires-clause-stuck
+launch_lanes-requires-clause-stuck c = (c.requires.row.stands.0, c.requires.row.stands.2)
 
 pub origin_of-origin-requires : goal.origin_of-origin-requires
 origin_of-origin-requires c =
@@ -276,7 +276,7 @@ follow_within-requires-clause-carried c =
 pub follow_within-requires-clause-inside : goal.follow_within-requires-clause-inside
 follow_within-requires-clause-inside c = λ k lt e.
     subst (λ m. lane m k ≡ true) (sym c.requires.begun.lanes)
-    (lanes_first c.args.view.lanes c.lanes_that_fit.result k e)
+    (lanes_first c.args.view.lanes c.launch_lanes.result k e)
 
 pub follow_within-requires-clause-stem : goal.follow_within-requires-clause-stem
 follow_within-requires-clause-stem c =

@@ -1,9 +1,9 @@
 use Rattle.std.proofs.Common.{◌≡◌, ◌⊎◌, ◌+◌, ◌<◌, ◌≤◌, ℕ, length}
 use Rattle.std.specs.Prelude.{Contains, None, Some, slice_get, vec_capacity, vec_len}
 use Rattle.std.specs.List.{sum_by}
-use Rattle.block_sim.specs.Changes.{IsAsLarge, IsClear}
+use Rattle.block_sim.specs.PropagationState.{IsAsLarge, IsClear}
 use Rattle.block_sim.specs.RegionHits.{AreFollowedAt, HaveFirstsBut, HaveStem, open_between}
-use Rattle.block_sim.specs.declared.spread.Followed.{Followed}
+use Rattle.block_sim.specs.declared.propagation.Followed.{Followed}
 use Rattle.block_sim.specs.Sensitized.{HasBegun, IsSameRegion}
 use Rattle.block_sim.specs.Simulation.{AreFollowed}
 use Rattle.block_sim.specs.Ways.{AreWays}

@@ -78,7 +78,8 @@ loop-signal-preserved c =
           let now = last.known mask stem before e in
           let own : (tests : List Test) (group : ℕ) → AreWords circuit tests group None good
           → CarriesFlip circuit tests group mask s stem c.lanes_before-lanes.result =
-          λ tests group words. next.told tests group mask stem words (now.1 tests group words) in (
+          λ tests group words. next.detection tests group mask stem words (now.1 tests group words)
+          in (
             subst (AreKnownFlips circuit good mask stem) (sym c.keep.ensures)
                 (flips_more c.loop-signal.known s c.lanes_before-lanes.result within circuit good
                 mask stem now.0 own),
@@ -94,8 +95,8 @@ loop-signal-preserved c =
       clear = next.clear;
     }
 
-pub returns-clause-told : goal.returns-clause-told
-returns-clause-told c = λ mask stem before e tests group words.
+pub returns-clause-detection : goal.returns-clause-detection
+returns-clause-detection c = λ mask stem before e tests group words.
     let circuit = c.args.view.circuit.now.arranged in
     let last = c.loop-signal.invariant in
     let at = c.loop-signal.at in

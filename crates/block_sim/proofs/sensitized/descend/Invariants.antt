@@ -1,7 +1,7 @@
 use Rattle.std.proofs.Common.{◌≡◌, ◌+◌, ◌≤◌, ℕ, List, length}
 use Rattle.std.specs.Prelude.{None, Some, slice_index_or, vec_capacity, vec_len}
 use Rattle.fault_model.specs.Solution.{Test}
-use Rattle.block_sim.specs.Changes.{IsAsLarge, IsClear}
+use Rattle.block_sim.specs.PropagationState.{IsAsLarge, IsClear}
 use Rattle.block_sim.specs.Sensitized.{AreKnownFlips, CarriesFlip, IsPathTo, on_from}
 use Rattle.block_sim.specs.Words.{AreWords}
 use Rattle.block_sim.proofs.sensitized.descend.Given as goal

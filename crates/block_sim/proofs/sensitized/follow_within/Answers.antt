@@ -30,7 +30,7 @@ returns-else-from-eq0-clause-reached c = λ tests group words.
     come_to_stem c.args.view.circuit.now.arranged tests group (stuck_fault c.args.origin.fault)
     c.args.view.lanes c.args.region.now.lanes c.in-Stem.from.signal c.args.region.now.stem
     c.in-Stem.from.lanes c.lanes_of.result c.requires.inside
-    (c.in-Stem.ensures.reached tests group words) (c.lanes_of.ensures.told tests group words)
+    (c.in-Stem.ensures.reached tests group words) (c.lanes_of.ensures.detection tests group words)
 
 pub returns-else-from-eq0-clause-counted : goal.returns-else-from-eq0-clause-counted
 returns-else-from-eq0-clause-counted c = λ way w.

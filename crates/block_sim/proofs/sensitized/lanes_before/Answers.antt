@@ -7,16 +7,16 @@ cross-requires-clause-read c =
     pin_law c.args.view.circuit.now.arranged c.requires.view.circuit.well_formed c.args.signal
     c.args.gate.signal c.requires.read
 
-pub returns-then-gate-eq0-clause-told : goal.returns-then-gate-eq0-clause-told
-returns-then-gate-eq0-clause-told c = λ tests group mask stem words carried.
+pub returns-then-gate-eq0-clause-detection : goal.returns-then-gate-eq0-clause-detection
+returns-then-gate-eq0-clause-detection c = λ tests group mask stem words carried.
     let circuit = c.args.view.circuit.now.arranged in
     carried_before circuit tests group mask stem c.args.signal c.args.gate.signal c.args.gate.lanes
     0 c.requires.view.circuit.well_formed c.requires.read carried
     (passed_nowhere circuit tests group c.args.signal c.args.gate.signal c.args.gate.lanes
     c.if-gate-eq0.true)
 
-pub returns-clause-told : goal.returns-clause-told
-returns-clause-told c = λ tests group mask stem words carried.
+pub returns-clause-detection : goal.returns-clause-detection
+returns-clause-detection c = λ tests group mask stem words carried.
     let circuit = c.args.view.circuit.now.arranged in
     carried_before circuit tests group mask stem c.args.signal c.args.gate.signal c.args.gate.lanes
     c.cross.result c.requires.view.circuit.well_formed c.requires.read carried

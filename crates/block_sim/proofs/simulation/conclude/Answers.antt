@@ -3,10 +3,10 @@ use Rattle.std.proofs.Common.{inl, inr, ◌⊎◌, arith}
 use Rattle.std.specs.Prelude.{Contains, slice_index_or}
 use Rattle.std.proofs.lemmas.Bool.{cases_eq}
 use Rattle.std.proofs.lemmas.List.{get_or_default, get_or-set_same, get_or-set_other, length-set}
-use Rattle.lists.proofs.Members.{among}
-use Rattle.lists.proofs.Places.{place_within, placed}
+use Rattle.list_lemmas.proofs.Members.{among}
+use Rattle.list_lemmas.proofs.Places.{place_within, placed}
 use Rattle.block_sim.specs.declared.simulation.Memo.TheVariants.{Nothing}
-use Rattle.block_sim.specs.declared.spread.Followed.{Followed}
+use Rattle.block_sim.specs.declared.propagation.Followed.{Followed}
 use Rattle.block_sim.specs.Simulation.{IsFollowed, IsTrueMemo}
 use Rattle.block_sim.proofs.ListPlaces.{index_of}
 use Rattle.block_sim.proofs.KeptOutcomes.{arrived_first}
@@ -89,7 +89,7 @@ loop-one-preserved c = record {
     truth : IsTrueMemo c.args.job.now one.class c.of.result
     truth = c.of.ensures.truth c.args.job.now one.class c.requires.span
         (arrived_first c.args.job.now c.args.span c.args.stem one.class one.lanes c.args.seen
-        (c.requires.followed one there).1 (c.requires.told one there))
+        (c.requires.followed one there).1 (c.requires.detection one there))
 
     later : (class : ℕ) → class ≢ one.class
         → (r : Rest c.args.followed.now c.loop-one.one-index class) → (r.0 ≡ c.loop-one.one-index)
@@ -148,11 +148,11 @@ of-requires c =
       get_or_default c.args.followed.now i one none c.loop-one-test.true,
     ) in
     record {
-      told = (
+      detection = (
         c.args.job.now,
         one.class,
         c.requires.span,
         arrived_first c.args.job.now c.args.span c.args.stem one.class one.lanes c.args.seen
-            (c.requires.followed one there).1 (c.requires.told one there),
+            (c.requires.followed one there).1 (c.requires.detection one there),
       );
     }

@@ -2,7 +2,7 @@ use Rattle.std.proofs.Common.{◌≡◌, ◌∙◌, ap, arith, map, sym, subst}
 use Rattle.std.proofs.lemmas.List.{length-map}
 use Rattle.fault_model.specs.Reordered.{place}
 use Rattle.block_sim.specs.Regions.{TellsFirstFlips}
-use Rattle.block_sim.specs.Spans.{group_of}
+use Rattle.block_sim.specs.BlockSpans.{group_of}
 use Rattle.block_sim.specs.Ways.{HasActiveByFlip}
 use Rattle.block_sim.proofs.KeptOutcomes.{arrived_within}
 use Rattle.block_sim.proofs.ArrangedSignals.{reordered, room_there}
@@ -35,8 +35,8 @@ flip-requires-clause-room c =
     c.words-words.ensures.together.circuit.well_formed c.words-words.ensures.arranged
     c.args.changes.now c.requires.room
 
-pub returns-clause-told : goal.returns-clause-told
-returns-clause-told c = λ one at.
+pub returns-clause-detection : goal.returns-clause-detection
+returns-clause-detection c = λ one at.
     let circuit = c.args.job.now.circuit in
     let there = c.words-words.result.circuit.now.arranged in
     let well = c.words-words.ensures.together.circuit.well_formed in
@@ -47,10 +47,10 @@ returns-clause-told c = λ one at.
     let stem : c.place_of.result ≡ place circuit there c.args.stem = c.place_of.ensures.place
     ∙ ap (λ x. place x there c.args.stem) c.words-words.ensures.part in
     ((same_flips circuit there well
-    (reordered circuit there well c.words-words.ensures.arranged)).told tests group one.lanes
+    (reordered circuit there well c.words-words.ensures.arranged)).detection tests group one.lanes
     c.args.stem c.flip.result).1
     (subst (λ s. TellsFirstFlips there tests group one.lanes s c.flip.result) stem
-    (c.flip.ensures.told tests group words one at))
+    (c.flip.ensures.detection tests group words one at))
 
 pub returns-clause-counted : goal.returns-clause-counted
 returns-clause-counted c = λ gates active.

@@ -7,7 +7,7 @@ use Rattle.bench_net.specs.Scan.{names}
 use Rattle.patterns.specs.Tests.{TestList}
 use Rattle.fault_model.specs.Fault.{Fault, faults}
 use Rattle.fault_model.specs.Reordered.{moved_fault, place}
-use Rattle.block_sim.specs.Spans.{IsInSpan, group_of}
+use Rattle.block_sim.specs.BlockSpans.{IsInSpan, group_of}
 use Rattle.block_sim.specs.declared.region.Reach.TheVariants.{Observed, Stem}
 use Rattle.block_sim.specs.declared.simulation.Approach.TheVariants as approach
 use Rattle.block_sim.specs.Regions.{AreLanesFor, HasCome, IsReached, IsStemOfLine}
@@ -79,13 +79,13 @@ returns-in-Observed-clause-approach c = λ class o.
     let tests = job.tests.tests in
     let span = c.args.span in
     let group = group_of span in
-    let lanes = bit_and c.test_lanes.result c.lanes_that_fit.result in
+    let lanes = bit_and c.test_lanes.result c.launch_lanes.result in
     let own = subst (λ (t : TestList). (k : ℕ) → k < 128
     → Decides (lane c.test_lanes.result k) (IsInSpan (length t.tests) span (128 * group + k)))
     c.tests.ensures.part c.test_lanes.ensures in
     let decides : AreLanesFor tests span circuit fault lanes =
-    λ k lt. lanes_decide c.test_lanes.result c.lanes_that_fit.result k (own k lt)
-    (λ is. c.lanes_that_fit.ensures fault k starts lt is.listed) in
+    λ k lt. lanes_decide c.test_lanes.result c.launch_lanes.result k (own k lt)
+    (λ is. c.launch_lanes.ensures fault k starts lt is.listed) in
     let start = starts_there circuit there c.words-words.result.circuit.now.statements c.args.stuck
     c.origin_of.result c.words-words.ensures.part c.origin_of.ensures fault starts in
     let is : stuck_fault c.origin_of.result.fault ≡ moved_fault circuit there fault = start.moved in
@@ -113,13 +113,13 @@ returns-then-lanes-eq0-clause-approach c = λ class o.
     let tests = job.tests.tests in
     let span = c.args.span in
     let group = group_of span in
-    let lanes = bit_and c.test_lanes.result c.lanes_that_fit.result in
+    let lanes = bit_and c.test_lanes.result c.launch_lanes.result in
     let own = subst (λ (t : TestList). (k : ℕ) → k < 128
     → Decides (lane c.test_lanes.result k) (IsInSpan (length t.tests) span (128 * group + k)))
     c.tests.ensures.part c.test_lanes.ensures in
     let decides : AreLanesFor tests span circuit fault lanes =
-    λ k lt. lanes_decide c.test_lanes.result c.lanes_that_fit.result k (own k lt)
-    (λ is. c.lanes_that_fit.ensures fault k starts lt is.listed) in
+    λ k lt. lanes_decide c.test_lanes.result c.launch_lanes.result k (own k lt)
+    (λ is. c.launch_lanes.ensures fault k starts lt is.listed) in
     let start = starts_there circuit there c.words-words.result.circuit.now.statements c.args.stuck
     c.origin_of.result c.words-words.ensures.part c.origin_of.ensures fault starts in
     let is : stuck_fault c.origin_of.result.fault ≡ moved_fault circuit there fault = start.moved in
@@ -155,13 +155,13 @@ returns-else-lanes-eq0-clause-approach c = λ class o.
     let tests = job.tests.tests in
     let span = c.args.span in
     let group = group_of span in
-    let lanes = bit_and c.test_lanes.result c.lanes_that_fit.result in
+    let lanes = bit_and c.test_lanes.result c.launch_lanes.result in
     let own = subst (λ (t : TestList). (k : ℕ) → k < 128
     → Decides (lane c.test_lanes.result k) (IsInSpan (length t.tests) span (128 * group + k)))
     c.tests.ensures.part c.test_lanes.ensures in
     let decides : AreLanesFor tests span circuit fault lanes =
-    λ k lt. lanes_decide c.test_lanes.result c.lanes_that_fit.result k (own k lt)
-    (λ is. c.lanes_that_fit.ensures fault k starts lt is.listed) in
+    λ k lt. lanes_decide c.test_lanes.result c.launch_lanes.result k (own k lt)
+    (λ is. c.launch_lanes.ensures fault k starts lt is.listed) in
     let start = starts_there circuit there c.words-words.result.circuit.now.statements c.args.stuck
     c.origin_of.result c.words-words.ensures.part c.origin_of.ensures fault starts in
     let is : stuck_fault c.origin_of.result.fault ≡ moved_fault circuit there fault = start.moved in
@@ -200,7 +200,7 @@ returns-else-lanes-eq0-clause-stem c = λ class end o e.
     let start = starts_there circuit there c.words-words.result.circuit.now.statements c.args.stuck
     c.origin_of.result c.words-words.ensures.part c.origin_of.ensures fault starts in
     let is : stuck_fault c.origin_of.result.fault ≡ moved_fault circuit there fault = start.moved in
-    let lanes = bit_and c.test_lanes.result c.lanes_that_fit.result in
+    let lanes = bit_and c.test_lanes.result c.launch_lanes.result in
     let at = c.in-Stem.at in
     let here = c.signal_at.result in
     let stem : at.signal ≡ place circuit there here = sym (c.signal_at.ensures.place)
@@ -284,8 +284,8 @@ pub of-requires : goal.of-requires
 of-requires c = let within = c.requires.span.within in
     omega (arith, within, c.words-words.ensures.count)
 
-pub lanes_that_fit-requires-clause-stuck : goal.lanes_that_fit-requires-clause-stuck
-lanes_that_fit-requires-clause-stuck c = (c.requires.stuck.1.0, c.requires.stuck.1.2)
+pub launch_lanes-requires-clause-stuck : goal.launch_lanes-requires-clause-stuck
+launch_lanes-requires-clause-stuck c = (c.requires.stuck.1.0, c.requires.stuck.1.2)
 
 pub origin_of-requires : goal.origin_of-requires
 origin_of-requires c =

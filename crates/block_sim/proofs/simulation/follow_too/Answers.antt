@@ -1,6 +1,6 @@
 use Rattle.std.proofs.Common.{◌≡◌, refl, sym, subst, set, arith}
 use Rattle.block_sim.specs.Simulation.{AreFollowed, AreTrueBut, HasArrived}
-use Rattle.block_sim.specs.declared.spread.Followed.{Followed}
+use Rattle.block_sim.specs.declared.propagation.Followed.{Followed}
 use Rattle.block_sim.specs.declared.simulation.Memo.TheVariants.{Pending}
 use Rattle.block_sim.proofs.KeptOutcomes.{followed_more, memo_kept_but, memo_waits}
 use Rattle.block_sim.proofs.Stems.{one_class_stem}
@@ -69,7 +69,7 @@ returns-in-Known-clause-counted c = λ way ways.
 
 pub of-requires : goal.of-requires
 of-requires c = record {
-  told = (
+  detection = (
     c.args.job.now,
     c.args.class,
     c.requires.span,

@@ -1,7 +1,7 @@
 use Rattle.std.proofs.Common.{◌≡◌, ◌+◌, ◌<◌, ◌≤◌, ℕ, Contains, length}
 use Rattle.std.specs.Prelude.{vec_capacity}
-use Rattle.block_sim.specs.declared.spread.Followed.{Followed}
-use Rattle.block_sim.specs.Changes.{IsAsLarge, IsClear}
+use Rattle.block_sim.specs.declared.propagation.Followed.{Followed}
+use Rattle.block_sim.specs.PropagationState.{IsAsLarge, IsClear}
 use Rattle.block_sim.specs.Simulation.{AreFollowed, AreTrueBut}
 use Rattle.block_sim.specs.Ways.{AreWays, known_ways}
 use Rattle.block_sim.proofs.simulation.gather.Given as goal

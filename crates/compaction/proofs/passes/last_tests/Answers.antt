@@ -12,7 +12,7 @@ use Rattle.compaction.proofs.passes.last_tests.Goals as goal
 
 pub set_tests_of_any_size_in_threads-requires-clause-width :
     goal.set_tests_of_any_size_in_threads-requires-clause-width
-set_tests_of_any_size_in_threads-requires-clause-width g c = c.in_ok-turned.ensures.width
+set_tests_of_any_size_in_threads-requires-clause-width g c = c.in_ok-reversed.ensures.width
     ∙ (c.requires.width ∙ c.requires.job.width)
 
 pub returns-in_err-found-clause-refused : goal.returns-in_err-found-clause-refused
@@ -23,24 +23,24 @@ returns-in_err-found-clause-refused g c =
     let given = subst (λ x. IsPartsFault x c.args.parts c.args.workers ⊤ no_stop
     c.in_err-found.field-0.0)
     c.in_ok-set_tests_of_any_size_in_threads.ensures.job c.in_err-found.ensures.refused in
-    rw (p.1, p.2) (refused_alike job c.in_ok-turned.turned c.args.parts c.args.workers
+    rw (p.1, p.2) (refused_alike job c.in_ok-reversed.reversed c.args.parts c.args.workers
     c.in_err-found.field-0.0
-    (omega (arith, c.in_ok-turned.ensures.count, c.requires.few)) given)
+    (omega (arith, c.in_ok-reversed.ensures.count, c.requires.few)) given)
 
 pub returns-clause-last : goal.returns-clause-last
 returns-clause-last g c =
     let job = c.args.job.now in
     let given = c.args.given.now.numbers.items in
     let tests = c.args.given.now.tests.tests in
-    let turned = c.in_ok-turned.turned.tests in
+    let reversed = c.in_ok-reversed.reversed.tests in
     let found = c.in_ok-found.found.items in
     let marks = c.deref-2.result.now in
     let kept = c.in_ok-kept_tests.field-0 in
     let of_job = subst (λ p. AreFinding p.list.model p.circuit p.tests.tests found)
     c.in_ok-set_tests_of_any_size_in_threads.ensures.job c.in_ok-found.ensures.marks in
-    let are : AreFinding StuckAt job.circuit turned found =
-    subst (λ m. AreFinding m job.circuit turned found) c.requires.model of_job in
-    let all : length found ≡ length tests = are.count ∙ c.in_ok-turned.ensures.count in
+    let are : AreFinding StuckAt job.circuit reversed found =
+    subst (λ m. AreFinding m job.circuit reversed found) c.requires.model of_job in
+    let all : length found ≡ length tests = are.count ∙ c.in_ok-reversed.ensures.count in
     let len : vec_len c.in_ok-found.found ≡ length tests =
     omega (arith, all, c.in_ok-found.found.ok.0) in
     let long : length marks ≡ length tests =
@@ -53,5 +53,5 @@ returns-clause-last g c =
     ∙ ap (at_marks marks) c.deref.ensures.value in
     subst (λ rows. AreLastOf job.circuit tests rows given kept.numbers.items)
     (sym c.in_ok-kept_tests.ensures.rows)
-    (are_last job.circuit tests turned found marks c.in_ok-turned.ensures.count
-    c.in_ok-turned.ensures.rows are long back given kept.numbers.items numbered)
+    (are_last job.circuit tests reversed found marks c.in_ok-reversed.ensures.count
+    c.in_ok-reversed.ensures.rows are long back given kept.numbers.items numbered)

@@ -5,9 +5,9 @@ use Rattle.compaction.proofs.rows.reversed_tests.Given as goal
 
 abbrev pub invariant-loop-place : goal.invariant-loop-place
 invariant-loop-place l = record {
-  count : length l.turned.tests ≡ l.place;
+  count : length l.reversed.tests ≡ l.place;
   rows : (k : ℕ) (d : List Bool) → k < l.place
-      → get_or l.turned.tests k d ≡ get_or l.tests.tests (length l.tests.tests - 1 - k) d;
-  list : IsTestList l.turned;
-  width : l.turned.width ≡ l.tests.width;
+      → get_or l.reversed.tests k d ≡ get_or l.tests.tests (length l.tests.tests - 1 - k) d;
+  list : IsTestList l.reversed;
+  width : l.reversed.width ≡ l.tests.width;
 }

@@ -1,6 +1,6 @@
 use Rattle.std.proofs.Common.{◌≡◌, ◌<◌, length, Some, ap, subst, ◌∙◌, get_or, refl, set}
 use Rattle.std.specs.Prelude.{slice_get, option_map, option_and_then}
-use Rattle.lists.proofs.Places.{within_place}
+use Rattle.list_lemmas.proofs.Places.{within_place}
 use Rattle.fault_model.specs.Fault.{faults}
 use Rattle.fault_model.specs.Collapse.{next}
 use Rattle.fault_model.proofs.FollowedClasses.{Followed, follow_some}

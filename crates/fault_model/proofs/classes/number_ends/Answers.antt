@@ -1,7 +1,7 @@
 use Rattle.std.proofs.Common.{◌≡◌, ◌<◌, ◌+◌, Bool, true, false, [], ◌∷◌, ◌++◌, length, Some, None}
 use Rattle.std.proofs.Common.{ap, ◌∙◌, subst, arith}
 use Rattle.std.specs.Prelude.{slice_get, option_map, option_and_then, is_some, not}
-use Rattle.lists.proofs.Places.{within_place}
+use Rattle.list_lemmas.proofs.Places.{within_place}
 use Rattle.fault_model.specs.Fault.{faults}
 use Rattle.fault_model.specs.Collapse.{next}
 use Rattle.fault_model.proofs.RepresentativeNumbers.{Numbered, numbered_end, numbered_other}

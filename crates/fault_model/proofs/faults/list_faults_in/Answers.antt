@@ -5,7 +5,7 @@ use Rattle.fault_model.specs.declared.Line.{Line}
 use Rattle.std.specs.Prelude.{flat_map}
 use Rattle.bench_net.specs.Scan.{names, sinks}
 use Rattle.bench_net.specs.Circuit.{max_signals, max_sinks}
-use Rattle.lists.proofs.Places.{within_place}
+use Rattle.list_lemmas.proofs.Places.{within_place}
 use Rattle.fault_model.specs.declared.Line.TheVariants as line
 use Rattle.fault_model.specs.Fault.{branch, branches, both}
 use Rattle.fault_model.proofs.FaultLines.{faults_are}

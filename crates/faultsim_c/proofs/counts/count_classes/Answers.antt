@@ -5,7 +5,7 @@ use Rattle.std.proofs.lemmas.Option.{get_or_from_slice_get, slice_get_within}
 use Rattle.fault_model.specs.Collapse.{IsClassOf}
 use Rattle.fault_model.specs.Fault.{Fault}
 use Rattle.block_sim.specs.Parts.{Parts}
-use Rattle.detections.specs.Detections.{IsCount}
+use Rattle.n_detect.specs.Detections.{IsCount}
 use Rattle.faultsim_c.proofs.Tables.{next}
 use Rattle.faultsim_c.proofs.counts.count_classes.Goals as goal
 

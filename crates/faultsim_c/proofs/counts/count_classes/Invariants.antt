@@ -2,7 +2,7 @@ use Rattle.std.proofs.Common.{◌≡◌, ℕ, ◌<◌, Some, length}
 use Rattle.std.specs.Prelude.{slice_get, slice_index}
 use Rattle.fault_model.specs.Collapse.{IsClassOf}
 use Rattle.fault_model.specs.Fault.{Fault}
-use Rattle.detections.specs.Detections.{IsCount}
+use Rattle.n_detect.specs.Detections.{IsCount}
 use Rattle.faultsim_c.proofs.counts.count_classes.Given as goal
 
 -- the classes so far are counted

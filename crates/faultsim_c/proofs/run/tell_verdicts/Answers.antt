@@ -1,7 +1,7 @@
 use Rattle.std.proofs.Common.{◌≡◌, ◌∙◌, None, ap, arith, get_or, sym}
 use Rattle.std.proofs.lemmas.List.{length-set}
 use Rattle.std.proofs.lemmas.Option.{get_or_from_slice_get}
-use Rattle.faultsim_c.specs.Calls.{told_first}
+use Rattle.faultsim_c.specs.Calls.{first_number}
 use Rattle.faultsim_c.proofs.Tables.{next}
 use Rattle.faultsim_c.proofs.run.tell_verdicts.Goals as goal
 
@@ -10,16 +10,16 @@ loop-fault-preserved c =
     let firsts = c.loop-fault.firsts in
     let found = c.args.verdicts.now.firsts in
     let fault = c.loop-fault.fault in
-    let r = c.told_first.result in
+    let r = c.first_number.result in
     let same = c.loop-fault.invariant.0 in
     let low = c.loop-fault-test.true in
     let end = c.total-fault-end.ensures in
     let long = c.requires in (
       length-set firsts fault r ∙ same,
-      next (λ k n. n ≡ told_first (get_or found k None)) fault r firsts
+      next (λ k n. n ≡ first_number (get_or found k None)) fault r firsts
           (omega (arith, same, low, end, long))
-          (c.told_first.ensures
-          ∙ ap told_first (sym (get_or_from_slice_get found fault c.first.result None
+          (c.first_number.ensures
+          ∙ ap first_number (sym (get_or_from_slice_get found fault c.first.result None
           c.first.ensures)))
           c.loop-fault.invariant.1,
     )

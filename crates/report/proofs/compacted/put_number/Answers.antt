@@ -1,4 +1,4 @@
-use Rattle.output.proofs.Public.{writes_same}
+use Rattle.byte_output.proofs.Public.{writes_same}
 use Rattle.report.proofs.CompactedTexts.{line_of_number}
 use Rattle.report.proofs.compacted.put_number.Goals as goal
 

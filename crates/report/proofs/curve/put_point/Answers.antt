@@ -1,4 +1,4 @@
-use Rattle.output.proofs.Public.{writes_same}
+use Rattle.byte_output.proofs.Public.{writes_same}
 use Rattle.report.proofs.TextPieces.{point_text}
 use Rattle.report.proofs.curve.put_point.Goals as goal
 

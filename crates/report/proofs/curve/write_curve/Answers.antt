@@ -3,7 +3,7 @@ use Rattle.std.proofs.lemmas.Result.{err_from_is_err_and}
 use Rattle.bench_net.proofs.Public.{some_signal}
 use Rattle.fault_model.specs.Fault.{faults}
 use Rattle.workers.specs.Verdict.{detected_count}
-use Rattle.output.proofs.Public.{takes_more, stopped_after, stopped_before}
+use Rattle.byte_output.proofs.Public.{takes_more, stopped_after, stopped_before}
 use Rattle.report.specs.Report.{coverage_line}
 use Rattle.report.proofs.curve.write_curve.Goals as goal
 

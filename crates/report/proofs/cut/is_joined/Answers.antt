@@ -1,6 +1,6 @@
 use Rattle.std.proofs.Common.{sym, ◌∙◌}
 use Rattle.std.proofs.lemmas.List.{append_cancel_left}
-use Rattle.output.proofs.Public.{flat_map_cut}
+use Rattle.byte_output.proofs.Public.{flat_map_cut}
 use Rattle.report.proofs.cut.is_joined.Goals as goal
 
 pub returns-in-None-clause-no : goal.returns-in-None-clause-no

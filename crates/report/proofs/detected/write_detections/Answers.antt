@@ -1,7 +1,7 @@
 use Rattle.std.proofs.Common.{◌≡◌, ◌∙◌, true, length, arith, ap, sym}
 use Rattle.std.proofs.lemmas.Result.{err_from_is_err_and}
 use Rattle.fault_model.specs.Fault.{FaultList}
-use Rattle.output.proofs.Public.{takes_more, stopped_before, stopped_after}
+use Rattle.byte_output.proofs.Public.{takes_more, stopped_before, stopped_after}
 use Rattle.bench_net.proofs.Public.{some_signal}
 use Rattle.report.specs.Detected.{reached_count}
 use Rattle.report.specs.Report.{coverage_line}

@@ -1,5 +1,5 @@
 use Rattle.std.proofs.lemmas.Result.{err_from_is_err_and}
-use Rattle.output.proofs.Public.{writes_then, stopped_before}
+use Rattle.byte_output.proofs.Public.{writes_then, stopped_before}
 use Rattle.report.proofs.ending.put_name_line.Goals as goal
 
 pub returns-in_err-put_all : goal.returns-in_err-put_all

@@ -3,7 +3,7 @@ use Rattle.std.specs.Prelude.{zip}
 use Rattle.std.proofs.lemmas.Result.{err_from_is_err_and}
 use Rattle.report.specs.PartReading.{texts_in}
 use Rattle.report.specs.Report.{wanted_name}
-use Rattle.output.proofs.Public.{takes_more, stopped, flat_map_cut, flat_map_taken}
+use Rattle.byte_output.proofs.Public.{takes_more, stopped, flat_map_cut, flat_map_taken}
 use Rattle.report.proofs.MergeEnds.{name_at}
 use Rattle.report.proofs.JoinedParts.{texts_count}
 use Rattle.report.proofs.LinesByPairs.{all_zipped}

@@ -1,7 +1,7 @@
 use Rattle.std.proofs.Common.{length}
 use Rattle.std.proofs.lemmas.Result.{err_from_is_err_and}
 use Rattle.workers.specs.Verdict.{detected_count}
-use Rattle.output.proofs.Public.{takes_more, stopped_before, stopped_after}
+use Rattle.byte_output.proofs.Public.{takes_more, stopped_before, stopped_after}
 use Rattle.report.specs.Report.{coverage_line}
 use Rattle.report.proofs.ending.write_merged.Goals as goal
 

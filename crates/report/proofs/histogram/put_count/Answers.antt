@@ -1,4 +1,4 @@
-use Rattle.output.proofs.Public.{writes_same}
+use Rattle.byte_output.proofs.Public.{writes_same}
 use Rattle.report.proofs.HistogramTexts.{line_of_count}
 use Rattle.report.proofs.histogram.put_count.Goals as goal
 

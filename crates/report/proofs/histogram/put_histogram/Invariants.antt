@@ -2,7 +2,7 @@ use Rattle.std.proofs.Common.{length, take}
 use Rattle.std.specs.Prelude.{zip}
 use Rattle.std.specs.List.{flat_map}
 use Rattle.patterns.specs.Least.{below}
-use Rattle.output.specs.Output.{TakesAll}
+use Rattle.byte_output.specs.Output.{TakesAll}
 use Rattle.report.specs.Histogram.{histogram_line}
 use Rattle.report.proofs.histogram.put_histogram.Given as goal
 

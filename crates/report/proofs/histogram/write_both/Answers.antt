@@ -1,5 +1,5 @@
 use Rattle.std.proofs.lemmas.Result.{err_from_is_err_and}
-use Rattle.output.proofs.Public.{stopped_after, stopped_before}
+use Rattle.byte_output.proofs.Public.{stopped_after, stopped_before}
 use Rattle.report.specs.Histogram.{histogram_text}
 use Rattle.report.proofs.histogram.write_both.Goals as goal
 

@@ -1,5 +1,5 @@
 use Rattle.std.proofs.lemmas.Result.{err_from_is_err_and}
-use Rattle.output.proofs.Public.{takes_more, stopped_before, stopped_after}
+use Rattle.byte_output.proofs.Public.{takes_more, stopped_before, stopped_after}
 use Rattle.report.specs.Report.{class_coverage_line}
 use Rattle.report.proofs.merged_classes.write_merged_with_classes.Goals as goal
 

@@ -1,4 +1,4 @@
-use Rattle.output.proofs.Public.{writes_same}
+use Rattle.byte_output.proofs.Public.{writes_same}
 use Rattle.report.specs.PartText.{said_by}
 use Rattle.report.proofs.PartPieces.{head_text}
 use Rattle.report.proofs.part.put_head.Goals as goal

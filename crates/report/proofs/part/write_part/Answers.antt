@@ -1,7 +1,7 @@
 use Rattle.std.proofs.Common.{refl}
 use Rattle.std.specs.Prelude.{count_by}
 use Rattle.std.proofs.lemmas.Result.{err_from_is_err_and}
-use Rattle.output.proofs.Public.{takes_more, stopped, stopped_before, stopped_after}
+use Rattle.byte_output.proofs.Public.{takes_more, stopped, stopped_before, stopped_after}
 use Rattle.report.specs.PartText.{end_line, head_line, is_found, is_own, job_part_text, said_by}
 use Rattle.report.proofs.PartPieces.{lines_of_model}
 use Rattle.report.proofs.part.write_part.Goals as goal

@@ -1,6 +1,6 @@
 use Rattle.std.proofs.Common.{◌∙◌, ap}
 use Rattle.std.specs.Prelude.{decimal}
-use Rattle.output.proofs.Public.{writes_same}
+use Rattle.byte_output.proofs.Public.{writes_same}
 use Rattle.report.proofs.ReasonTexts.{counts_line}
 use Rattle.report.proofs.reasoned.put_reason_counts.Goals as goal
 

@@ -1,5 +1,5 @@
 use Rattle.std.proofs.lemmas.Result.{err_from_is_err_and}
-use Rattle.output.proofs.Public.{stopped_after, stopped_before, takes_more}
+use Rattle.byte_output.proofs.Public.{stopped_after, stopped_before, takes_more}
 use Rattle.report.proofs.reasoned.write_reasons.Goals as goal
 
 pub returns-in_err-put_reasons : goal.returns-in_err-put_reasons

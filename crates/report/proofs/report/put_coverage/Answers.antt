@@ -1,4 +1,4 @@
-use Rattle.output.proofs.Public.{writes_same}
+use Rattle.byte_output.proofs.Public.{writes_same}
 use Rattle.report.proofs.TextPieces.{coverage_text}
 use Rattle.report.proofs.report.put_coverage.Goals as goal
 

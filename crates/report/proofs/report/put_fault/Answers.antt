@@ -1,6 +1,6 @@
 use Rattle.std.proofs.Common.{◌++◌, [], ap, refl, sym, append_assoc}
 use Rattle.std.specs.Prelude.{codes, unwrap_or}
-use Rattle.output.proofs.Public.{writes_same}
+use Rattle.byte_output.proofs.Public.{writes_same}
 use Rattle.report.proofs.LinesOfFaults.{line_known}
 use Rattle.report.proofs.TextPieces.{fault_pieces}
 use Rattle.report.proofs.report.put_fault.Goals as goal

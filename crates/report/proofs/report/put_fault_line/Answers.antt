@@ -1,6 +1,6 @@
 use Rattle.std.proofs.Common.{append_assoc}
 use Rattle.std.proofs.lemmas.Result.{err_from_is_err_and}
-use Rattle.output.proofs.Public.{stopped_before, writes_same, writes_then}
+use Rattle.byte_output.proofs.Public.{stopped_before, writes_same, writes_then}
 use Rattle.report.proofs.report.put_fault_line.Goals as goal
 
 pub returns-in_err-put_fault : goal.returns-in_err-put_fault

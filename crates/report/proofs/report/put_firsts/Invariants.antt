@@ -1,7 +1,7 @@
 use Rattle.std.proofs.Common.{take}
 use Rattle.std.specs.Prelude.{zip}
 use Rattle.std.specs.List.{flat_map}
-use Rattle.output.specs.Output.{TakesAll}
+use Rattle.byte_output.specs.Output.{TakesAll}
 use Rattle.report.specs.Report.{wanted_line}
 use Rattle.report.proofs.report.put_firsts.Given as goal
 

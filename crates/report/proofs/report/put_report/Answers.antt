@@ -1,7 +1,7 @@
 use Rattle.std.proofs.Common.{length, arith}
 use Rattle.std.proofs.lemmas.Result.{err_from_is_err_and}
 use Rattle.workers.specs.Verdict.{detected_count}
-use Rattle.output.proofs.Public.{writes_then, stopped_before}
+use Rattle.byte_output.proofs.Public.{writes_then, stopped_before}
 use Rattle.bench_net.proofs.Public.{some_signal}
 use Rattle.report.specs.Report.{coverage_line}
 use Rattle.report.proofs.report.put_report.Goals as goal

@@ -1,5 +1,5 @@
 use Rattle.std.proofs.Common.{◌++◌, ap, append-nil}
-use Rattle.output.proofs.Public.{writes_same}
+use Rattle.byte_output.proofs.Public.{writes_same}
 use Rattle.report.proofs.report.put_words.Goals as goal
 
 pub returns : goal.returns

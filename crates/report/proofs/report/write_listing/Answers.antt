@@ -1,5 +1,5 @@
 use Rattle.std.proofs.lemmas.Result.{err_from_is_err_and}
-use Rattle.output.proofs.Public.{takes_more, stopped_before, stopped_after}
+use Rattle.byte_output.proofs.Public.{takes_more, stopped_before, stopped_after}
 use Rattle.report.proofs.report.write_listing.Goals as goal
 
 pub returns-in_err-put_classes : goal.returns-in_err-put_classes

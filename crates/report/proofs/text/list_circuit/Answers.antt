@@ -1,5 +1,5 @@
 use Rattle.std.proofs.lemmas.Result.{err_from_is_err_and}
-use Rattle.output.specs.Output.{TakesAll, TakesFront}
+use Rattle.byte_output.specs.Output.{TakesAll, TakesFront}
 use Rattle.report.proofs.ReportsOfTexts.{taken_of_circuit}
 use Rattle.report.proofs.text.list_circuit.Goals as goal
 

@@ -1,7 +1,7 @@
 use Rattle.std.proofs.lemmas.Result.{err_from_is_err_and}
 use Rattle.block_sim.specs.Parts.{piece_count}
 use Rattle.report.specs.EndToEnd.{HasSomeMoves, IsScheduleReportFault, IsScheduleTextFault}
-use Rattle.jobs.proofs.Public.{job_of_texts}
+use Rattle.job_loading.proofs.Public.{job_of_texts}
 use Rattle.report.proofs.ReportsOfTexts.{moves_fault, on_ok, pieces_fault, refused_as}
 use Rattle.report.proofs.ReportsOfTexts.{written_of_texts}
 use Rattle.report.proofs.text.schedule_text_with.Goals as goal

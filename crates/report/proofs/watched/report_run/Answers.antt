@@ -1,5 +1,5 @@
 use Rattle.std.proofs.lemmas.Result.{err_from_is_err_and}
-use Rattle.output.specs.Output.{TakesAll, TakesFront}
+use Rattle.byte_output.specs.Output.{TakesAll, TakesFront}
 use Rattle.report.proofs.VerdictsOfRuns.{taken_of_job, verdicts_counted}
 use Rattle.report.proofs.watched.report_run.Goals as goal
 

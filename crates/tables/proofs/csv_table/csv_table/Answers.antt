@@ -1,7 +1,7 @@
 use Rattle.std.proofs.Common.{◌≡◌, ◌<◌, ◌≤◌, ◌∙◌, ◌++◌, [], ap, append-nil, append_assoc, arith}
 use Rattle.std.proofs.Common.{length, refl, subst, sym, take}
 use Rattle.std.specs.Prelude.{IfOk, zip}
-use Rattle.lists.proofs.Places.{within_place}
+use Rattle.list_lemmas.proofs.Places.{within_place}
 use Rattle.tables.specs.Records.{HasTaken}
 use Rattle.tables.specs.Rows.{row_cells, row_in}
 use Rattle.tables.specs.Tables.{column_in, csv_header, csv_record, rows_text}

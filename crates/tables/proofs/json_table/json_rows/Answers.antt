@@ -1,6 +1,6 @@
 use Rattle.std.proofs.Common.{◌≡◌, ◌<◌, ◌≤◌, ◌∙◌, ◌++◌, ap, arith, length, sym, take}
 use Rattle.std.specs.Prelude.{zip}
-use Rattle.lists.proofs.Places.{within_place}
+use Rattle.list_lemmas.proofs.Places.{within_place}
 use Rattle.tables.specs.Rows.{row_cells, row_in}
 use Rattle.tables.specs.Tables.{column_in, json_object, rows_text}
 use Rattle.tables.proofs.RowsByPairs.{all_zipped, row_added, row_skipped}

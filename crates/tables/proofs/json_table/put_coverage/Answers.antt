@@ -1,4 +1,4 @@
-use Rattle.output.proofs.Public.{writes_same}
+use Rattle.byte_output.proofs.Public.{writes_same}
 use Rattle.tables.proofs.Texts.{coverage_text}
 use Rattle.tables.proofs.json_table.put_coverage.Goals as goal
 

@@ -1,5 +1,5 @@
 use Rattle.std.proofs.lemmas.Result.{err_from_is_err_and}
-use Rattle.output.proofs.Public.{stopped_before, writes_then}
+use Rattle.byte_output.proofs.Public.{stopped_before, writes_then}
 use Rattle.tables.proofs.json_table.put_object.Goals as goal
 
 pub returns-in_err-put_summary : goal.returns-in_err-put_summary

@@ -1,6 +1,6 @@
 use Rattle.std.specs.Prelude.{⊤}
 use Rattle.workers.specs.Stops.{no_stop}
-use Rattle.jobs.specs.declared.split.Split.TheVariants.{Whole}
+use Rattle.job_loading.specs.declared.split.Split.TheVariants.{Whole}
 use Rattle.report.specs.EndToEnd.{IsReportFault, IsWatchedFault}
 use Rattle.report.proofs.Public.{open_fault, refused_as}
 use Rattle.tables.proofs.table.run_table_in.Goals as goal

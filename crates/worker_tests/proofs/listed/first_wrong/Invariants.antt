@@ -1,4 +1,4 @@
-use Rattle.workers.specs.Listed.{ServesLists}
+use Rattle.workers.specs.ListRunners.{ServesLists}
 use Rattle.worker_tests.proofs.listed.first_wrong.Given as goal
 
 abbrev pub invariant-loop-list : goal.invariant-loop-list

@@ -1,5 +1,5 @@
 use Rattle.std.proofs.Common.{◌∙◌, sym, subst}
-use Rattle.workers.specs.Alone.{IsLowest, WaitsIn, runs_from}
+use Rattle.workers.specs.StretchRuns.{IsLowest, WaitsIn, runs_from}
 use Rattle.workers.specs.Part.{stretch_count}
 use Rattle.workers.specs.Stretches.{crew_of, shape_of_stretches}
 use Rattle.workers.proofs.RunsOfParts.{all_lowest, none_whole, stretches_wait, whole_found}

@@ -2,7 +2,7 @@ use Rattle.std.proofs.Common.{◌≡◌, ◌+◌, ◌*◌, ◌∙◌, ◌++◌, 
 use Rattle.std.proofs.Common.{length-append, subst, sym, refl}
 use Rattle.std.proofs.Math.Nat.{zero-mul}
 use Rattle.std.specs.Vec.Iter.{into_iter_items}
-use Rattle.workers.specs.Alone.{IsFoundAt}
+use Rattle.workers.specs.StretchRuns.{IsFoundAt}
 use Rattle.workers.specs.Part.{stretch}
 use Rattle.workers.proofs.PartsOfClasses.{FirstsUpTo, firsts_all, firsts_none}
 use Rattle.workers.proofs.ReturnsByPart.{next_place}

@@ -1,7 +1,7 @@
 use Rattle.std.proofs.Common.{◌≡◌, ◌+◌, ◌∙◌, ◌++◌, ◌∷◌, [], Some, None, length}
 use Rattle.std.proofs.Common.{length-append, arith, ap, append_assoc, subst, sym}
 use Rattle.std.specs.Vec.Iter.{into_iter_items}
-use Rattle.workers.specs.Alone.{IsLowest, IsLowestIn, WaitsIn, run_at, runs_from}
+use Rattle.workers.specs.StretchRuns.{IsLowest, IsLowestIn, WaitsIn, run_at, runs_from}
 use Rattle.workers.specs.Part.{stretch}
 use Rattle.workers.proofs.ReturnsByPart.{next_place}
 use Rattle.workers.proofs.RunsOfParts.{runs_push, waits_more}

@@ -1,6 +1,6 @@
 use Rattle.std.proofs.Common.{◌≡◌, ◌+◌, ◌++◌, length}
 use Rattle.std.specs.Vec.Iter.{into_iter_items, into_iter_len}
-use Rattle.workers.specs.Alone.{IsLowest, WaitsIn, runs_from}
+use Rattle.workers.specs.StretchRuns.{IsLowest, WaitsIn, runs_from}
 use Rattle.workers.proofs.parts.lowest_waiting.Given as goal
 
 abbrev pub invariant-loop-place : goal.invariant-loop-place

@@ -1,6 +1,6 @@
 use Rattle.std.proofs.Common.{◌≡◌, ◌++◌}
 use Rattle.std.specs.Vec.Iter.{into_iter_items}
-use Rattle.workers.specs.Alone.{ArePut}
+use Rattle.workers.specs.StretchRuns.{ArePut}
 use Rattle.workers.proofs.parts.put_by_part.Given as goal
 
 abbrev pub invariant-loop-done : goal.invariant-loop-done

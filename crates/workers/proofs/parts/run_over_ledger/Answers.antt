@@ -6,7 +6,7 @@ use Rattle.patterns.specs.Tests.{TestList, blocks}
 use Rattle.workers.specs.declared.parts.PartVerdict.{PartVerdict}
 use Rattle.workers.specs.declared.parts.PartVerdict.TheVariants.{OtherPart}
 use Rattle.workers.specs.Part.{first_in}
-use Rattle.workers.specs.Verdict.{AreBehindHits, AreClassFirsts, AreFirsts, pieces_behind}
+use Rattle.workers.specs.Verdict.{AreAfterHits, AreClassFirsts, AreFirsts, pieces_after}
 use Rattle.workers.proofs.PartsOfClasses.{all_firsts, all_hits, all_within, verdict_there}
 use Rattle.workers.proofs.PartsOfClasses.{verdicts_under}
 use Rattle.workers.proofs.SharedStretches.{stretches_under}
@@ -62,14 +62,14 @@ returns-clause-skipped g c =
     c.new-cut.ensures.classes c.in_ok-gathered.ensures.gathered in
     let all : c.blocks-blocks.result ≡ blocks (length job.tests.tests) = c.blocks-blocks.ensures
     ∙ ap (λ (t : TestList). blocks (length t.tests)) c.tests.ensures.part in
-    let is : c.skipped_behind-skipped.result ≡ pieces_behind c.blocks-blocks.result
+    let is : c.skipped_after-skipped.result ≡ pieces_after c.blocks-blocks.result
     (map first_in table) =
-    c.skipped_behind-skipped.ensures
-    ∙ ap (λ (l : List PartVerdict). pieces_behind c.blocks-blocks.result (map first_in l))
+    c.skipped_after-skipped.ensures
+    ∙ ap (λ (l : List PartVerdict). pieces_after c.blocks-blocks.result (map first_in l))
     c.as_slice-3.ensures.value in
-    subst (AreBehindHits job) (sym c.of-verdicts.ensures.skipped)
+    subst (AreAfterHits job) (sym c.of-verdicts.ensures.skipped)
     (all_hits job classes firsts table
-    c.blocks-blocks.result c.skipped_behind-skipped.result c.in_ok-all.ensures
+    c.blocks-blocks.result c.skipped_after-skipped.result c.in_ok-all.ensures
     known by all is)
 
 pub returns-clause-stretches : goal.returns-clause-stretches

@@ -1,6 +1,6 @@
 use Rattle.std.proofs.Common.{◌≡◌, ◌++◌}
 use Rattle.std.specs.Vec.Iter.{into_iter_items}
-use Rattle.workers.specs.Alone.{AreGivenBack}
+use Rattle.workers.specs.StretchRuns.{AreGivenBack}
 use Rattle.workers.proofs.parts.table_of.Given as goal
 
 abbrev pub invariant-loop-dones : goal.invariant-loop-dones

@@ -5,7 +5,7 @@ use Rattle.bench_net.specs.Scan.{names, gate_of}
 use Rattle.fault_model.specs.Reordered.{in_order}
 use Rattle.block_sim.specs.declared.flat.Driver.{Driver}
 use Rattle.block_sim.specs.Flat.{HasEnds}
-use Rattle.block_sim.specs.Forms.{IsFormOf}
+use Rattle.block_sim.specs.GateForms.{IsFormOf}
 use Rattle.block_sim.proofs.Flats.{row_of}
 use Rattle.block_sim.proofs.flat.FlatCircuit.gate_of.Goals as goal
 

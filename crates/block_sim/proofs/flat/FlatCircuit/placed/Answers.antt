@@ -2,8 +2,8 @@ use Rattle.std.proofs.Common.{◌≡◌, ◌<◌, ◌∙◌, ◌++◌, ap, arith
 use Rattle.std.specs.Prelude.{map, slice_index_or}
 use Rattle.std.proofs.lemmas.Option.{get_or_from_slice_get}
 use Rattle.bench_net.specs.Scan.{names}
-use Rattle.lists.proofs.Members.{Among}
-use Rattle.lists.proofs.Places.{place_within, placed}
+use Rattle.list_lemmas.proofs.Members.{Among}
+use Rattle.list_lemmas.proofs.Places.{place_within, placed}
 use Rattle.fault_model.specs.Reordered.{in_order, place}
 use Rattle.block_sim.specs.Arranged.{IsArranged}
 use Rattle.block_sim.proofs.ArrangedSignals.{places_of_all}

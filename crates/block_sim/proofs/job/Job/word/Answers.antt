@@ -1,6 +1,6 @@
 use Rattle.std.proofs.Common.{◌≡◌, ◌<◌, ◌/◌, ◌∙◌, ap, subst, arith, length, get_or}
 use Rattle.std.proofs.lemmas.List.{length-map, get_or_read}
-use Rattle.block_sim.specs.Spans.{groups}
+use Rattle.block_sim.specs.BlockSpans.{groups}
 use Rattle.block_sim.specs.Words.{IsFaultFreeWord, lane}
 use Rattle.block_sim.proofs.BitBefore.{fault_free_lane}
 use Rattle.block_sim.proofs.ArrangedWords.{word_there}

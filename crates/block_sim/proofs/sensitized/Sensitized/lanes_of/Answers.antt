@@ -2,17 +2,17 @@ use Rattle.std.proofs.Common.{arith, subst, sym}
 use Rattle.block_sim.specs.Sensitized.{CarriesFlip}
 use Rattle.block_sim.proofs.sensitized.Sensitized.lanes_of.Goals as goal
 
-pub returns-in-Some-clause-told : goal.returns-in-Some-clause-told
-returns-in-Some-clause-told c = λ tests group words.
+pub returns-in-Some-clause-detection : goal.returns-in-Some-clause-detection
+returns-in-Some-clause-detection c = λ tests group words.
     c.requires.sensitized.known.each c.args.signal c.in-Some.lanes (sym c.in-Some.ensures) tests
     group words
 
-pub returns-in-None-clause-told : goal.returns-in-None-clause-told
-returns-in-None-clause-told c = λ tests group words.
+pub returns-in-None-clause-detection : goal.returns-in-None-clause-detection
+returns-in-None-clause-detection c = λ tests group words.
     let own = c.args.self.now in
     subst (λ s. CarriesFlip c.args.view.circuit.now.arranged tests group own.lanes s own.stem
     c.descend.result) c.climb-at.ensures.first
-    (c.descend.ensures.told own.lanes own.stem c.requires.sensitized.known
+    (c.descend.ensures.detection own.lanes own.stem c.requires.sensitized.known
     c.climb-at.ensures.known tests group words)
 
 pub returns-in-None-clause-sensitized : goal.returns-in-None-clause-sensitized

@@ -9,7 +9,7 @@ use Rattle.patterns.specs.Tests.{TestList}
 use Rattle.block_sim.specs.Simulation.{IsTrueMemo, Serves}
 use Rattle.block_sim.specs.declared.simulation.Memo.{Memo}
 use Rattle.block_sim.specs.declared.simulation.Memo.TheVariants.{Nothing}
-use Rattle.block_sim.specs.Spans.{IsSpan, span_from}
+use Rattle.block_sim.specs.BlockSpans.{IsSpan, span_from}
 use Rattle.block_sim.specs.Ways.{HasActiveByFlip, is_on, known_ways}
 use Rattle.block_sim.proofs.Moments.{large_enough}
 use Rattle.block_sim.proofs.KeptOutcomes.{arrived_first, memo_kept, room_at_rest}
@@ -38,8 +38,8 @@ follow_alone-requires-clause-room c =
     room_at_rest c.args.job.now c.self.inside.changes
     c.circuit-circuit.ensures.together.circuit.well_formed c.self.invariant served.room
 
-pub find_out_region-seen-requires-clause-room : goal.find_out_region-seen-requires-clause-room
-find_out_region-seen-requires-clause-room c =
+pub simulate_stem-seen-requires-clause-room : goal.simulate_stem-seen-requires-clause-room
+simulate_stem-seen-requires-clause-room c =
     let served = subst (λ v. Serves v c.args.job.now) (sym c.self.view_is) c.requires.serves in
     large_enough c.args.job.now.circuit c.self.inside.changes c.follow_alone.new.changes
     (room_at_rest c.args.job.now c.self.inside.changes
@@ -51,15 +51,15 @@ follow_alone-requires-clause-span c =
     subst (λ (t : TestList). IsSpan (length t.tests) c.from-span.result) c.tests.ensures.part
     c.from-span.ensures.span
 
-pub find_out_region-seen-requires-clause-span : goal.find_out_region-seen-requires-clause-span
-find_out_region-seen-requires-clause-span c =
+pub simulate_stem-seen-requires-clause-span : goal.simulate_stem-seen-requires-clause-span
+simulate_stem-seen-requires-clause-span c =
     subst (λ (t : TestList). IsSpan (length t.tests) c.from-span.result) c.tests.ensures.part
     c.from-span.ensures.span
 
 pub of-memo-requires : goal.of-memo-requires
 of-memo-requires c =
     record {
-      told = (
+      detection = (
         c.args.job.now,
         c.args.class,
         subst (λ (t : TestList). IsSpan (length t.tests) c.from-span.result) c.tests.ensures.part
@@ -94,13 +94,13 @@ of-requires c =
     let is = subst (λ (t : TestList). IsSpan (length t.tests) c.from-span.result)
     c.tests.ensures.part c.from-span.ensures.span in
     record {
-      told = (
+      detection = (
         job,
         c.args.class,
         is,
         arrived_first job c.from-span.result c.in-Stem.at.signal c.args.class c.in-Stem.at.lanes
-            c.find_out_region-seen.result
-            c.in-Stem.ensures.approach.1 c.find_out_region-seen.ensures.told,
+            c.simulate_stem-seen.result
+            c.in-Stem.ensures.approach.1 c.simulate_stem-seen.ensures.detection,
       );
     }
 
@@ -113,8 +113,8 @@ first_outcome-requires-in-Stem-clause-truth c =
       c.args.class,
       c.of.ensures.truth job c.args.class is
           (arrived_first job c.from-span.result c.in-Stem.at.signal c.args.class c.in-Stem.at.lanes
-          c.find_out_region-seen.result
-          c.in-Stem.ensures.approach.1 c.find_out_region-seen.ensures.told),
+          c.simulate_stem-seen.result
+          c.in-Stem.ensures.approach.1 c.simulate_stem-seen.ensures.detection),
     )
 
 pub first_outcome-requires-in-Stem-clause-known : goal.first_outcome-requires-in-Stem-clause-known
@@ -128,8 +128,8 @@ returns-in-Stem-clause-outcome c =
     c.tests.ensures.part c.from-span.ensures.span in
     c.first_outcome-in-Stem.ensures job c.args.class (c.of.ensures.truth job c.args.class is
     (arrived_first job c.from-span.result c.in-Stem.at.signal c.args.class c.in-Stem.at.lanes
-    c.find_out_region-seen.result
-    c.in-Stem.ensures.approach.1 c.find_out_region-seen.ensures.told))
+    c.simulate_stem-seen.result
+    c.in-Stem.ensures.approach.1 c.simulate_stem-seen.ensures.detection))
 
 pub returns-in-Known-clause-serves : goal.returns-in-Known-clause-serves
 returns-in-Known-clause-serves c =
@@ -147,8 +147,8 @@ returns-in-Known-clause-serves c =
       followed = served.followed;
     }
 
-pub find_out_region-seen-requires-clause-idle : goal.find_out_region-seen-requires-clause-idle
-find_out_region-seen-requires-clause-idle c =
+pub simulate_stem-seen-requires-clause-idle : goal.simulate_stem-seen-requires-clause-idle
+simulate_stem-seen-requires-clause-idle c =
     let job = c.args.job.now in
     let served = subst (λ v. Serves v job) (sym c.self.view_is) c.requires.serves in
     let memos = c.self.inside.memos.items in
@@ -192,7 +192,7 @@ returns-in-Stem-clause-counted c = λ way stem gates ways at active.
     let class = c.args.class in
     let served = subst (λ v. Serves v job) (sym c.self.view_is) c.requires.serves in
     let memos = c.self.inside.memos.items in
-    let found = c.find_out_region-seen.new.memos in
+    let found = c.simulate_stem-seen.new.memos in
     let same : c.in-Stem.at.signal ≡ stem =
     one_class_stem job.list.model job.circuit class c.in-Stem.at.signal stem
     (c.in-Stem.ensures.stem c.in-Stem.at refl) at in
@@ -200,17 +200,17 @@ returns-in-Stem-clause-counted c = λ way stem gates ways at active.
     let span = c.from-span.result in
     let is = subst (λ (t : TestList). IsSpan (length t.tests) span) c.tests.ensures.part
     c.from-span.ensures.span in
-    let found_all = c.find_out_region-seen.ensures.counted way gates ways
+    let found_all = c.simulate_stem-seen.ensures.counted way gates ways
     (active_wider job.circuit job.tests.tests span block c.in-Stem.at.signal gates is
     c.from-span.ensures.first c.from-span.ensures.alone
     (subst (λ s. HasActiveByFlip job.circuit job.tests.tests (span_from block) s gates)
     (sym same) active)) in
-    let all = subst (λ b. c.find_out_region-seen.new.changes.evaluations
+    let all = subst (λ b. c.simulate_stem-seen.new.changes.evaluations
     + known_ways way b c.deref_mut.result.now + way class
     ≤ c.follow_alone.new.changes.evaluations + known_ways way b found + length gates)
     c.from-span.ensures.first found_all in
     let long : length found ≡ c.self.inside.memos.len =
-    (let a = c.find_out_region-seen.ensures.memos.count in let b = served.outcomes.count in
+    (let a = c.simulate_stem-seen.ensures.memos.count in let b = served.outcomes.count in
     omega (arith, a, b)) in
     let after = ap (known_ways way block)
     (written c.self.inside.memos.len found (drop (length found) memos) long) in

@@ -4,7 +4,7 @@ use Rattle.fault_model.specs.declared.Line.{Line}
 use Rattle.fault_model.specs.declared.Line.TheVariants as line
 use Rattle.fault_model.specs.declared.Model.{Model}
 use Rattle.bench_net.specs.Scan.{names}
-use Rattle.lists.proofs.Places.{within_place}
+use Rattle.list_lemmas.proofs.Places.{within_place}
 use Rattle.fault_model.proofs.ListedFaults.{fault_on, stem_listed}
 use Rattle.fault_model.specs.Fault.{FaultList, both}
 use Rattle.fault_model.specs.Lines.{AreStemsOf, IsWithinLimits}

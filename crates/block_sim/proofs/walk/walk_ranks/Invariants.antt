@@ -1,5 +1,0 @@
-use Rattle.block_sim.specs.Order.{IsWalk}
-use Rattle.block_sim.proofs.walk.walk_ranks.Given as goal
-
-abbrev pub invariant-loop-step : goal.invariant-loop-step
-invariant-loop-step l = record { walks : IsWalk l.circuit l.walk }

@@ -1,0 +1,30 @@
+-- A walk through a circuit, and keys by which its signals are put in a topological order.
+use Rattle.std.specs.Prelude.{◌≡◌, ◌<◌, ℕ, All, List, Some, length, slice_get, slice_index_or}
+use Rattle.bench_net.specs.Statement.{Statement}
+use Rattle.bench_net.specs.Scan.{names}
+use Rattle.fault_model.specs.Reordered.{IsSourceAt}
+use Rattle.block_sim.specs.declared.signal_order.Keyed.{Keyed}
+use Rattle.block_sim.specs.declared.order_walk.Walk.{Walk}
+use Rattle.block_sim.specs.Events.{Reads}
+
+-- a key that a signal may have beside those of others: that of a source is 0, and that of a gate
+-- is greater than those of the signals that it reads
+pub record IsKeyOf (c : List Statement) (keys : List ℕ) (s key : ℕ) : Type 0 where
+  pub source : IsSourceAt c s → key ≡ 0
+  pub gate : (t : ℕ) → Reads c s t → slice_index_or keys t 0 < key
+
+-- each signal has such a key
+abbrev pub HaveKeys : List Statement → List ℕ → Type 0
+HaveKeys c keys = (s : ℕ) → s < length (names c) → IsKeyOf c keys s (slice_index_or keys s 0)
+
+-- the list has all signals by number, with their keys
+pub record AreKeysOf (keys : List ℕ) (keyed : List Keyed) : Type 0 where
+  pub count : length keyed ≡ length keys
+  pub each : (s : ℕ) (at : Keyed) → slice_get keyed s ≡ Some at
+      → (at.signal ≡ s) × (slice_get keys s ≡ Some at.key)
+
+-- the walk has a place for each signal of the circuit, and is at signals of it
+pub record IsWalk (c : List Statement) (walk : Walk) : Type 0 where
+  pub entered : length walk.entered.items ≡ length (names c)
+  pub ranks : length walk.ranks.items ≡ length (names c)
+  pub path : All (λ at. at.signal < length (names c)) walk.path.items

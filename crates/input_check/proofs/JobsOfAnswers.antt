@@ -1,0 +1,68 @@
+-- From the answer for a circuit and tests to that for the texts.
+use Rattle.std.proofs.Common.{ℕ, List, refl}
+use Rattle.std.specs.Prelude.{Option, Some, None, Result, Ok, Err, IfOk}
+use Rattle.std.specs.declared.alloc.AllocError.{AllocError}
+use Rattle.bench_net.specs.Refusal.{IsAccepted}
+use Rattle.bench_net.specs.Statement.{Statement}
+use Rattle.fault_model.specs.declared.Model.{Model}
+use Rattle.fault_model.specs.Collapse.{AreClassesOf, Collapsed}
+use Rattle.fault_model.specs.Fault.{fault_list}
+use Rattle.patterns.specs.Tests.{TestList}
+use Rattle.block_sim.specs.Parts.{Parts}
+use Rattle.job_loading.specs.Jobs.{AreTestsFor, IsJobFor}
+use Rattle.job_loading.proofs.Public.{job_of_texts}
+use Rattle.input_check.specs.declared.answer.Answer.{Answer}
+use Rattle.input_check.specs.declared.answer.Answer.TheVariants as answer
+use Rattle.input_check.specs.Checks.{IsAnswerTo, IsCircuitAnswer}
+
+-- the job of a circuit and of tests
+abbrev pub made_job : Model → List Statement → Collapsed → TestList → Parts
+made_job m c classes tests = record {
+  circuit = c;
+  list = fault_list m c;
+  classes = classes;
+  tests = tests;
+}
+
+pub is_made : (m : Model) (c : List Statement) (classes : Collapsed) (tests : TestList)
+    → AreClassesOf m c classes → AreTestsFor c tests
+    → IsJobFor m c tests (made_job m c classes tests)
+is_made m c classes tests are fit = (
+  refl,
+  refl,
+  record {
+    circuit = fit.circuit;
+    list = refl;
+    classes = are;
+    tests = fit.tests;
+    width = fit.width;
+  },
+  refl,
+)
+
+-- the answer for the circuit of a text is one for the texts
+answer_of : (m : Model) (bench : List ℕ) (tests : Option (List ℕ)) (c : List Statement)
+    (given : Answer) → IsAccepted bench c → IsCircuitAnswer m c tests given
+    → IsAnswerTo m bench tests given
+answer_of m bench None c (answer.Accepted table) accepted is = (c, accepted)
+answer_of m bench None c (answer.BenchRefused findings) accepted is = absurd is
+answer_of m bench None c (answer.TestsRefused findings) accepted is = absurd is
+answer_of m bench None c (answer.TooManyPieces excess) accepted is = absurd is
+answer_of m bench (Some text) c (answer.BenchRefused findings) accepted is = absurd is.2
+answer_of m bench (Some text) c (answer.TestsRefused findings) accepted is =
+    (c, is.0, accepted, is.1, is.2)
+answer_of m bench (Some text) c (answer.Accepted table) accepted is = (
+  is.2.0,
+  (job_of_texts m bench text c is.0 is.2.0 accepted is.1 is.2.1, is.2.2),
+)
+answer_of m bench (Some text) c (answer.TooManyPieces excess) accepted is = (
+  is.2.0,
+  job_of_texts m bench text c is.0 is.2.0 accepted is.1 is.2.1,
+  is.2.2,
+)
+
+pub answered : (m : Model) (bench : List ℕ) (tests : Option (List ℕ)) (c : List Statement)
+    (r : Result Answer AllocError) → IsAccepted bench c → IfOk r (IsCircuitAnswer m c tests)
+    → IfOk r (IsAnswerTo m bench tests)
+answered m bench tests c (Ok given) accepted is = answer_of m bench tests c given accepted is
+answered m bench tests c (Err e) accepted is = is

@@ -1,0 +1,76 @@
+-- What a text is found to be: what its reader says, with the refusal first among all faults.
+use Rattle.std.specs.Prelude.{◌≡◌, ◌≤◌, ⊤, ℕ, List, length, Option, Some, None}
+use Rattle.bench_net.specs.declared.BenchFault.{BenchFault}
+use Rattle.bench_net.specs.Circuit.{IsCircuit}
+use Rattle.bench_net.specs.Refusal.{IsAccepted, IsRefused}
+use Rattle.bench_net.specs.Scan.{sources}
+use Rattle.bench_net.specs.Statement.{Statement}
+use Rattle.patterns.specs.declared.TestFault.{TestFault}
+use Rattle.patterns.specs.Tests.{HasTests, IsTestList, IsTestRefusal, TestList, max_pieces}
+use Rattle.fault_model.specs.declared.Model.{Model}
+use Rattle.block_sim.specs.Parts.{Parts, piece_count}
+use Rattle.job_loading.specs.Jobs.{IsJobFor, IsJobOf, IsJobWithin}
+use Rattle.input_check.specs.declared.bench.BenchCheck.{BenchCheck}
+use Rattle.input_check.specs.declared.bench.BenchCheck.TheVariants as bench_check
+use Rattle.input_check.specs.declared.tests.TestCheck.{TestCheck}
+use Rattle.input_check.specs.declared.tests.TestCheck.TheVariants as test_check
+use Rattle.input_check.specs.declared.answer.Answer.{Answer}
+use Rattle.input_check.specs.declared.answer.Answer.TheVariants as answer
+use Rattle.input_check.specs.Counts.{IsExcessOf}
+use Rattle.input_errors.specs.declared.finding.InputError.TheVariants as fault
+
+-- a bench text is accepted with the circuit that it is found to be, and else refused by the first
+-- of its faults
+abbrev pub IsBenchCheckOf : List ℕ → BenchCheck → Type 0
+IsBenchCheckOf text (bench_check.Accepted circuit) = IsAccepted text circuit × IsCircuit circuit
+IsBenchCheckOf text (bench_check.Refused findings) = (refusal : BenchFault)
+    × (findings.first.fault ≡ fault.Bench refusal) × IsRefused text refusal
+
+-- a test text is accepted with the tests for a circuit that it is found to be, and else refused by
+-- the first of its faults
+abbrev pub IsTestCheckOf : List ℕ → List Statement → TestCheck → Type 0
+IsTestCheckOf text circuit (test_check.Accepted tests) =
+    HasTests text (length (sources circuit)) tests × IsTestList tests
+IsTestCheckOf text circuit (test_check.Refused findings) = (refusal : TestFault)
+    × (findings.first.fault ≡ fault.Tests refusal)
+    × IsTestRefusal text (length (sources circuit)) refusal
+
+-- The answer for a circuit and tests for it: the job of both is within the limit of pieces, or past
+-- it by what is told.
+abbrev pub IsTestsAnswer : Model → List Statement → TestList → Answer → Type 0
+IsTestsAnswer m c tests (answer.Accepted table) =
+    (job : Parts) × IsJobFor m c tests job × (piece_count job ≤ max_pieces)
+IsTestsAnswer m c tests (answer.TooManyPieces excess) =
+    (job : Parts) × IsJobFor m c tests job × IsExcessOf job excess
+IsTestsAnswer m c tests _ = ⊥
+
+-- The answer for a circuit and the text of tests: the text is refused by the first of the faults
+-- that are told, or has tests to which the answer is one.
+abbrev pub IsTextAnswer : Model → List Statement → List ℕ → Answer → Type 0
+IsTextAnswer m c text (answer.TestsRefused findings) = (refusal : TestFault)
+    × (findings.first.fault ≡ fault.Tests refusal)
+    × IsTestRefusal text (length (sources c)) refusal
+IsTextAnswer m c text given = (tests : TestList) × HasTests text (length (sources c)) tests
+    × IsTestsAnswer m c tests given
+
+-- the answer for a circuit, where there may be the text of tests
+abbrev pub IsCircuitAnswer : Model → List Statement → Option (List ℕ) → Answer → Type 0
+IsCircuitAnswer m c None (answer.Accepted table) = ⊤
+IsCircuitAnswer m c None _ = ⊥
+IsCircuitAnswer m c (Some text) given = IsTextAnswer m c text given
+
+-- What texts are answered. A bench text is refused by the first of the faults that are told. Where
+-- it is accepted, a test text is refused so; and where that is accepted, too, the job of both texts
+-- is within the limit of pieces, or past it by what is told.
+abbrev pub IsAnswerTo : Model → List ℕ → Option (List ℕ) → Answer → Type 0
+IsAnswerTo m bench tests (answer.BenchRefused findings) = (refusal : BenchFault)
+    × (findings.first.fault ≡ fault.Bench refusal) × IsRefused bench refusal
+IsAnswerTo m bench None (answer.Accepted table) = (c : List Statement) × IsAccepted bench c
+IsAnswerTo m bench None _ = ⊥
+IsAnswerTo m bench (Some text) (answer.TestsRefused findings) = (c : List Statement)
+    × (refusal : TestFault) × IsAccepted bench c × (findings.first.fault ≡ fault.Tests refusal)
+    × IsTestRefusal text (length (sources c)) refusal
+IsAnswerTo m bench (Some text) (answer.TooManyPieces excess) = (job : Parts)
+    × IsJobOf m bench text job × IsExcessOf job excess
+IsAnswerTo m bench (Some text) (answer.Accepted table) = (job : Parts)
+    × IsJobWithin m bench text job

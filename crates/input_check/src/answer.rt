@@ -1,0 +1,136 @@
+//! The result of checking a bench file and a test file together.
+
+ghost use Rattle.std.specs.Prelude.{IfOk, option_map};
+ghost use Rattle.bench_net.specs.Circuit.{IsCircuit};
+ghost use Rattle.job_loading.specs.Jobs.{AreTestsFor};
+ghost use Rattle.input_check.specs.Checks.{IsAnswerTo, IsCircuitAnswer, IsTestsAnswer};
+ghost use Rattle.input_check.specs.Checks.{IsTextAnswer};
+
+use crate::bench::{BenchCheck, check_bench};
+use crate::summary::{Excess, count_circuit, count_tests, excess_of};
+use crate::tests::{TestCheck, check_tests};
+use bench_net::Circuit;
+use fault_model::Model;
+use input_errors::{Findings, Warning, circuit_warnings, pair_warnings, test_warnings};
+use patterns::Tests;
+use std::alloc::{AllocError, Global};
+
+/// The result of checking the files of a run.
+#[derive(Drop)]
+pub enum Answer<'a> {
+    /// They are accepted. The text is a table of their sizes, and warnings.
+    Accepted(String),
+    /// The bench file has errors.
+    BenchRefused(Findings<'a>),
+    /// The test file has errors.
+    TestsRefused(Findings<'a>),
+    /// Classes times blocks are more than `patterns::MAX_PIECES`.
+    TooManyPieces(Excess),
+}
+
+/// Checks a bench file, and tests for it if there are any. Returns their sizes and the size of a
+/// run under a fault model, or all errors of the first file that has one.
+pub fn check_texts<'a>(
+    alloc: Global,
+    model: Model,
+    bench: &'a [u8],
+    tests: Option<&'a [u8]>,
+) -> Result<Answer<'a>, AllocError>
+    ensures { IfOk result
+        (IsAnswerTo model bench.now (option_map (λ text. text.now) tests.entry)) }
+{
+    match check_bench(alloc, bench)? {
+        BenchCheck::Accepted(circuit) => answer_for(alloc, model, &circuit, tests),
+        BenchCheck::Refused(findings) => Ok(Answer::BenchRefused(findings)),
+    }
+}
+
+/// Returns the answer for a circuit.
+fn answer_for<'a>(
+    alloc: Global,
+    model: Model,
+    circuit: &Circuit,
+    tests: Option<&'a [u8]>,
+) -> Result<Answer<'a>, AllocError>
+    requires { IsCircuit circuit.now }
+    ensures { IfOk result
+        (IsCircuitAnswer model circuit.now (option_map (λ text. text.now) tests.entry)) }
+{
+    match tests {
+        Some(text) => answer_for_text(alloc, model, circuit, text),
+        None => {
+            let counts = count_circuit(alloc, model, circuit)?;
+            let mut table = format!(in alloc; "{counts}")?;
+            add_warnings(&mut table, alloc, &circuit_warnings(alloc, circuit)?)?;
+            Ok(Answer::Accepted(table))
+        }
+    }
+}
+
+/// Returns the answer for a circuit and the bytes of a test file.
+fn answer_for_text<'a>(
+    alloc: Global,
+    model: Model,
+    circuit: &Circuit,
+    text: &'a [u8],
+) -> Result<Answer<'a>, AllocError>
+    requires { IsCircuit circuit.now }
+    ensures { IfOk result (IsTextAnswer model circuit.now text.now) }
+{
+    match check_tests(alloc, text, circuit)? {
+        TestCheck::Accepted(tests) => answer_for_tests(alloc, model, circuit, &tests),
+        TestCheck::Refused(findings) => Ok(Answer::TestsRefused(findings)),
+    }
+}
+
+/// Returns the answer for a circuit and tests for it.
+fn answer_for_tests<'a>(
+    alloc: Global,
+    model: Model,
+    circuit: &Circuit,
+    tests: &Tests,
+) -> Result<Answer<'a>, AllocError>
+    requires { AreTestsFor circuit.now tests.now }
+    ensures { IfOk result (IsTestsAnswer model circuit.now tests.now) }
+{
+    let counts = count_circuit(alloc, model, circuit)?;
+    let taken = count_tests(&counts, tests);
+    match excess_of(&counts, &taken) {
+        Some(excess) => Ok(Answer::TooManyPieces(excess)),
+        None => {
+            let table = format!(in alloc; "{counts}{taken}")?;
+            Ok(Answer::Accepted(with_warnings(alloc, model, table, circuit, tests)?))
+        }
+    }
+}
+
+/// Returns a table with a line for each warning of a circuit and of tests for it.
+fn with_warnings(
+    alloc: Global,
+    model: Model,
+    table: String,
+    circuit: &Circuit,
+    tests: &Tests,
+) -> Result<String, AllocError> {
+    let mut table = table;
+    add_warnings(&mut table, alloc, &circuit_warnings(alloc, circuit)?)?;
+    let warnings = match model {
+        Model::StuckAt | Model::Transition => test_warnings(alloc, circuit, tests)?,
+        Model::TransitionPairs => pair_warnings(alloc, circuit, tests)?,
+    };
+    add_warnings(&mut table, alloc, &warnings)?;
+    Ok(table)
+}
+
+/// Adds a line for each warning to a table.
+fn add_warnings(
+    table: &mut String,
+    alloc: Global,
+    warnings: &[Warning<'_>],
+) -> Result<(), AllocError> {
+    for warning in warnings {
+        let line = format!(in alloc; "warning: {warning}\n")?;
+        table.push_str(line.as_str())?;
+    }
+    Ok(())
+}

@@ -1,0 +1,36 @@
+//! The error of the reader as the first error of a file.
+
+ghost use Rattle.std.specs.Prelude.{◌≡◌};
+
+use input_errors::{Finding, Findings, Found, InputError, Note, Place};
+
+/// Returns the errors of a file with this error first.
+pub(crate) fn findings_of<'a>(found: Found<'a>, fault: InputError) -> Findings<'a>
+    ensures { result.first.fault ≡ fault }
+{
+    let Found {
+        first,
+        others,
+        more,
+    } = found;
+    Findings {
+        first: first_of(first, fault),
+        others,
+        more,
+    }
+}
+
+/// Returns the finding of the reader's error: the first one, if it is that error.
+fn first_of<'a>(first: Option<Finding<'a>>, fault: InputError) -> Finding<'a>
+    ensures { result.fault ≡ fault }
+{
+    match first {
+        Some(finding) if finding.fault == fault => Finding { fault, ..finding },
+        _ => Finding {
+            fault,
+            text: &[],
+            place: Place { start: 0, len: 0 },
+            note: Note::Nothing,
+        },
+    }
+}

@@ -1,0 +1,19 @@
+//! Checks of files before a run: all errors of a file, with their places and suggestions, and the
+//! sizes of a circuit and its tests.
+//!
+//! [`check_texts`] does all of it. `bench_net` and `patterns` decide whether a file is accepted,
+//! and which of its errors is the first. The rest is a second look at its lines, by the crate
+//! `findings`.
+#![tactic(auto)]
+
+mod answer;
+mod bench;
+mod first;
+mod summary;
+mod tests;
+
+pub use answer::{Answer, check_texts};
+pub use bench::{BenchCheck, check_bench};
+pub use input_errors::{Finding, Findings, InputError, Located, Note, Place, Token};
+pub use summary::{Counts, Excess, TestCounts, count_circuit, count_tests};
+pub use tests::{TestCheck, check_tests};

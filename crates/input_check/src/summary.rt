@@ -1,0 +1,294 @@
+//! The sizes of a circuit and its tests, and of a run.
+
+ghost use Rattle.std.specs.Prelude.{◌≡◌, ◌<◌, ◌≤◌, ◌*◌, IfNone, IfOk, IfSome};
+ghost use Rattle.patterns.specs.Tests.{max_pieces};
+ghost use Rattle.input_check.specs.Counts.{AreCountsOf, AreLeastParts, AreTestCountsOf};
+
+use bench_net::{Circuit, Kind};
+use fault_model::{Model, collapse, list_faults_in};
+use patterns::{BLOCK_SIZE, MAX_PIECES, MAX_TESTS, Tests};
+use std::alloc::{AllocError, Global};
+use std::fmt::{self, Display, Formatter};
+
+/// The blocks of the most tests that a run takes.
+const MAX_BLOCKS: u32 = MAX_TESTS / BLOCK_SIZE;
+
+/// The kinds of gates and their names, in the order of [`Counts::gates`].
+static KINDS: [(Kind, &str); 8] = [
+    (Kind::And, "AND"),
+    (Kind::Nand, "NAND"),
+    (Kind::Or, "OR"),
+    (Kind::Nor, "NOR"),
+    (Kind::Xor, "XOR"),
+    (Kind::Xnor, "XNOR"),
+    (Kind::Not, "NOT"),
+    (Kind::Buff, "BUFF"),
+];
+
+/// The sizes of a circuit.
+#[derive(Clone, Copy, Debug, PartialEq, Eq)]
+pub struct Counts {
+    pub model: Model,
+    pub inputs: usize,
+    pub outputs: usize,
+    /// Flip-flops.
+    pub cells: usize,
+    /// Gates of each kind: AND, NAND, OR, NOR, XOR, XNOR, NOT, BUFF.
+    pub gates: [u64; 8],
+    /// The arguments of all gates.
+    pub pins: u64,
+    pub signals: u32,
+    /// The greatest level of a gate.
+    pub depth: u32,
+    /// Faults of the model, in the uncollapsed list.
+    pub faults: u32,
+    /// Classes of these faults.
+    pub classes: u32,
+}
+
+/// Counts the parts of a circuit.
+pub fn count_circuit(alloc: Global, model: Model, circuit: &Circuit) -> Result<Counts, AllocError>
+    ensures { IfOk result (AreCountsOf model circuit.now) }
+{
+    let list = list_faults_in(alloc, circuit, model)?;
+    let classes = collapse(alloc, circuit, &list)?;
+    let (gates, pins) = count_gates(circuit);
+    Ok(Counts {
+        model,
+        inputs: circuit.inputs().len(),
+        outputs: circuit.outputs().len(),
+        cells: circuit.scan_cells().len(),
+        gates,
+        pins,
+        signals: circuit.signals(),
+        depth: circuit.depth(),
+        faults: list.count(),
+        classes: classes.count(),
+    })
+}
+
+/// Returns the place of a kind among [`KINDS`].
+fn place_of(kind: Kind) -> usize {
+    KINDS.iter().position(|known| known.0 == kind).unwrap_or(0)
+}
+
+/// Returns the number of gates of each kind, and the number of their pins.
+fn count_gates(circuit: &Circuit) -> ([u64; 8], u64) {
+    let mut gates = [0; 8];
+    let mut pins: u64 = 0;
+    for signal in 0..circuit.signals() {
+        let Some(gate) = circuit.gate_of(signal) else {
+            continue;
+        };
+        pins = pins.saturating_add(gate.pins.len() as u64);
+        if let Some(count) = gates.get_mut(place_of(gate.kind)) {
+            *count = u64::saturating_add(*count, 1);
+        }
+    }
+    (gates, pins)
+}
+
+impl Counts {
+    /// Returns the number of all gates.
+    fn all_gates(&self) -> u64 {
+        let mut all: u64 = 0;
+        for count in &self.gates {
+            all = all.saturating_add(*count);
+        }
+        all
+    }
+
+    /// Returns the number of sinks: gate pins, data pins of flip-flops and OUTPUT lines.
+    fn sinks(&self) -> u64 {
+        let ports = self.cells.saturating_add(self.outputs) as u64;
+        self.pins.saturating_add(ports)
+    }
+
+    /// Returns the most tests of one run: 64 times 16,777,216 div classes, and 65,536 at most.
+    pub(crate) fn tests_a_run(&self) -> u32 {
+        let blocks = MAX_PIECES / self.classes.max(1);
+        blocks.saturating_mul(BLOCK_SIZE).min(MAX_TESTS)
+    }
+
+    /// Returns the least number of parts for a run of this number of blocks.
+    pub(crate) fn parts_of(&self, blocks: u32) -> u32
+        requires some { 0 < blocks }
+        requires few { blocks ≤ 1024 }
+        ensures { AreLeastParts self.now.classes blocks result }
+    {
+        let classes_of_part = MAX_PIECES / blocks;
+        self.classes.div_ceil(classes_of_part).max(1)
+    }
+
+    /// Estimates the bytes of a run of these tests, by the figures of the README.
+    fn memory(&self, tests: &Tests, workers: u64) -> u64 {
+        let signals = u64::from(self.signals);
+        let classes = u64::from(self.classes);
+        let sources = self.inputs.saturating_add(self.cells) as u64;
+        let blocks = u64::from(tests.blocks());
+        let text = sources
+            .saturating_add(1)
+            .saturating_mul(u64::from(tests.count()));
+        let words = signals
+            .saturating_mul(16)
+            .saturating_mul(blocks.div_ceil(2))
+            .saturating_add(sources.saturating_mul(8).saturating_mul(blocks));
+        let lists = self
+            .all_gates()
+            .saturating_mul(290)
+            .saturating_add(signals.saturating_mul(70))
+            .saturating_add(self.pins.saturating_mul(12))
+            .saturating_add(u64::from(self.faults).saturating_mul(4))
+            .saturating_add(classes.saturating_mul(12 + 40));
+        let each = signals
+            .saturating_mul(53)
+            .saturating_add(classes.saturating_mul(48));
+        text.saturating_add(words)
+            .saturating_add(lists)
+            .saturating_add(each.saturating_mul(workers))
+    }
+}
+
+/// Returns the name of a model on the command line.
+fn model_name(model: Model) -> &'static str {
+    match model {
+        Model::StuckAt => "stuck",
+        Model::Transition => "transition",
+        Model::TransitionPairs => "transition-pairs",
+    }
+}
+
+/// Writes a row of a table.
+fn fmt_row<W: fmt::Write>(name: &str, count: u64, f: &mut Formatter<W>) -> fmt::Result {
+    writeln!(f, "{name:<12}{count:>10}")
+}
+
+/// Writes a row for each kind of gate that there is.
+fn fmt_gates<W: fmt::Write>(gates: &[u64], f: &mut Formatter<W>) -> fmt::Result {
+    for (count, (_, name)) in gates.iter().zip(&KINDS) {
+        if *count > 0 {
+            writeln!(f, "  {name:<10}{count:>10}")?;
+        }
+    }
+    Ok(())
+}
+
+impl Counts {
+    /// Writes the number of parts for the most tests, if they are too many for one run.
+    fn fmt_parts<W: fmt::Write>(&self, f: &mut Formatter<W>) -> fmt::Result {
+        match self.parts_of(MAX_BLOCKS) {
+            1 => Ok(()),
+            parts => writeln!(f, "parts       {parts:>10} at least, for {MAX_TESTS} tests"),
+        }
+    }
+}
+
+impl Display for Counts {
+    fn fmt<W: fmt::Write>(&self, f: &mut Formatter<W>) -> fmt::Result {
+        fmt_row("inputs", self.inputs as u64, f)?;
+        fmt_row("outputs", self.outputs as u64, f)?;
+        fmt_row("flip-flops", self.cells as u64, f)?;
+        fmt_row("gates", self.all_gates(), f)?;
+        fmt_gates(&self.gates, f)?;
+        fmt_row("signals", u64::from(self.signals), f)?;
+        fmt_row("sinks", self.sinks(), f)?;
+        fmt_row("depth", u64::from(self.depth), f)?;
+        let model = model_name(self.model);
+        let faults = self.faults;
+        writeln!(f, "faults      {faults:>10} {model}")?;
+        fmt_row("classes", u64::from(self.classes), f)?;
+        let most = self.tests_a_run();
+        writeln!(f, "tests a run {most:>10} at most")?;
+        self.fmt_parts(f)
+    }
+}
+
+/// The number of workers of `run` by default.
+const USUAL_WORKERS: u64 = 4;
+
+/// The size of a run of tests.
+#[derive(Clone, Copy, Debug, PartialEq, Eq)]
+pub struct TestCounts {
+    pub tests: u32,
+    /// Blocks of 64 tests.
+    pub blocks: u32,
+    /// Classes times blocks.
+    pub pieces: u64,
+    /// An estimate of the bytes of a run with four workers.
+    pub bytes: u64,
+}
+
+/// Computes the size of a run of tests on a circuit with these counts.
+pub fn count_tests(counts: &Counts, tests: &Tests) -> TestCounts
+    ensures { AreTestCountsOf counts.now.classes tests.now result }
+{
+    let blocks = tests.blocks();
+    TestCounts {
+        tests: tests.count(),
+        blocks,
+        pieces: u64::from(counts.classes).saturating_mul(u64::from(blocks)),
+        bytes: counts.memory(tests, USUAL_WORKERS),
+    }
+}
+
+/// Tests that are too many for one run.
+#[derive(Clone, Copy, Debug, PartialEq, Eq)]
+pub struct Excess {
+    /// Classes of the faults.
+    pub classes: u32,
+    /// Blocks of 64 tests.
+    pub blocks: u32,
+    /// Classes times blocks.
+    pub pieces: u64,
+    /// The least number of parts for a run of them.
+    pub parts: u32,
+}
+
+/// Returns the excess of tests that are too many for one run.
+pub(crate) fn excess_of(counts: &Counts, taken: &TestCounts) -> Option<Excess>
+    requires blocks { taken.now.blocks ≤ 1024 }
+    requires pieces { taken.now.pieces ≡ counts.now.classes * taken.now.blocks }
+    ensures none { IfNone result (taken.now.pieces ≤ max_pieces) }
+    ensures past { IfSome result (λ excess. max_pieces < taken.now.pieces) }
+    ensures classes { IfSome result (λ excess. excess.classes ≡ counts.now.classes) }
+    ensures blocks { IfSome result (λ excess. excess.blocks ≡ taken.now.blocks) }
+    ensures pieces { IfSome result (λ excess. excess.pieces ≡ taken.now.pieces) }
+    ensures parts { IfSome result (λ excess.
+        AreLeastParts counts.now.classes taken.now.blocks excess.parts) }
+{
+    if taken.pieces <= u64::from(MAX_PIECES) {
+        return None;
+    }
+    Some(Excess {
+        classes: counts.classes,
+        blocks: taken.blocks,
+        pieces: taken.pieces,
+        parts: counts.parts_of(taken.blocks),
+    })
+}
+
+impl Display for Excess {
+    fn fmt<W: fmt::Write>(&self, f: &mut Formatter<W>) -> fmt::Result {
+        let Excess {
+            classes,
+            blocks,
+            pieces,
+            parts,
+        } = *self;
+        write!(
+            f,
+            "found {pieces} pieces: {classes} classes on {blocks} blocks of 64 tests; "
+        )?;
+        write!(f, "try --parts {parts} or more")
+    }
+}
+
+impl Display for TestCounts {
+    fn fmt<W: fmt::Write>(&self, f: &mut Formatter<W>) -> fmt::Result {
+        fmt_row("tests", u64::from(self.tests), f)?;
+        fmt_row("blocks", u64::from(self.blocks), f)?;
+        fmt_row("pieces", self.pieces, f)?;
+        let megabytes = self.bytes / 1_000_000 + 1;
+        writeln!(f, "memory      {megabytes:>10} MB, some, for 4 workers")
+    }
+}

@@ -1,0 +1,228 @@
+//! Errors of a file with their places, and how they are printed.
+
+use crate::note::Note;
+use crate::tokens::Place;
+use bench_net::BenchFault;
+use patterns::TestFault;
+use std::alloc::{AllocError, Global};
+use std::fmt::{self, Display, Formatter};
+
+/// An error of a file.
+#[derive(Clone, Copy, Debug, PartialEq, Eq)]
+pub enum InputError {
+    Bench(BenchFault),
+    Tests(TestFault),
+}
+
+impl InputError {
+    /// Returns the line that it names, from 1.
+    pub(crate) fn line(self) -> Option<u64> {
+        match self {
+            InputError::Bench(
+                BenchFault::Syntax(line)
+                | BenchFault::Redefined(line)
+                | BenchFault::Undefined(line)
+                | BenchFault::Cycle(line),
+            ) => Some(line),
+            InputError::Tests(TestFault::BadByte(line) | TestFault::BadWidth(line)) => Some(line),
+            _ => None,
+        }
+    }
+}
+
+impl Display for InputError {
+    /// Writes the words of the error, without the file and the line that it names.
+    fn fmt<W: fmt::Write>(&self, f: &mut Formatter<W>) -> fmt::Result {
+        match self {
+            InputError::Bench(fault) => fmt_bench(fault, f),
+            InputError::Tests(fault) => fmt_tests(fault, f),
+        }
+    }
+}
+
+/// Writes the words of a bench file's error.
+fn fmt_bench<W: fmt::Write>(fault: &BenchFault, f: &mut Formatter<W>) -> fmt::Result {
+    match fault {
+        BenchFault::TooLarge(limit) => write!(f, "more than {limit}"),
+        BenchFault::Syntax(_) => f.write_str("syntax"),
+        BenchFault::Redefined(_) => f.write_str("name defined before"),
+        BenchFault::Undefined(_) => f.write_str("name not defined"),
+        BenchFault::Cycle(_) => f.write_str("cycle"),
+        BenchFault::Empty => f.write_str("no signal"),
+        BenchFault::Memory => f.write_str("out of memory"),
+    }
+}
+
+/// Writes the words of a test file's error.
+fn fmt_tests<W: fmt::Write>(fault: &TestFault, f: &mut Formatter<W>) -> fmt::Result {
+    match fault {
+        TestFault::BadByte(_) => f.write_str("not 0 or 1"),
+        TestFault::BadWidth(_) => f.write_str("wrong width"),
+        TestFault::TooMany => f.write_str("more than 65536 rows"),
+        TestFault::Memory => f.write_str("out of memory"),
+    }
+}
+
+/// An error of a file with the line where it is, and a note on it.
+#[derive(Debug, Drop)]
+pub struct Finding<'a> {
+    /// The error, which names the line.
+    pub fault: InputError,
+    /// The line's bytes without its end; none if the error names no line.
+    pub text: &'a [u8],
+    /// The place on the line.
+    pub place: Place,
+    /// The note: what was found and expected.
+    pub note: Note<'a>,
+}
+
+/// All errors of a file: the first, then others, and how many more there are.
+#[derive(Debug, Drop)]
+pub struct Findings<'a> {
+    /// The error that the reader reports.
+    pub first: Finding<'a>,
+    /// Others, at most 19.
+    pub others: Vec<Finding<'a>>,
+    /// The number of further errors.
+    pub more: u64,
+}
+
+/// The number of errors that are kept beside the first.
+const MAX_OTHERS: usize = 19;
+
+/// Errors in the order in which they were found.
+#[derive(Drop)]
+pub struct Found<'a> {
+    /// The first error.
+    pub first: Option<Finding<'a>>,
+    /// Others, at most 19.
+    pub others: Vec<Finding<'a>>,
+    /// The number of further errors.
+    pub more: u64,
+}
+
+impl<'a> Found<'a> {
+    /// Makes a list without errors.
+    pub(crate) fn new(alloc: Global) -> Self {
+        Found {
+            first: None,
+            others: Vec::new(alloc),
+            more: 0,
+        }
+    }
+
+    /// Returns whether one more error is only counted.
+    pub(crate) fn is_full(&self) -> bool {
+        self.others.len() >= MAX_OTHERS
+    }
+
+    /// Counts one more error.
+    pub(crate) fn count(&mut self) {
+        self.more = self.more.saturating_add(1);
+    }
+
+    /// Adds an error, or only counts it.
+    pub(crate) fn push(&mut self, finding: Finding<'a>) -> Result<(), AllocError> {
+        if self.is_full() {
+            self.count();
+            return Ok(());
+        }
+        if self.first.is_none() {
+            self.first = Some(finding);
+            return Ok(());
+        }
+        self.others.push(finding)?;
+        Ok(())
+    }
+}
+
+/// The findings of a file with its path. Each is printed as `PATH:LINE: WORDS`, the line's text, a
+/// mark under the place, and what was found and expected.
+#[derive(Clone, Copy)]
+pub struct Located<'p, 'f, 't> {
+    /// The path of the file.
+    pub path: &'p str,
+    /// Its errors.
+    pub findings: &'f Findings<'t>,
+}
+
+impl Display for Located<'_, '_, '_> {
+    fn fmt<W: fmt::Write>(&self, f: &mut Formatter<W>) -> fmt::Result {
+        fmt_finding(self.path, &self.findings.first, f)?;
+        for finding in &self.findings.others {
+            fmt_finding(self.path, finding, f)?;
+        }
+        match self.findings.more {
+            0 => Ok(()),
+            1 => writeln!(f, "and 1 more"),
+            more => writeln!(f, "and {more} more"),
+        }
+    }
+}
+
+/// Writes a finding.
+fn fmt_finding<W: fmt::Write>(
+    path: &str,
+    finding: &Finding<'_>,
+    f: &mut Formatter<W>,
+) -> fmt::Result {
+    let fault = finding.fault;
+    match fault.line() {
+        Some(line) => writeln!(f, "{path}:{line}: {fault}")?,
+        None => writeln!(f, "{path}: {fault}")?,
+    }
+    if fault.line().is_some() {
+        fmt_mark(finding.text, finding.place, f)?;
+    }
+    match finding.note {
+        Note::Nothing => Ok(()),
+        _ => {
+            let note = &finding.note;
+            writeln!(f, "    {note}")
+        }
+    }
+}
+
+/// The number of bytes of a line that are shown.
+const SHOWN: usize = 80;
+
+/// The number of shown bytes before the place, if the line is long.
+const BEFORE: usize = 40;
+
+/// Writes a line's text, from a place near the mark if the line is long, and the mark below.
+fn fmt_mark<W: fmt::Write>(text: &[u8], place: Place, f: &mut Formatter<W>) -> fmt::Result {
+    let from = if text.len() > SHOWN {
+        place.start.saturating_sub(BEFORE)
+    } else {
+        0
+    };
+    let shown = text.get(from..).unwrap_or(&[]);
+    let before = place.start.saturating_sub(from);
+    let room = SHOWN.saturating_sub(before);
+    f.write_str("    ")?;
+    fmt_bytes(shown, f)?;
+    f.write_str("\n    ")?;
+    fmt_repeated(' ', before, f)?;
+    fmt_repeated('^', place.len.min(room).max(1), f)?;
+    f.write_str("\n")
+}
+
+/// Writes the shown bytes of a line: a space for a tab, and `?` for a byte that is no ASCII.
+fn fmt_bytes<W: fmt::Write>(bytes: &[u8], f: &mut Formatter<W>) -> fmt::Result {
+    for byte in bytes.iter().take(SHOWN) {
+        f.write_char(match *byte {
+            0x20..=0x7e => char::from(*byte),
+            b'\t' => ' ',
+            _ => '?',
+        })?;
+    }
+    Ok(())
+}
+
+/// Writes a character a number of times.
+fn fmt_repeated<W: fmt::Write>(character: char, count: usize, f: &mut Formatter<W>) -> fmt::Result {
+    for _ in 0..count {
+        f.write_char(character)?;
+    }
+    Ok(())
+}

@@ -1,0 +1,23 @@
+//! The errors of a file line by line, each with its place, what was found and expected, and a
+//! suggestion. Also warnings: oddities that are no errors.
+//!
+//! `bench_net` and `patterns` decide whether a file is accepted, and which error is its first. This
+//! is a second look at the lines, which decides nothing and only promises that it is safe.
+#![tactic(auto)]
+
+mod bench;
+mod cycle;
+mod finding;
+mod look;
+mod note;
+mod suggest;
+mod tests;
+mod tokens;
+mod warning;
+
+pub use bench::find_in_bench;
+pub use finding::{Finding, Findings, Found, InputError, Located};
+pub use note::Note;
+pub use tests::find_in_tests;
+pub use tokens::{Place, Token};
+pub use warning::{NameList, Warning, circuit_warnings, pair_warnings, test_warnings};

@@ -1,0 +1,68 @@
+-- What is made of the circuit and the tests of accepted texts is a job of the texts.
+use Rattle.std.proofs.Common.{◌≡◌, ◌⊎◌, ℕ, List, length, refl, sym, ap, subst, inl, inr}
+use Rattle.std.specs.Prelude.{Result, Err, ◌↔◌}
+use Rattle.bench_net.specs.Statement.{Statement}
+use Rattle.bench_net.specs.Scan.{sources}
+use Rattle.bench_net.specs.Refusal.{IsAccepted}
+use Rattle.fault_model.specs.declared.Model.{Model}
+use Rattle.fault_model.specs.Fault.{FaultList, fault_list}
+use Rattle.fault_model.specs.Collapse.{Collapsed, AreClassesOf}
+use Rattle.patterns.specs.Tests.{TestList, HasTests}
+use Rattle.block_sim.specs.declared.job.JobFault.{JobFault}
+use Rattle.block_sim.specs.declared.job.JobFault.TheVariants as job_fault
+use Rattle.block_sim.specs.Parts.{Parts}
+use Rattle.job_loading.specs.declared.fault.SimFault.{SimFault}
+use Rattle.job_loading.specs.declared.fault.SimFault.TheVariants as fault
+use Rattle.job_loading.specs.Jobs.{AreTestsFor, IsJobFault, IsJobFor, IsJobOf, IsPiecesFault}
+
+-- the parts that are made for a circuit and tests are a job of them
+pub job_is : (m : Model) (c : List Statement) (list : FaultList) (classes : Collapsed)
+    (tests : TestList) → list ≡ fault_list m c → AreClassesOf list.model c classes
+    → AreTestsFor c tests
+    → IsJobFor m c tests (record { circuit = c; list = list; classes = classes; tests = tests })
+job_is m c list classes tests listed are fit =
+    let of_model : list.model ≡ m = ap (λ l. l.model) listed in (
+      refl,
+      refl,
+      record {
+        circuit = fit.circuit;
+        list = subst (λ x. list ≡ fault_list x c) (sym of_model) listed;
+        classes = are;
+        tests = fit.tests;
+        width = fit.width;
+      },
+      of_model,
+    )
+
+-- a job of the circuit and the tests of two texts is a job of the texts
+pub job_of_texts : (m : Model) (bench text : List ℕ) (c : List Statement) (tests : TestList)
+    (job : Parts) → IsAccepted bench c → HasTests text (length (sources c)) tests
+    → IsJobFor m c tests job → IsJobOf m bench text job
+job_of_texts m bench text c tests job accepted has is = (
+  subst (λ x. IsAccepted bench x) (sym is.0) accepted,
+  subst (λ x. HasTests text (length (sources x)) job.tests) (sym is.0)
+      (subst (λ t. HasTests text (length (sources c)) t) (sym is.1) has),
+  is.2,
+  is.3,
+)
+
+-- a job of the circuit and the tests of two texts is refused of the texts
+pub pieces_fault : (m : Model) (bench text : List ℕ) (c : List Statement) (tests : TestList)
+    → IsAccepted bench c → HasTests text (length (sources c)) tests → (f : SimFault)
+    → IsPiecesFault m c tests f → IsJobFault m bench text f
+pieces_fault m bench text c tests accepted has (fault.Job f) (inl is) = inl is
+pieces_fault m bench text c tests accepted has (fault.Job f) (inr is) =
+    inr (is.0, job_of_texts m bench text c tests is.0 accepted has is.1, is.2)
+pieces_fault m bench text c tests accepted has fault.Memory h = tt
+pieces_fault m bench text c tests accepted has (fault.Bench f) h = absurd h
+pieces_fault m bench text c tests accepted has (fault.Tests f) h = absurd h
+pieces_fault m bench text c tests accepted has (fault.Order f) h = absurd h
+pieces_fault m bench text c tests accepted has (fault.Run f) h = absurd h
+pieces_fault m bench text c tests accepted has (fault.Report f) h = absurd h
+
+-- a job is refused for its pieces, or for want of memory
+pub job_refused : (J P : Type 0) (f : JobFault)
+    → (◌≡◌ {A = Result J JobFault} (Err f) (Err job_fault.TooManyPieces) ↔ P)
+    → (f ≡ job_fault.Memory) ⊎ P
+job_refused J P job_fault.TooManyPieces h = inr (h.0 refl)
+job_refused J P job_fault.Memory h = inl refl

@@ -1,0 +1,37 @@
+-- Into how many parts a run is cut.
+use Rattle.std.specs.Prelude.{◌≡◌, ⊤, ℕ, ◌<◌, ◌≤◌, List}
+use Rattle.fault_model.specs.declared.Model.{Model}
+use Rattle.patterns.specs.Tests.{max_pieces}
+use Rattle.block_sim.specs.Parts.{Parts, piece_count}
+use Rattle.workers.specs.Part.{parts_for}
+use Rattle.workers.specs.Refused.{ArePartsWithin}
+use Rattle.job_loading.specs.declared.fault.SimFault.{SimFault}
+use Rattle.job_loading.specs.declared.split.Split.{Split}
+use Rattle.job_loading.specs.declared.split.Split.TheVariants as split
+use Rattle.job_loading.specs.Jobs.{IsJobFault, IsReadFault}
+
+-- a number of parts that is given isn't 0
+abbrev pub HasSomePart : Split → Type 0
+HasSomePart split.Whole = ⊤
+HasSomePart (split.Parts count) = 0 < count
+HasSomePart split.Fitting = ⊤
+
+-- the least number of parts with which each is within the limit of pieces
+abbrev pub IsLeastSplit : Parts → ℕ → Type 0
+IsLeastSplit job parts = (0 < parts) × ArePartsWithin job parts
+    × ((other : ℕ) → 0 < other → ArePartsWithin job other → parts ≤ other)
+
+-- Into so many parts a job is cut for so many workers: where it is run whole, into those that serve
+-- them, and it is within the limit itself; where the number is to fit, each part is within it.
+abbrev pub IsSplitOf : Parts → Split → ℕ → ℕ → Type 0
+IsSplitOf job split.Whole workers parts =
+    (0 < parts) × (parts ≡ parts_for job workers) × (piece_count job ≤ max_pieces)
+IsSplitOf job (split.Parts count) workers parts = (0 < parts) × (parts ≡ count)
+IsSplitOf job split.Fitting workers parts = (0 < parts) × ArePartsWithin job parts
+
+-- When the texts of such a run are refused: the number of pieces is looked at where it is run
+-- whole.
+abbrev pub IsSplitFault : Model → List ℕ → List ℕ → Split → SimFault → Type 0
+IsSplitFault m bench text split.Whole f = IsJobFault m bench text f
+IsSplitFault m bench text (split.Parts count) f = IsReadFault bench text f
+IsSplitFault m bench text split.Fitting f = IsReadFault bench text f

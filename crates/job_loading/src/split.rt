@@ -1,0 +1,98 @@
+//! How a run is split into parts.
+
+ghost use Rattle.std.specs.Prelude.{ℕ, ◌*◌, ◌<◌, ◌≤◌, IfErr, IfOk};
+ghost use Rattle.patterns.specs.Tests.{max_pieces};
+ghost use Rattle.workers.specs.Part.{stretch_size};
+ghost use Rattle.workers.specs.Refused.{ArePartsWithin};
+ghost use Rattle.job_loading.specs.Jobs.{IsJobOf};
+ghost use Rattle.job_loading.specs.Splits.{HasSomePart, IsLeastSplit, IsSplitFault, IsSplitOf};
+
+use crate::fault::SimFault;
+use crate::texts::{job_of_any_size_in_threads, job_of_in_threads};
+use block_sim::Job;
+use fault_model::Model;
+use patterns::MAX_PIECES;
+use std::alloc::Global;
+use std::sync::Wait;
+use std::thread::Threads;
+use workers::parts_for;
+
+/// How many parts a run splits the fault classes into. The verdicts are the same for each.
+#[derive(Clone, Copy, Debug, PartialEq, Eq)]
+pub enum Split {
+    /// As many parts as serve the workers. The whole run is within the limit on pieces.
+    Whole,
+    /// This number of parts. Each part is within the limit on pieces.
+    Parts(u32),
+    /// As many parts as serve the workers, and more if a part would exceed the limit on pieces.
+    Fitting,
+}
+
+/// Returns the least number of parts of `classes` classes for which each part is within the limit
+/// on pieces, if there are `blocks` blocks.
+fn fewest_parts(classes: u32, blocks: u32) -> u32
+    requires { blocks ≤ max_pieces }
+    ensures some { 0 < result }
+    ensures within { stretch_size classes result * blocks ≤ max_pieces }
+    ensures least { (other : ℕ) → 0 < other → stretch_size classes other * blocks ≤ max_pieces
+        → result ≤ other }
+{
+    if blocks == 0 {
+        return 1;
+    }
+    let classes_of_part = MAX_PIECES / blocks;
+    classes.div_ceil(classes_of_part).max(1)
+}
+
+/// Returns the least number of parts for which each part has at most [`patterns::MAX_PIECES`]
+/// pieces.
+pub fn least_parts(job: &Job) -> u32
+    ensures { IsLeastSplit job.now result }
+{
+    fewest_parts(job.classes().count(), job.tests().blocks())
+}
+
+/// Returns as many parts as serve `workers` workers, and more if a part would exceed the limit.
+fn fitting_parts(job: &Job, workers: u32) -> u32
+    ensures some { 0 < result }
+    ensures within { ArePartsWithin job.now result }
+{
+    least_parts(job).max(parts_for(job, workers))
+}
+
+/// Reads the job of a bench text and a test text under a model, and returns it with the number of
+/// parts in which `workers` workers run it.
+///
+/// It reads the texts as [`crate::job_of_in_threads`] does, by no more threads than there are
+/// workers. Only with [`Split::Whole`] does it look at the number of pieces.
+pub fn split_job_of<R: Threads + Wait>(
+    rt: &R,
+    alloc: Global,
+    model: Model,
+    bench: &[u8],
+    tests: &[u8],
+    split: Split,
+    workers: u32,
+) -> Result<(Job, u32), SimFault>
+    requires { HasSomePart split }
+    ensures job { IfOk result (λ made. IsJobOf model bench.now tests.now made.0) }
+    ensures parts { IfOk result (λ made. IsSplitOf made.0 split workers made.1) }
+    ensures refused { IfErr result (IsSplitFault model bench.now tests.now split) }
+{
+    match split {
+        Split::Whole => {
+            let job = job_of_in_threads(rt, alloc, model, bench, tests, workers)?;
+            let parts = parts_for(&job, workers);
+            Ok((job, parts))
+        }
+        Split::Parts(parts) => {
+            let job = job_of_any_size_in_threads(rt, alloc, model, bench, tests, workers)?;
+            Ok((job, parts))
+        }
+        Split::Fitting => {
+            let job = job_of_any_size_in_threads(rt, alloc, model, bench, tests, workers)?;
+            let parts = fitting_parts(&job, workers);
+            Ok((job, parts))
+        }
+    }
+}

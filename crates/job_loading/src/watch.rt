@@ -1,0 +1,77 @@
+//! Runs under gates that learn of the whole run.
+
+ghost use Rattle.std.specs.Prelude.{◌<◌, ◌≤◌, IfErr, IfOk, OnOk};
+ghost use Rattle.workers.specs.Refused.{ArePartsWithin, IsPartsFault};
+ghost use Rattle.workers.specs.Verdict.{AreAfterHits, AreFirsts};
+
+use block_sim::Job;
+use std::alloc::Global;
+use std::sync::Wait;
+use std::thread::Threads;
+use workers::{Gate, OpenGate, RunFault, Verdicts, run_in_parts};
+
+/// The number of undetected faults of a run for each reason (the reasons are those of the crate
+/// `undetected`).
+#[derive(Clone, Copy, Debug, PartialEq, Eq)]
+pub struct ReasonCounts {
+    /// No observer is reached from the line of these faults.
+    pub no_path: usize,
+    /// No test activates these.
+    pub not_activated: usize,
+    /// Some test activates each of these, and none detects it.
+    pub not_observed: usize,
+}
+
+/// A gate that learns how much work a run has, and when that work is done.
+pub trait Watch: Gate {
+    /// Begins the run: it has this number of fault classes, each on this number of blocks of 64
+    /// tests.
+    fn starts(&self, classes: u32, blocks: u32);
+
+    /// Ends the run: all classes are settled. Nothing is written yet.
+    fn ends(&self);
+
+    /// Takes the verdicts of a run of all classes, before anything of the text is written. A run of
+    /// one part has none.
+    fn finds(&self, _job: &Job, _verdicts: &Verdicts)
+        requires { AreFirsts _job.now.list.model _job.now.circuit _job.now.tests.tests
+            _verdicts.now.firsts }
+    {}
+
+    /// Takes how many of the undetected faults have each reason, before anything of the text is
+    /// written. Only a run that tells the reasons has them.
+    fn explains(&self, _counts: ReasonCounts) {}
+}
+
+impl Watch for OpenGate {
+    fn starts(&self, _classes: u32, _blocks: u32) {}
+
+    fn ends(&self) {}
+}
+
+/// Runs a job in so many parts, by workers in threads of their own, as [`workers::run_in_parts`]
+/// does and with the same verdicts and refusals. The gate is told when the run begins, when all is
+/// settled, and of the verdicts.
+pub fn run_watched<R: Threads + Wait, G: Watch + Sync>(
+    rt: &R,
+    alloc: Global,
+    job: &Job,
+    parts: u32,
+    workers: u32,
+    gate: &G,
+) -> Result<Verdicts, RunFault>
+    requires { 0 < parts }
+    ensures firsts { IfOk result (λ v.
+        AreFirsts job.now.list.model job.now.circuit job.now.tests.tests v.firsts) }
+    ensures skipped { IfOk result (λ v. AreAfterHits job.now v.skipped) }
+    ensures workers { OnOk result ((0 < workers) × (workers ≤ 64)) }
+    ensures within { OnOk result (ArePartsWithin job.now parts) }
+    ensures refused { IfErr result (IsPartsFault job.now parts workers (G.passing gate.now)
+        (G.stops gate.now)) }
+{
+    gate.starts(job.classes().count(), job.tests().blocks());
+    let verdicts = run_in_parts(rt, alloc, job, parts, workers, gate)?;
+    gate.ends();
+    gate.finds(job, &verdicts);
+    Ok(verdicts)
+}

@@ -1,0 +1,122 @@
+-- Counts of classes, and of the faults of a class.
+use Rattle.std.proofs.Common.{◌≡◌, ◌<◌, ◌≤◌, ◌+◌, ◌*◌, ◌/◌, ℕ, Bool, List, Option, length, min, sym}
+use Rattle.std.proofs.Common.{ap, ◌∙◌, arith}
+use Rattle.std.specs.Prelude.{Some, count_by, slice_get}
+use Rattle.std.specs.Bool.{Decides}
+use Rattle.std.proofs.lemmas.List.{length-map}
+use Rattle.std.proofs.lemmas.Option.{slice_get_within}
+use Rattle.list_lemmas.proofs.Places.{within_place}
+use Rattle.fault_model.specs.Fault.{Fault, FaultList, faults}
+use Rattle.fault_model.specs.Collapse.{AreEquivalent, IsClassOf, representatives}
+use Rattle.fault_model.specs.Detection.{DetectsAt}
+use Rattle.fault_model.proofs.Public.{classes_detected_same, own_class}
+use Rattle.patterns.specs.Least.{below}
+use Rattle.block_sim.specs.Parts.{BelongTogether, Parts}
+use Rattle.block_sim.proofs.Public.{representative_at, which_detect}
+use Rattle.n_detect.specs.Detections.{AreCounts, IsClassCount, IsCount}
+use Rattle.n_detect.proofs.RangeCounts.{all_blocks, no_fewer}
+
+module _ (job : Parts) (most class block count : ℕ) (b : BelongTogether job)
+    (lt : class < length job.classes.representative) where
+  abbrev IsCounted : Type 0
+  IsCounted =
+      (r : Fault) (detects : ℕ → Bool)
+      → slice_get (representatives job.list.model job.circuit) class ≡ Some r
+      → ((t : ℕ) → Decides (detects t) (DetectsAt job.circuit job.tests.tests r t))
+      → count ≡ min most (count_by detects (below (64 * block)))
+
+  fault : (r : Fault) × (slice_get (representatives job.list.model job.circuit) class ≡ Some r)
+  fault =
+      let k = within_place job.classes.representative class lt in
+      let r = representative_at job.list.model job.circuit job.classes class k.0 b.classes k.1 in
+      (r.0, r.2)
+
+  which : (detects : ℕ → Bool)
+      × ((t : ℕ) → Decides (detects t) (DetectsAt job.circuit job.tests.tests fault.0 t))
+  which =
+      which_detect job.list.model job.circuit job.tests.tests class fault.0 b.circuit.well_formed
+      fault.1
+
+  -- the class has this count, where that is how many tests detect its representative
+  counted_by : count ≡ min most (count_by which.0 (below (length job.tests.tests)))
+      → IsClassCount job most class count
+  counted_by number = record {
+    fault = fault.0;
+    of = fault.1;
+    count = record {
+      detects = which.0;
+      decides = which.1;
+      number = number;
+    };
+  }
+
+  -- all blocks are counted
+  pub counted_all : (length job.tests.tests + 63) / 64 ≤ block → IsCounted
+      → IsClassCount job most class count
+  counted_all done counted =
+      let so_far = counted fault.0 which.0 fault.1 which.1 in
+      let all = all_blocks job.circuit job.tests.tests fault.0 which.0 which.1 (64 * block)
+      (omega (arith, done)) in
+      counted_by (so_far ∙ ap (min most) all)
+
+  -- some are counted, and that is enough
+  pub counted_most : count ≡ most → block < (length job.tests.tests + 63) / 64 → IsCounted
+      → IsClassCount job most class count
+  counted_most enough more_blocks counted =
+      let so_far = counted fault.0 which.0 fault.1 which.1 in
+      let fewer = no_fewer job.circuit job.tests.tests fault.0 which.0 which.1 (64 * block)
+      (omega (arith, more_blocks)) in
+      counted_by (omega (arith, fewer, so_far, enough))
+
+-- as many tests detect a fault as detect the representative of its class
+pub fault_count : (job : Parts) (most class n : ℕ) (f : Fault) → BelongTogether job
+    → IsClassOf job.list.model job.circuit f class → IsClassCount job most class n
+    → IsCount job.circuit job.tests.tests most f n
+fault_count job most class n f b of count = record {
+  detects = count.count.detects;
+  decides = λ t.
+      let same = classes_detected_same job.circuit b.circuit.well_formed b.circuit.arities f
+      count.fault job.tests.tests t both in
+      let own = count.count.decides t in
+      (λ e. same.1 (own.0 e), λ d. own.1 (same.0 d));
+  number = count.count.number;
+}
+  where
+    both : AreEquivalent job.circuit f count.fault
+    both =
+        (job.list.model, class, of, own_class job.list.model job.circuit count.fault class count.of)
+
+-- the class of a fault is one of the job's
+pub class_within : (job : Parts) (fault class : ℕ) → BelongTogether job
+    → slice_get job.classes.class_of fault ≡ Some class → class < length job.classes.representative
+class_within job fault class b at =
+    let lt = slice_get_within job.classes.class_of fault class at in
+    let f =
+    within_place (faults job.list.model job.circuit) fault (omega (arith, lt, b.classes.count)) in
+    let of : IsClassOf job.list.model job.circuit f.0 class =
+    b.classes.class fault f.0 class f.1 at in
+    let within = slice_get_within (representatives job.list.model job.circuit) class of.0 of.3 in
+    let count : length job.classes.representative
+    ≡ length (representatives job.list.model job.circuit) =
+    sym (length-map job.classes.representative (slice_get (faults job.list.model job.circuit)))
+    ∙ ap (λ (l : List (Option Fault)). length l) b.classes.representative
+    ∙ length-map {B = Option Fault} (representatives job.list.model job.circuit) Some in
+    omega (arith, within, count)
+
+-- counts of all classes are those of all faults
+pub counts_of_faults : (job : Parts) (most : ℕ) (counts : List ℕ) → BelongTogether job
+    → length counts ≡ length job.list.list
+    → ((i n class : ℕ) → slice_get counts i ≡ Some n → slice_get job.classes.class_of i ≡ Some class
+    → IsClassCount job most class n)
+    → AreCounts job.list.model job.circuit job.tests.tests most counts
+counts_of_faults job most counts b same each =
+    let all : length job.list.list ≡ length (faults job.list.model job.circuit) =
+    ap (λ (l : FaultList). length l.list) b.list in
+    record {
+      count = same ∙ all;
+      each = λ i f n is at.
+          let lt = slice_get_within (faults job.list.model job.circuit) i f is in
+          let class = within_place job.classes.class_of i (omega (arith, lt, b.classes.count)) in
+          fault_count job most class.0 n f b (b.classes.class i f class.0 is class.1)
+          (each i n class.0 at class.1);
+    }

@@ -1,0 +1,125 @@
+-- How many numbers of a range have a property, and how many bits of a word are set.
+use Rattle.std.proofs.Common.{◌≡◌, ◌<◌, ◌≤◌, ◌+◌, ◌-◌, ◌*◌, ◌/◌, ◌%◌, ◌^◌, ◌==◌, ℕ, zero, suc, Bool}
+use Rattle.std.proofs.Common.{true, false, List, length, cond, refl, sym, ap, ◌∙◌, arith}
+use Rattle.std.specs.Prelude.{count_by, count_ones}
+use Rattle.std.specs.Bool.{Decides, one_answer}
+use Rattle.std.specs.Int.Count.{ones_step}
+use Rattle.std.proofs.lemmas.Nat.{ones_le_self}
+use Rattle.std.proofs.lemmas.Nat.Bits.{bit_at-suc, bit_at_lowest}
+use Rattle.std.proofs.lemmas.List.Sums.{sum_by-cons}
+use Rattle.list_lemmas.proofs.Places.{place_within}
+use Rattle.bench_net.specs.Statement.{Statement}
+use Rattle.fault_model.specs.Fault.{Fault}
+use Rattle.fault_model.specs.Solution.{Test}
+use Rattle.fault_model.specs.Detection.{DetectsAt}
+use Rattle.patterns.specs.Least.{from_up, below}
+use Rattle.block_sim.specs.Words.{lane}
+
+-- one number more at the front
+count_more : (p : ℕ → Bool) (a n : ℕ)
+    → count_by p (from_up a (suc n)) ≡ cond (p a) 1 0 + count_by p (from_up (a + 1) n)
+count_more p a n = sum_by-cons (λ x. cond (p x) 1 0) a (from_up (a + 1) n)
+
+-- a range in two parts
+count_parts : (p : ℕ → Bool) (a n m : ℕ)
+    → count_by p (from_up a (n + m)) ≡ count_by p (from_up a n) + count_by p (from_up (a + n) m)
+count_parts p a zero m =
+    let all : zero + m ≡ m = omega arith in
+    let same : a ≡ a + zero = omega arith in
+    let none : count_by p (from_up (a + zero) m) ≡ 0 + count_by p (from_up (a + zero) m) =
+    omega arith in
+    ap (λ k. count_by p (from_up a k)) all ∙ ap (λ b. count_by p (from_up b m)) same ∙ none
+count_parts p a (suc n) m =
+    let all : suc n + m ≡ suc (n + m) = omega arith in
+    let same : (a + 1) + n ≡ a + suc n = omega arith in
+    let front = count_more p a (n + m) in
+    let own = count_more p a n in
+    let rest = count_parts p (a + 1) n m in
+    let later = ap (λ b. count_by p (from_up b m)) same in
+    ap (λ k. count_by p (from_up a k)) all ∙ omega (arith, front, own, rest, later)
+
+-- none of a range has it
+count_none : (p : ℕ → Bool) (a n : ℕ) → ((j : ℕ) → j < n → p (a + j) ≡ false)
+    → count_by p (from_up a n) ≡ 0
+count_none p a zero none = refl
+count_none p a (suc n) none =
+    let first : p a ≡ false = ap p (let q : a ≡ a + 0 = omega arith in q) ∙ none 0 (omega arith) in
+    let number : Bool → ℕ = λ b. cond b 1 0 in
+    let here : number (p a) ≡ 0 = ap number first in
+    let rest = count_none p (a + 1) n (λ j lt.
+    ap p (let q : (a + 1) + j ≡ a + suc j = omega arith in q) ∙ none (suc j) (omega (arith, lt))) in
+    let front = count_more p a n in
+    omega (arith, front, here, rest)
+
+lowest : (r : ℕ) (b : Bool) → r < 2 → (r == 1) ≡ b → r ≡ cond b 1 0
+lowest zero false lt e = refl
+lowest zero true lt e = absurd (cc)
+lowest (suc zero) true lt e = refl
+lowest (suc zero) false lt e = absurd (cc)
+lowest (suc (suc r)) b lt e = absurd (omega (arith, lt))
+
+-- the bits of a word that are set are the numbers of a range, one a lane, that have the property
+ones_lanes : (k w a : ℕ) (p : ℕ → Bool) → w < 2 ^ k → ((j : ℕ) → j < k → lane w j ≡ p (a + j))
+    → count_ones w ≡ count_by p (from_up a k)
+ones_lanes zero w a p few same =
+    let none : w ≡ 0 = omega (arith, few) in
+    let le = ones_le_self w in
+    omega (arith, none, le)
+ones_lanes (suc k) w a p few same =
+    let half : w / 2 < 2 ^ k = omega (arith, few) in
+    let rest = ones_lanes k (w / 2) (a + 1) p half (λ j lt. ap (λ x. x == 1) (sym (bit_at-suc w j))
+    ∙ same (suc j) (omega (arith, lt))
+    ∙ ap p (let q : a + suc j ≡ (a + 1) + j = omega arith in q)) in
+    let own : (w % 2 == 1) ≡ p a =
+    ap (λ x. x == 1) (sym (bit_at_lowest w)) ∙ same 0 (omega arith)
+    ∙ ap p (let q : a + 0 ≡ a = omega arith in q) in
+    let first = lowest (w % 2) (p a) (omega arith) own in
+    let step = ones_step w in
+    let front = count_more p a k in
+    omega (arith, step, rest, first, front)
+
+module _ (c : List Statement) (tests : List Test) (f : Fault) (detects : ℕ → Bool)
+    (decides : (t : ℕ) → Decides (detects t) (DetectsAt c tests f t)) where
+  -- one block more
+  pub one_block : (block word : ℕ) → word < 2 ^ 64
+      → ((k : ℕ) → k < 64 → Decides (lane word k) (DetectsAt c tests f (64 * block + k)))
+      → count_by detects (below (64 * (block + 1)))
+      ≡ count_by detects (below (64 * block)) + count_ones word
+  one_block block word few told =
+      let all : 64 * (block + 1) ≡ 64 * block + 64 = omega arith in
+      let start : 0 + 64 * block ≡ 64 * block = omega arith in
+      let own = ones_lanes 64 word (64 * block) detects few
+      (λ j lt. one_answer (lane word j) (detects (64 * block + j)) (told j lt)
+      (decides (64 * block + j))) in
+      ap (λ n. count_by detects (below n)) all ∙ count_parts detects 0 (64 * block) 64
+      ∙ ap (λ a. count_by detects (below (64 * block)) + count_by detects (from_up a 64)) start
+      ∙ ap (λ n. count_by detects (below (64 * block)) + n) (sym own)
+
+  -- no test past the last detects
+  past : (t : ℕ) → length tests ≤ t → detects t ≡ false
+  past t le = go (detects t) refl
+    where
+      go : (b : Bool) → detects t ≡ b → b ≡ false
+      go false e = refl
+      go true e =
+          let d = (decides t).0 e in
+          let lt = place_within tests t d.0 d.1 in
+          absurd (omega (arith, lt, le))
+
+  pub all_blocks : (n : ℕ) → length tests ≤ n
+      → count_by detects (below n) ≡ count_by detects (below (length tests))
+  all_blocks n le =
+      let parts : n ≡ length tests + (n - length tests) = omega (arith, le) in
+      let none = count_none detects (0 + length tests) (n - length tests)
+      (λ j lt. past (0 + length tests + j) (omega arith)) in
+      let both = count_parts detects 0 (length tests) (n - length tests) in
+      ap (λ k. count_by detects (below k)) parts ∙ omega (arith, both, none)
+
+  -- fewer tests have no more that detect
+  pub no_fewer : (n : ℕ) → n ≤ length tests
+      → count_by detects (below n) ≤ count_by detects (below (length tests))
+  no_fewer n le =
+      let parts : length tests ≡ n + (length tests - n) = omega (arith, le) in
+      let both = count_parts detects 0 n (length tests - n) in
+      let whole = ap (λ k. count_by detects (below k)) parts in
+      omega (arith, both, whole)

@@ -1,0 +1,56 @@
+use Rattle.std.proofs.Common.{◌≡◌, ◌+◌, ℕ, length, sym, ap, ◌∙◌, subst, arith}
+use Rattle.std.specs.Prelude.{Some, slice_get, unwrap_or}
+use Rattle.fault_model.specs.Fault.{FaultList}
+use Rattle.fault_model.specs.Collapse.{Collapsed}
+use Rattle.n_detect.specs.Detections.{IsClassCount}
+use Rattle.n_detect.proofs.ClassCounts.{class_within, counts_of_faults}
+use Rattle.n_detect.proofs.EachPushed.{push_each}
+use Rattle.n_detect.proofs.faults.by_fault.Goals as goal
+
+pub count_in-requires-clause-class : goal.count_in-requires-clause-class
+count_in-requires-clause-class c =
+    let at =
+    ap (λ (x : Collapsed). slice_get x.class_of c.loop-fault.fault) (sym c.classes.ensures.part)
+    ∙ c.class_of-class.ensures in
+    class_within c.args.job.now c.loop-fault.fault c.class_of-class.result
+    c.classes.ensures.together at
+
+pub loop-fault-preserved : goal.loop-fault-preserved
+loop-fault-preserved c =
+    let before = c.loop-fault.invariant in
+    let job = c.args.job.now in
+    let at =
+    ap (λ (x : Collapsed). slice_get x.class_of c.loop-fault.fault) (sym c.classes.ensures.part)
+    ∙ c.class_of-class.ensures in
+    let place : c.loop-fault.fault ≡ length c.loop-fault.counts.items =
+    omega (arith, before.count, c.loop-fault.counts.ok) in
+    let there : slice_get job.classes.class_of (length c.loop-fault.counts.items)
+    ≡ Some c.class_of-class.result =
+    ap (slice_get job.classes.class_of) (sym place) ∙ at in
+    record {
+      count = c.in_ok-push.ensures.len ∙ ap (λ n. n + 1) before.count;
+      each = λ i n class is of.
+          push_each (λ k m. (class : ℕ) → slice_get job.classes.class_of k ≡ Some class
+          → IsClassCount job c.args.most class m) c.loop-fault.counts.items c.count_in.result
+          (λ k m found other own. before.each k m other found own)
+          (λ other own.
+          let same : c.class_of-class.result ≡ other =
+          ap (λ o. unwrap_or o other) (sym there ∙ own) in
+          subst (λ k. IsClassCount job c.args.most k c.count_in.result) same c.count_in.ensures)
+          i n (subst (λ xs. slice_get xs i ≡ Some n) c.in_ok-push.ensures.items is) class of;
+    }
+
+pub returns : goal.returns
+returns c =
+    let before = c.loop-fault.invariant in
+    let number = ap (λ (x : FaultList). length x.list) c.faults.ensures.part in
+    counts_of_faults c.args.job.now c.args.most c.loop-fault.counts.items c.faults.ensures.together
+    (omega (
+      arith,
+      before.count,
+      c.loop-fault.counts.ok,
+      c.loop-fault-test.false,
+      c.loop-fault.auto.fault-end,
+      c.count-count.ensures,
+      number,
+    )) before.each

@@ -1,0 +1,82 @@
+//! Shares of the classes, each counted in a thread of its own.
+
+ghost use Rattle.std.specs.Prelude.{IfOk};
+ghost use Rattle.n_detect.specs.Share.{AreShares, HasCounted, HaveCounted, IsShareFor};
+
+use crate::CountFault;
+use crate::share::{Share, count_share};
+use block_sim::Job;
+use std::alloc::Global;
+use std::snapshot::Snapshot;
+use std::sync::Wait;
+use std::thread;
+use std::thread::{Promise, Threads};
+
+/// The data that the thread of a share borrows: it returns the share with its counts.
+#[derive(Drop)]
+struct Counter {
+    job: Snapshot<Job>,
+    most: u32,
+    first: u32,
+    shares: u32,
+}
+
+impl Promise<Share> for Counter {
+    ghost use Rattle.n_detect.specs.Share.{HasCounted};
+
+    ghost kept_by = { λ p r. HasCounted p.job.value p.most p.first p.shares r.counts.items };
+}
+
+/// Does the work of one thread.
+fn serve(job: &Job, most: u32, shares: u32, share: Share) -> Share
+    requires { IsShareFor job.now share.first shares share }
+    ensures { HasCounted job.now most share.first shares result.counts.items }
+{
+    let mut share = share;
+    count_share(job, most, shares, &mut share);
+    share
+}
+
+/// Counts for the classes of all shares, each in a thread of its own, and returns the shares.
+pub(crate) fn count_shares<R: Threads + Wait>(
+    rt: &R,
+    alloc: Global,
+    job: &Job,
+    most: u32,
+    workers: u32,
+    shares: Vec<Share>,
+) -> Result<Vec<Share>, CountFault>
+    requires { AreShares job.now workers shares.items }
+    ensures { IfOk result (λ back. HaveCounted job.now most workers back.items) }
+{
+    thread::scope(
+        thread::scope_env(),
+        rt,
+        |scope| -> Result<Vec<Share>, CountFault>
+            requires { AreShares job.now workers shares.items }
+            ensures { IfOk result (λ back. HaveCounted job.entry.now most workers back.items) }
+        {
+            let count = shares.len();
+            let mut handles = Vec::with_capacity(alloc, count)?;
+            for share in shares {
+                let counter = Counter {
+                    job: Snapshot::of(job),
+                    most,
+                    first: share.first,
+                    shares: workers,
+                };
+                let Ok(handle) = scope.spawn_with(counter, move || serve(job, most, workers, share))
+                else {
+                    break;
+                };
+                handles.push(handle)?;
+            }
+            let refused = handles.len() < count;
+            let back = thread::join_promised(rt, handles)?;
+            if refused {
+                return Err(CountFault::Threads);
+            }
+            Ok(back)
+        },
+    )
+}

@@ -1,0 +1,56 @@
+-- The sweeps of the blocks in the run of one worker over a list of classes, and what is found out
+-- of
+-- the classes with each.
+use Rattle.std.specs.Prelude.{◌≡◌, ◌⊎◌, ◌<◌, ◌≤◌, ◌+◌, ℕ, List, Option, All, length, map}
+use Rattle.patterns.specs.Tests.{blocks}
+use Rattle.block_sim.specs.declared.origin.ListedClass.{ListedClass}
+use Rattle.block_sim.specs.declared.block_span.BlockSpan.{BlockSpan}
+use Rattle.block_sim.specs.Origins.{IsListed}
+use Rattle.block_sim.specs.Parts.{Parts}
+use Rattle.block_sim.specs.RegionHits.{HasFirst, IsOpenAt}
+use Rattle.block_sim.specs.BlockSpans.{span_of}
+use Rattle.workers.specs.declared.stretch_run.BlockSweep.{BlockSweep}
+
+-- the numbers of the classes of rows
+abbrev pub classes_of : List ListedClass → List ℕ
+classes_of rows = map (λ row. row.class) rows
+
+-- the rows stand for the classes of a list
+pub record AreRowsOf (job : Parts) (classes : List ℕ) (rows : List ListedClass) : Type 0 where
+  pub same : classes_of rows ≡ classes
+  pub each : All (IsListed job) rows
+
+-- the blocks from one to another
+abbrev pub between : ℕ → ℕ → BlockSpan
+between first last = record { first = first; last = last }
+
+-- Where so many first blocks are found out of all classes, the sweep of one of them has all, and
+-- that of the next has none.
+pub record IsBlockSweep (job : Parts) (rows : List ListedClass) (known : ℕ) (sweep : BlockSweep) :
+    Type 0 where
+  pub ordered : sweep.block ≤ sweep.last
+  pub within : sweep.last < blocks (length job.tests.tests)
+  pub found : ((sweep.found ≡ length rows) × (sweep.last + 1 ≡ known))
+      ⊎ ((sweep.found ≡ 0) × (known ≤ sweep.block)
+      × (sweep.last ≡ (span_of (length job.tests.tests) sweep.block).last))
+
+-- so many first classes are all, or the last block of the sweep is the last that is found out at
+-- once with the sweep's own
+abbrev pub IsWhole : Parts → List ListedClass → BlockSweep → ℕ → Type 0
+IsWhole job rows sweep found = (found ≡ length rows)
+    ⊎ (sweep.last ≡ (span_of (length job.tests.tests) sweep.block).last)
+
+-- of the open classes at the places from one up to another it is found out which test is the first
+-- from the sweep's block on
+abbrev pub HaveFirstsFrom : Parts → List ListedClass → List (Option ℕ) → BlockSweep → ℕ → ℕ
+    → List (Option ℕ)
+    → Type 0
+HaveFirstsFrom job rows firsts sweep place found hits = (k : ℕ) (row : ListedClass) → place ≤ k
+    → k < found
+    → IsOpenAt rows firsts k row → HasFirst job (between sweep.block sweep.last) row hits k
+
+-- and of those before a place which one is the first behind it
+abbrev pub HaveFirstsAfter : Parts → List ListedClass → List (Option ℕ) → BlockSweep → ℕ
+    → List (Option ℕ) → Type 0
+HaveFirstsAfter job rows firsts sweep place hits = (k : ℕ) (row : ListedClass) → k < place
+    → IsOpenAt rows firsts k row → HasFirst job (between (sweep.block + 1) sweep.last) row hits k

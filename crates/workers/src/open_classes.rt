@@ -1,0 +1,40 @@
+//! The places of a list whose classes may be open: for each place the next one.
+
+ghost use Rattle.std.specs.Prelude.{◌≡◌, ◌+◌, ◌<◌, ℕ, All, IfOk, None, Some, length, slice_get};
+ghost use Rattle.std.specs.Prelude.{slice_set};
+ghost use Rattle.workers.specs.OpenClasses.{AreNextOpen};
+
+use std::alloc::{AllocError, Global};
+
+/// Returns the next place of each, before any first test is known.
+pub(crate) fn all_open(alloc: Global, firsts: &[Option<u32>]) -> Result<Vec<usize>, AllocError>
+    ensures { IfOk result (λ next. AreNextOpen firsts.now next.items) }
+{
+    let mut next = Vec::with_capacity(alloc, firsts.len())?;
+    for place in 0..firsts.len() {
+        next.push(place + 1)?;
+    }
+    Ok(next)
+}
+
+/// Returns the next place whose class may be open.
+#[inline(always)]
+pub(crate) fn next_open(next: &[usize], place: usize) -> usize
+    requires { place < length next.now }
+    ensures { slice_get next.now place ≡ Some result }
+{
+    next[place]
+}
+
+/// Takes out a place, the next one of a place before it. Returns the place after it.
+#[inline(always)]
+pub(crate) fn leave_out(next: &mut [usize], before: usize, place: usize) -> usize
+    requires before { before < length next.old }
+    requires place { place < length next.old }
+    ensures following { slice_get next.old place ≡ Some result }
+    ensures left_out { next.new ≡ slice_set next.old before result }
+{
+    let following = next[place];
+    next[before] = following;
+    following
+}

@@ -1,0 +1,206 @@
+//! One worker.
+
+ghost use Rattle.std.specs.Prelude.{◌≡◌, ◌⊎◌, ◌<◌, ◌≤◌, ℕ, true, false, IsTrue, Some, None};
+ghost use Rattle.fault_ledger.specs.History.{block_count, held_by, claims, piece_at, piece_count};
+ghost use Rattle.fault_ledger.specs.Seats.{FindsNoHit, IsSitter, Makes, Sees};
+ghost use Rattle.fault_ledger.specs.declared.Event.{Event};
+ghost use Rattle.fault_ledger.specs.declared.Reply.TheVariants.{Done};
+ghost use Rattle.block_sim.specs.Parts.{HasRoom};
+ghost use Rattle.workers.specs.ClassSelection.{AreChosenOf};
+ghost use Rattle.workers.specs.Settling.{AreSettled, IsShapeOf, IsShapeOver};
+ghost use Rattle.workers.specs.Work.{EndsAs, Works, WorksOver, stops_over};
+
+use crate::claim_backoff::Backoff;
+use crate::class_selection::ClassSelection;
+use crate::piece_simulator::Simulator;
+use block_sim::{Job, Workspace};
+use fault_ledger::{Claim, Seat, SharedLedger, Status};
+
+/// The end of a worker's work.
+#[derive(Clone, Copy, Debug, PartialEq, Eq)]
+pub enum End {
+    /// All pieces were claimed.
+    Exhausted,
+    /// The worker has seen every class settled.
+    AllSettled,
+    /// The gate stopped the worker, which still holds its piece.
+    Stopped,
+}
+
+/// A gate: a worker asks it before it begins a piece that it has claimed.
+pub trait Gate {
+    ghost use Rattle.workers.specs.Stops.{Stops};
+
+    /// If it holds, [`Gate::pass`] lets every piece pass.
+    ghost passing: { Self → Type 0 };
+
+    /// The workers, classes and blocks for which [`Gate::pass`] may stop the worker, and for which
+    /// it surely does.
+    ghost stops: { Self → Stops };
+
+    /// Returns whether the worker may go on with the piece.
+    fn pass(&self, worker: u32, class: u32, block: u32) -> bool
+        ensures passing { passing self.now → result ≡ true }
+        ensures stopped { result ≡ false → (stops self.now).may worker class block }
+        ensures shut { (stops self.now).must worker class block → result ≡ false };
+}
+
+/// A gate that lets every piece pass.
+#[derive(Clone, Copy, Debug)]
+pub struct OpenGate;
+
+impl Gate for OpenGate {
+    ghost use Rattle.workers.specs.Stops.{no_stop};
+
+    ghost passing = { λ _. Unit {0} };
+
+    ghost stops = { λ _. no_stop };
+
+    fn pass(&self, _worker: u32, _class: u32, _block: u32) -> bool {
+        true
+    }
+}
+
+/// Drops the piece that the seat holds if an earlier block of its class was a hit, and returns
+/// whether it did.
+fn drop_held(ledger: &SharedLedger, seat: &mut Seat) -> bool
+    requires place { seat.old.place ≡ ledger.now }
+    requires sitter { IsSitter seat.old }
+    requires piece { (piece : ℕ) × (held_by seat.old.worker seat.old.seen ≡ Some piece) }
+    ensures dropped { result ≡ true
+        → Makes seat.old (Event.Drop seat.old.worker) Done seat.new }
+    ensures missed { result ≡ false → FindsNoHit seat.old seat.new }
+{
+    match ledger.drop_piece(seat) {
+        Ok(()) => true,
+        Err(_) => false,
+    }
+}
+
+/// Drops the piece that the seat holds, or simulates it and reports.
+fn finish_piece<C: ClassSelection, K: Simulator>(
+    job: &Job,
+    classes: &C,
+    ledger: &SharedLedger,
+    simulator: &mut K,
+    seat: &mut Seat,
+    class: u32,
+    block: u32,
+) -> bool
+    requires chosen { AreChosenOf job.now (C.chosen classes.now) }
+    requires shape { IsShapeOver job.now (C.chosen classes.now) ledger.now.shape }
+    requires place { seat.old.place ≡ ledger.now }
+    requires piece { held_by seat.old.worker seat.old.seen
+        ≡ Some (piece_at ledger.now.shape class block) }
+    requires sitter { IsSitter seat.old }
+    requires range { (class < ledger.now.shape.classes) × (block < block_count ledger.now.shape) }
+    requires serves { K.serves simulator.old job.now }
+    ensures works { WorksOver job.now (C.chosen classes.now) seat.old seat.new }
+    ensures told { seat.new.told ≡ seat.old.told }
+    ensures free { held_by seat.new.worker seat.new.seen ≡ None }
+    ensures serves { K.serves simulator.new job.now }
+{
+    if drop_held(ledger, seat) {
+        return false;
+    }
+    let outcome = simulator.outcome_of(job, classes.class_at(class), block);
+    let Ok(()) = ledger.report(seat, outcome) else {
+        unreachable!()
+    };
+    true
+}
+
+/// Returns the lowest class from this one on that the seat doesn't see settled, or the number of
+/// classes.
+fn lowest_waiting(ledger: &SharedLedger, seat: &mut Seat, classes: u32, from: u32) -> u32
+    requires place { seat.old.place ≡ ledger.now }
+    requires sitter { IsSitter seat.old }
+    requires classes { classes ≡ ledger.now.shape.classes }
+    requires range { from ≤ classes }
+    requires settled { AreSettled ledger.now.shape seat.old.seen from }
+    ensures sees { Sees seat.old seat.old.told seat.new }
+    ensures settled { AreSettled ledger.now.shape seat.new.seen result }
+    ensures range { result ≤ classes }
+{
+    for class in from..classes {
+        if let Status::Waiting(_) = ledger.status(seat, class) {
+            return class;
+        }
+    }
+    classes
+}
+
+/// Works as one worker of a run: claims pieces until all are claimed, the gate stops it, or every
+/// class is settled.
+///
+/// If others claim too and pieces take little work, a worker rests between two pieces, and holds
+/// none meanwhile: it spins for 1,000 pauses of the processor times its number, at most 8,000,
+/// about 400 microseconds. Worker 0 never rests.
+pub fn work<G: Gate>(
+    job: &Job,
+    ledger: &SharedLedger,
+    workspace: &mut Workspace,
+    seat: &mut Seat,
+    gate: &G,
+) -> End
+    requires shape { IsShapeOf job.now ledger.now.shape }
+    requires place { seat.old.place ≡ ledger.now }
+    requires free { held_by seat.old.worker seat.old.seen ≡ None }
+    requires fits { HasRoom workspace.old job.now }
+    ensures works { Works job.now seat.old seat.new }
+    ensures ends { EndsAs (G.stops gate.now) seat.new result }
+    ensures passing { G.passing gate.now → (result ≡ End.Exhausted) ⊎ (result ≡ End.AllSettled) }
+    ensures fits { HasRoom workspace.new job.now }
+{
+    work_over(job, job.classes(), ledger, workspace, seat, gate)
+}
+
+/// Works as [`work`] does at a ledger of chosen classes.
+pub(crate) fn work_over<G: Gate, C: ClassSelection, K: Simulator>(
+    job: &Job,
+    chosen: &C,
+    ledger: &SharedLedger,
+    simulator: &mut K,
+    seat: &mut Seat,
+    gate: &G,
+) -> End
+    requires chosen { AreChosenOf job.now (C.chosen chosen.now) }
+    requires shape { IsShapeOver job.now (C.chosen chosen.now) ledger.now.shape }
+    requires place { seat.old.place ≡ ledger.now }
+    requires free { held_by seat.old.worker seat.old.seen ≡ None }
+    requires serves { K.serves simulator.old job.now }
+    ensures works { WorksOver job.now (C.chosen chosen.now) seat.old seat.new }
+    ensures ends { EndsAs (stops_over (C.chosen chosen.now) (G.stops gate.now)) seat.new result }
+    ensures passing { G.passing gate.now → (result ≡ End.Exhausted) ⊎ (result ≡ End.AllSettled) }
+    ensures serves { K.serves simulator.new job.now }
+{
+    let _sitter = seat.worker();
+    let classes = chosen.count();
+    let mut lowest = 0;
+    let mut backoff = Backoff::of(seat.worker(), classes, simulator.evaluations());
+    'claims: loop {
+        let worker = seat.worker();
+        match ledger.claim(seat) {
+            Ok(Claim::Piece { class, block }) => {
+                if !gate.pass(worker, chosen.class_at(class), block) {
+                    return End::Stopped;
+                }
+                let _sitter = seat.worker();
+                let reported = finish_piece(job, chosen, ledger, simulator, seat, class, block);
+                backoff.after_piece(class, block, simulator.evaluations());
+                if reported {
+                    let _sitter = seat.worker();
+                    lowest = lowest_waiting(ledger, seat, classes, lowest);
+                    if lowest >= classes {
+                        return End::AllSettled;
+                    }
+                }
+            }
+            Ok(Claim::Exhausted) => {
+                let _sitter = seat.worker();
+                return End::Exhausted;
+            }
+            Err(_) => unreachable!(),
+        }
+    }
+}

@@ -1,0 +1,321 @@
+//! The run of one worker by itself over a list of classes, without a ledger.
+
+ghost use Rattle.std.specs.Prelude.{◌≡◌, ◌<◌, ◌≤◌, ◌+◌, ℕ, All, IfNone, IfOk, IfSome, None, Some};
+ghost use Rattle.std.specs.Prelude.{false, length, slice_get, true};
+ghost use Rattle.patterns.specs.Tests.{blocks};
+ghost use Rattle.block_sim.specs.First.{IsTrueOutcome};
+ghost use Rattle.block_sim.specs.Origins.{IsListed};
+ghost use Rattle.block_sim.specs.Parts.{BelongTogether, Parts};
+ghost use Rattle.block_sim.specs.RegionHits.{IsFirstOn, ServesRegions};
+ghost use Rattle.workers.specs.StretchRuns.{AreEarlier, AreFoundUpTo, ArePassed, HasEnded};
+ghost use Rattle.workers.specs.StretchRuns.{IsLowerOf, IsLowest, IsOpenIn, IsStopAt};
+ghost use Rattle.workers.specs.OpenClasses.{AreNextOpen};
+ghost use Rattle.workers.specs.BlockSweeps.{HaveFirstsFrom, HaveFirstsAfter, AreRowsOf};
+ghost use Rattle.workers.specs.BlockSweeps.{IsBlockSweep, IsWhole, between, classes_of};
+
+use crate::open_classes::{leave_out, next_open};
+use crate::piece_worker::Gate;
+use block_sim::{Job, ListedClass, RegionSimulation};
+use patterns::Outcome;
+use std::alloc::{AllocError, Global};
+
+/// The point at which its gate stopped a worker that goes over a list: before the class at this
+/// place of the list, counted from 0, on this block.
+#[derive(Clone, Copy, Debug, PartialEq, Eq)]
+pub(crate) struct Stop {
+    pub(crate) place: usize,
+    pub(crate) block: u32,
+}
+
+/// A class that isn't settled, and the block that it waits for.
+#[derive(Clone, Copy, Debug, PartialEq, Eq)]
+pub(crate) struct Waiting {
+    pub(crate) class: u32,
+    pub(crate) block: u32,
+}
+
+/// Returns the classes of a list, each with the start of its simulation.
+pub(crate) fn rows_of(
+    alloc: Global,
+    job: &Job,
+    classes: &[u32],
+) -> Result<Vec<ListedClass>, AllocError>
+    requires { All (λ class. class < length job.now.classes.representative) classes.now }
+    ensures { IfOk result (λ rows. AreRowsOf job.now classes.now rows.items) }
+{
+    let mut rows = Vec::with_capacity(alloc, classes.len())?;
+    for class in classes {
+        rows.push(job.listed(*class))?;
+    }
+    Ok(rows)
+}
+
+/// A sweep over the classes of a list on one block.
+#[derive(Clone, Copy)]
+struct BlockSweep {
+    block: u32,
+    /// The last of the blocks that are simulated with it.
+    last: u32,
+    /// The number of first classes of the list that are done.
+    found: usize,
+}
+
+/// Returns the turn of a block, if this number of first blocks is done already.
+fn sweep_of(job: &Job, rows: &[ListedClass], block: u32, known: u32) -> BlockSweep
+    requires block { block < blocks (length job.now.tests.tests) }
+    requires known { known ≤ blocks (length job.now.tests.tests) }
+    ensures block { result.block ≡ block }
+    ensures found { IsBlockSweep job.now rows.now known result }
+{
+    if block < known {
+        BlockSweep {
+            block,
+            last: known - 1,
+            found: rows.len(),
+        }
+    } else {
+        BlockSweep {
+            block,
+            last: job.last_together(block),
+            found: 0,
+        }
+    }
+}
+
+/// Simulates the classes of a list on every block, one block after another, until the gate stops
+/// the worker. It skips a class that an earlier block detects.
+pub(crate) fn run_list<G: Gate>(
+    job: &Job,
+    rows: &[ListedClass],
+    worker: u32,
+    simulation: &mut RegionSimulation,
+    gate: &G,
+    next: &mut [usize],
+    firsts: &mut [Option<u32>],
+) -> Option<Stop>
+    requires rows { All (IsListed job.now) rows.now }
+    requires few { length rows.now ≤ length job.now.classes.representative }
+    requires serves { ServesRegions simulation.old job.now }
+    requires none { AreFoundUpTo job.now (classes_of rows.now) 0 0 firsts.old }
+    requires next { AreNextOpen firsts.old next.old }
+    ensures ended { HasEnded job.now (classes_of rows.now) worker (G.stops gate.now) result
+        firsts.new }
+    ensures passing { G.passing gate.now → result ≡ None }
+    ensures serves { ServesRegions simulation.new job.now }
+{
+    let mut known = 0;
+    for block in 0..job.tests().blocks() {
+        let sweep = sweep_of(job, rows, block, known);
+        match run_block(job, rows, worker, sweep, simulation, gate, next, firsts) {
+            Some(stop) => return Some(stop),
+            None => known = sweep.last + 1,
+        }
+    }
+    None
+}
+
+/// Whether the gate lets a worker go on with the class of a row on the block of a turn.
+fn passes<G: Gate>(gate: &G, worker: u32, row: ListedClass, sweep: BlockSweep) -> bool
+    ensures passing { G.passing gate.now → result ≡ true }
+    ensures stopped { result ≡ false → (G.stops gate.now).may worker row.class sweep.block }
+    ensures shut { (G.stops gate.now).must worker row.class sweep.block → result ≡ false }
+{
+    gate.pass(worker, row.class, sweep.block)
+}
+
+/// Simulates on a block the classes of a list that no earlier block detects, and takes out those
+/// whose first test is known, so that it meets none of them again. It asks the gate for each class.
+/// The results of the first open class of a region are kept for the others, and for the later
+/// blocks that are simulated with this one.
+fn run_block<G: Gate>(
+    job: &Job,
+    rows: &[ListedClass],
+    worker: u32,
+    sweep: BlockSweep,
+    simulation: &mut RegionSimulation,
+    gate: &G,
+    next: &mut [usize],
+    firsts: &mut [Option<u32>],
+) -> Option<Stop>
+    requires together { BelongTogether job.now }
+    requires rows { All (IsListed job.now) rows.now }
+    requires few { length rows.now ≤ length job.now.classes.representative }
+    requires block { sweep.block < blocks (length job.now.tests.tests) }
+    requires sweep { (known : ℕ) × IsBlockSweep job.now rows.now known sweep }
+    requires serves { ServesRegions simulation.old job.now }
+    requires found { AreFoundUpTo job.now (classes_of rows.now) 0 sweep.block firsts.old }
+    requires passed { ArePassed job.now (classes_of rows.now) worker (G.stops gate.now) 0
+        sweep.block }
+    requires firsts_from { HaveFirstsFrom job.now rows.now firsts.old sweep 0 sweep.found
+        simulation.old.hits }
+    requires next { AreNextOpen firsts.old next.old }
+    ensures stopped { IfSome result (λ stop.
+        IsStopAt job.now (classes_of rows.now) worker (G.stops gate.now) stop
+        × AreFoundUpTo job.now (classes_of rows.now) stop.place stop.block firsts.new
+        × ArePassed job.now (classes_of rows.now) worker (G.stops gate.now) stop.place
+        stop.block) }
+    ensures ended { IfNone result (AreFoundUpTo job.now (classes_of rows.now) 0 (sweep.block + 1)
+        firsts.new) }
+    ensures passed { IfNone result (ArePassed job.now (classes_of rows.now) worker
+        (G.stops gate.now) 0 (sweep.block + 1)) }
+    ensures following { IfNone result (HaveFirstsAfter job.now rows.now firsts.new sweep
+        (length rows.now)
+        simulation.new.hits) }
+    ensures next { IfNone result (AreNextOpen firsts.new next.new) }
+    ensures passing { G.passing gate.now → result ≡ None }
+    ensures serves { ServesRegions simulation.new job.now }
+{
+    let mut found = sweep.found;
+    let mut before = 0;
+    let mut place = 0;
+    while place < rows.len() {
+        match first_at(firsts, place) {
+            Some(_test) => {
+                place = leave_out(next, before, place);
+                continue;
+            }
+            None => {}
+        }
+        let row = row_at(rows, place);
+        if !passes(gate, worker, row, sweep) {
+            let block = sweep.block;
+            return Some(Stop { place, block });
+        }
+        found = region_from(job, rows, sweep, place, found, simulation, firsts);
+        let outcome = outcome_on(simulation.hit_at(place), sweep.block);
+        before = place;
+        place = next_open(next, before);
+        match outcome {
+            Outcome::Clear => continue,
+            Outcome::Hit(test) => firsts[before] = Some(64 * sweep.block + test),
+        }
+    }
+    None
+}
+
+/// Simulates the region whose first open class is at a place, unless that is done: this number of
+/// first classes of the list is done. Returns the number of classes that are done then.
+fn region_from(
+    job: &Job,
+    rows: &[ListedClass],
+    sweep: BlockSweep,
+    place: usize,
+    found: usize,
+    simulation: &mut RegionSimulation,
+    firsts: &[Option<u32>],
+) -> usize
+    requires rows { All (IsListed job.now) rows.now }
+    requires few { length rows.now ≤ length job.now.classes.representative }
+    requires block { sweep.block < blocks (length job.now.tests.tests) }
+    requires firsts { length firsts.now ≡ length rows.now }
+    requires place { place < length rows.now }
+    requires whole { IsWhole job.now rows.now sweep found }
+    requires serves { ServesRegions simulation.old job.now }
+    requires firsts_from { HaveFirstsFrom job.now rows.now firsts.now sweep place found
+        simulation.old.hits }
+    requires following { HaveFirstsAfter job.now rows.now firsts.now sweep place
+        simulation.old.hits }
+    ensures low { place < result }
+    ensures whole { IsWhole job.now rows.now sweep result }
+    ensures firsts_from { HaveFirstsFrom job.now rows.now firsts.now sweep place result
+        simulation.new.hits }
+    ensures following { HaveFirstsAfter job.now rows.now firsts.now sweep place
+        simulation.new.hits }
+    ensures serves { ServesRegions simulation.new job.now }
+{
+    if place < found {
+        return found;
+    }
+    simulation.simulate_region(job, sweep.block, rows, place, firsts)
+}
+
+/// Returns the outcome on a block of a class that this test detects first, from the block on.
+fn outcome_on(hit: Option<u32>, block: u32) -> Outcome
+    ensures here { (job : Parts) (last class : ℕ) → block ≤ last
+        → IsFirstOn job (between block last) class hit
+        → IsTrueOutcome job.list.model job.circuit job.tests.tests class block result }
+    ensures later { (job : Parts) (last class : ℕ) → result ≡ Outcome.Clear
+        → IsFirstOn job (between block last) class hit
+        → IsFirstOn job (between (block + 1) last) class hit }
+{
+    match hit {
+        Some(test) if test / 64 == block => Outcome::Hit(test % 64),
+        _ => Outcome::Clear,
+    }
+}
+
+/// Returns the class at a place of a list, with the start of its simulation.
+fn row_at(rows: &[ListedClass], place: usize) -> ListedClass
+    requires { place < length rows.now }
+    ensures { slice_get rows.now place ≡ Some result }
+{
+    rows[place]
+}
+
+/// Returns the lowest class of a list that wasn't settled when the worker was stopped, and the
+/// block that it waits for.
+pub(crate) fn lowest_open(
+    job: &Job,
+    classes: &[u32],
+    stop: Stop,
+    firsts: &[Option<u32>],
+) -> Option<Waiting>
+    requires found { AreFoundUpTo job.now classes.now stop.place stop.block firsts.now }
+    requires block { stop.block < blocks (length job.now.tests.tests) }
+    ensures { IsLowest (IsOpenIn job.now classes.now (Some stop)) result }
+{
+    let blocks = job.tests().blocks();
+    let mut lowest = None;
+    for place in 0..classes.len() {
+        let class = class_at(classes, place);
+        let block = done_before(stop, place);
+        match first_at(firsts, place) {
+            Some(_test) => continue,
+            None => {}
+        }
+        if block >= blocks {
+            continue;
+        }
+        lowest = lower_of(lowest, Some(Waiting { class, block }));
+    }
+    lowest
+}
+
+/// Returns the class at a place of a list.
+fn class_at(classes: &[u32], place: usize) -> u32
+    requires { place < length classes.now }
+    ensures { slice_get classes.now place ≡ Some result }
+{
+    classes[place]
+}
+
+/// Returns the first test that is known for the class at a place.
+fn first_at(firsts: &[Option<u32>], place: usize) -> Option<u32>
+    requires { place < length firsts.now }
+    ensures { slice_get firsts.now place ≡ Some result }
+{
+    firsts[place]
+}
+
+/// Returns how many first blocks of the class at a place were done when the worker was stopped.
+fn done_before(stop: Stop, place: usize) -> u32
+    requires { stop.block < 1024 }
+    ensures { AreEarlier stop.place stop.block place result }
+{
+    if place < stop.place {
+        stop.block + 1
+    } else {
+        stop.block
+    }
+}
+
+/// Returns the waiting class with the lower number.
+pub(crate) fn lower_of(first: Option<Waiting>, second: Option<Waiting>) -> Option<Waiting>
+    ensures { IsLowerOf first second result }
+{
+    match (first, second) {
+        (Some(one), Some(other)) if other.class < one.class => second,
+        (None, _) => second,
+        (Some(_), _) => first,
+    }
+}
