@@ -3,8 +3,8 @@
 ghost use Rattle.std.specs.Prelude.{◌≤◌};
 
 use crate::command::run_words;
-use crate::source::Files;
-use crate::status::{CommandError, DONE, MISSED, NO_MEMORY, UNWRITTEN, answer_fault};
+use crate::status::{CommandError, MISSED, NO_MEMORY, UNWRITTEN, answer_fault};
+use command_basics::{DONE, Files};
 use report::{Out, Plain};
 use std::alloc::{AllocError, Global};
 use std::env;

@@ -1,10 +1,10 @@
 //! The command `check`.
 
 use crate::command::{read_file, read_model, read_option};
-use crate::source::Source;
 use crate::status::{CommandError, NO_MEMORY, UNWRITTEN};
 use block_sim::JobFault;
 use clap::ArgMatches;
+use command_basics::Source;
 use input_check::{Answer, Excess, Findings, Located, check_texts};
 use report::{Formatted, Out, SimFault};
 use std::alloc::{AllocError, Global};

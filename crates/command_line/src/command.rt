@@ -3,19 +3,20 @@
 ghost use Rattle.std.specs.Prelude.{◌≤◌};
 
 use crate::check::do_check;
+use crate::choices::{Setting, workers_help};
 use crate::compact::do_compact;
 use crate::curve::do_curve;
 use crate::detected::do_detections;
 use crate::format::{read_format, write_faults_table};
 use crate::merge::do_merge;
-use crate::options::{Setting, Task, command_line, model_named, workers_help};
+use crate::options::{Task, command_line};
 use crate::responses::do_responses;
 use crate::run::do_run;
-use crate::source::{Source, SourceFault, Stream, is_standard_input};
 use crate::split::is_auto;
-use crate::status::{CommandError, DONE, MISUSED, NO_MEMORY, UNWRITTEN, answer_fault};
+use crate::status::{CommandError, NO_MEMORY, UNWRITTEN, answer_fault};
 use clap::error::ErrorKind;
 use clap::{ArgMatches, Error};
+use command_basics::{DONE, MISUSED, Source, SourceFault, Stream, is_standard_input, model_named};
 use fault_model::Model;
 use report::{Contents, Formatted, Lines, Out, faults_text_in, schedule_text_with};
 use std::alloc::{AllocError, Global};

@@ -3,10 +3,10 @@
 use crate::command::{read_model, read_option};
 use crate::crew::read_crew;
 use crate::pieces::run_fault;
-use crate::source::Source;
 use crate::split::read_split;
 use crate::status::CommandError;
 use clap::ArgMatches;
+use command_basics::Source;
 use report::{Formatted, KeptForm, Out, compact_text_with};
 use std::alloc::Global;
 use std::fmt::Write;

@@ -1,10 +1,10 @@
 //! The command `curve`.
 
 use crate::form::{Form, write_form};
-use crate::source::Source;
 use crate::split::read_split;
 use crate::status::CommandError;
 use clap::ArgMatches;
+use command_basics::Source;
 use report::Out;
 use std::alloc::Global;
 use std::sync::Wait;

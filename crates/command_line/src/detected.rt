@@ -2,10 +2,10 @@
 
 use crate::command::{read_model, read_option, read_workers};
 use crate::pieces::run_fault;
-use crate::source::Source;
 use crate::split::read_split;
 use crate::status::CommandError;
 use clap::ArgMatches;
+use command_basics::Source;
 use report::{Out, Split, detections_text_in, detections_text_of_any_size, histogram_text_in};
 use std::alloc::Global;
 use std::sync::Wait;

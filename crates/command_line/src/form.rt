@@ -6,12 +6,12 @@ use crate::command::{read_model, read_option};
 use crate::crew::read_crew;
 use crate::pieces::run_fault;
 use crate::progress::Progress;
-use crate::source::Source;
 use crate::status::CommandError;
 use crate::summary::{Request, read_request, version_and_proof};
 use crate::tally::{Found, Quiet, Tally};
 use crate::threshold::{Threshold, check_threshold, read_threshold};
 use clap::ArgMatches;
+use command_basics::Source;
 use fault_model::Model;
 use report::{
     Contents, Lines, Out, ReasonCounts, RunCounts, SimFault, Split, Watch, curve_text_watched,

@@ -6,6 +6,7 @@
 
 mod arguments;
 mod check;
+mod choices;
 mod command;
 mod compact;
 mod crew;
@@ -19,7 +20,6 @@ mod pieces;
 mod progress;
 mod responses;
 mod run;
-mod source;
 mod split;
 mod status;
 mod summary;
@@ -28,6 +28,6 @@ mod threshold;
 
 pub use arguments::run_arguments;
 pub use command::run_words;
-pub use options::{MODELS, VERSION, model_named};
-pub use source::{Files, Source, SourceFault, Stream, WriteFault};
-pub use status::status_of;
+pub use command_basics::{
+    Files, MODELS, Source, SourceFault, Stream, VERSION, model_named, status_of,
+};

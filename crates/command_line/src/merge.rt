@@ -2,12 +2,11 @@
 
 use crate::command::{read_file, read_lines, read_option};
 use crate::format::read_format;
-use crate::options::model_named;
-use crate::source::Source;
 use crate::status::{CommandError, NO_MEMORY, UNWRITTEN, merge_fault, part_fault};
 use crate::threshold::{check_threshold, read_threshold};
 use bench_net::{Circuit, read_bench};
 use clap::ArgMatches;
+use command_basics::{Source, model_named};
 use fault_model::{Classes, Model, collapse, list_faults_in};
 use report::{
     Lines, Merge, MergeFault, Merged, Out, PartHeader, ReportFault, SimFault, read_part, sum_of,

@@ -1,9 +1,9 @@
 //! The command `responses`.
 
 use crate::command::read_option;
-use crate::source::Source;
 use crate::status::CommandError;
 use clap::ArgMatches;
+use command_basics::Source;
 use report::{Out, pairs_text_in, responses_text_in};
 use std::alloc::Global;
 

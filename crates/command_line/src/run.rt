@@ -4,14 +4,14 @@ ghost use Rattle.std.specs.Prelude.{IfOk, IfSome};
 ghost use Rattle.job_loading.specs.Splits.{HasSomePart};
 ghost use Rattle.command_line.specs.Form.{HasParts};
 
+use crate::choices::MAX_PARTS;
 use crate::command::read_contents;
 use crate::form::{Form, write_form};
 use crate::format::read_format;
-use crate::options::MAX_PARTS;
-use crate::source::Source;
 use crate::split::read_split;
 use crate::status::CommandError;
 use clap::ArgMatches;
+use command_basics::Source;
 use report::{Contents, Lines, Out, Split};
 use std::alloc::Global;
 use std::sync::Wait;

@@ -1,25 +1,11 @@
-//! Faults of a command, their words and their statuses.
+//! Faults of a command, and their words.
 
 ghost use Rattle.std.specs.Prelude.{◌<◌, ◌≤◌};
 
-use bench_net::BenchFault;
-use block_sim::JobFault;
+use command_basics::{FAILED, MISUSED, REFUSED, status_of};
 use input_check::Excess;
-use patterns::{OrderFault, TestFault};
-use report::{Formatted, MergeFault, Out, PartFault, ReportFault, RunFault, SimFault};
+use report::{Formatted, MergeFault, Out, PartFault, ReportFault, SimFault};
 use std::fmt::Write;
-
-/// The status of a command that was done.
-pub(crate) const DONE: u8 = 0;
-
-/// The status of a refused text.
-const REFUSED: u8 = 1;
-
-/// The status of a refused command line.
-pub(crate) const MISUSED: u8 = 2;
-
-/// The status of a file, an output, memory or a thread that is refused.
-const FAILED: u8 = 3;
 
 /// The status of a coverage that is below the threshold.
 pub(crate) const MISSED: u8 = 4;
@@ -102,36 +88,5 @@ pub(crate) fn answer_fault<E: Out>(fault: &CommandError<'_>, err: &mut E) -> u8
         CommandError::Sim(fault) | CommandError::TooManyPieces(fault, _) => status_of(fault),
         CommandError::Part(..) | CommandError::Merge(_) => REFUSED,
         CommandError::Missed(_) => MISSED,
-    }
-}
-
-/// Returns the status of a text call's fault: 1 where a text is refused, 2 where the number of
-/// workers is, and 3 where the output, memory or a thread is, or where the run did not end.
-pub fn status_of(fault: &SimFault) -> u8
-    ensures failed { 0 < result }
-    ensures few { result ≤ 3 }
-{
-    match fault {
-        SimFault::Bench(fault) => match fault {
-            BenchFault::TooLarge(_) | BenchFault::Syntax(_) | BenchFault::Redefined(_) => REFUSED,
-            BenchFault::Undefined(_) | BenchFault::Cycle(_) | BenchFault::Empty => REFUSED,
-            BenchFault::Memory => FAILED,
-        },
-        SimFault::Tests(fault) => match fault {
-            TestFault::BadByte(_) | TestFault::BadWidth(_) | TestFault::TooMany => REFUSED,
-            TestFault::Memory => FAILED,
-        },
-        SimFault::Order(fault) => match fault {
-            OrderFault::BadNumber(_) | OrderFault::NoSuchWorker(_) | OrderFault::TooMany => REFUSED,
-            OrderFault::Memory => FAILED,
-        },
-        SimFault::Job(JobFault::TooManyPieces) => REFUSED,
-        SimFault::Job(JobFault::Memory) => FAILED,
-        SimFault::Run(fault) => match fault {
-            RunFault::NoWorkers | RunFault::TooManyWorkers => MISUSED,
-            RunFault::NoSuchMove(_) | RunFault::TooManyPieces => REFUSED,
-            RunFault::Memory | RunFault::Threads | RunFault::Unfinished { .. } => FAILED,
-        },
-        SimFault::Report(ReportFault::Write) | SimFault::Memory => FAILED,
     }
 }

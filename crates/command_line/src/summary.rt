@@ -1,9 +1,8 @@
 //! The option `--summary FILE`: what a run found, in numbers, for scripts.
 
-use crate::options::VERSION;
-use crate::source::{Source, WriteFault, is_standard_input};
 use crate::status::{CommandError, NO_MEMORY};
 use clap::ArgMatches;
+use command_basics::{Source, VERSION, WriteFault, is_standard_input};
 use std::alloc::{AllocError, Global};
 use tables::{Summary, summary_text};
 

@@ -3,7 +3,7 @@
 ghost use Rattle.std.specs.Prelude.{◌≤◌};
 
 use crate::command::{CommandError, NO_MEMORY, answer, run_words};
-use command_line::Files;
+use command_basics::Files;
 use report::Out;
 use std::alloc::{AllocError, Global};
 use std::env;

@@ -7,21 +7,12 @@ use crate::{Settings, generate};
 use byte_output::put_all;
 use clap::error::ErrorKind;
 use clap::{ArgMatches, Error};
-use command_line::{Source, SourceFault, model_named, status_of};
+use command_basics::{DONE, FAILED, MISUSED, Source, SourceFault, model_named, status_of};
 use report::{Formatted, Out, SimFault};
 use std::alloc::Global;
 use std::fmt::Write;
 use std::sync::Wait;
 use std::thread::Threads;
-
-/// The status of success.
-const DONE: u8 = 0;
-
-/// The status of an error of the command line.
-const MISUSED: u8 = 2;
-
-/// The status of a failed file or output.
-const FAILED: u8 = 3;
 
 /// The reason why nothing was written, or not all.
 #[derive(Clone, Copy)]

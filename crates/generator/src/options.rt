@@ -1,7 +1,7 @@
 //! The command line of `faultgen`: options and their help.
 
 use clap::{Arg, Command, value_parser};
-use command_line::{MODELS, VERSION};
+use command_basics::{MODELS, VERSION};
 use patterns::MAX_TESTS;
 use report::MAX_WORKERS;
 use std::alloc::{AllocError, Global};

@@ -48,7 +48,7 @@ pub trait Source {
 }
 
 /// Returns whether a path is that of the standard input: `-`, or a name that the system has for it.
-pub(crate) fn is_standard_input(path: &str) -> bool {
+pub fn is_standard_input(path: &str) -> bool {
     matches!(path, "-" | "/dev/stdin" | "/dev/fd/0" | "/proc/self/fd/0")
 }
 

@@ -1,0 +1,347 @@
+//! The options of the subcommands.
+
+use crate::split::AUTO;
+use clap::{Arg, ArgAction, value_parser};
+use command_basics::MODELS;
+use report::MAX_WORKERS;
+use std::alloc::{AllocError, Global};
+
+/// The greatest number of parts of a run.
+pub(crate) const MAX_PARTS: u32 = 65_536;
+
+/// The greatest number of tests that are counted of a fault.
+const MAX_DETECTIONS: u32 = 65_536;
+
+/// The description of the models in the long help.
+const ABOUT_MODELS: &str = "\
+Which faults, and which tests detect them:
+stuck             a line is stuck at 0 or at 1; each test
+                  detects by itself
+transition        a line is slow to rise or slow to fall; each
+                  test but the first is the capture test of
+                  a pair with the test before it
+transition-pairs  the same faults with a list of launch/capture
+                  pairs: tests 0 and 1 are a pair, 2 and 3,
+                  and so on, and only the capture test of a
+                  pair detects
+For a list of launch/capture pairs use transition-pairs: with
+transition the coverage comes out too high, because tests 1 and
+2 count as a pair, too.";
+
+/// An option of a subcommand.
+#[derive(Clone, Copy)]
+pub(crate) enum Choice {
+    Bench,
+    Tests,
+    TestsIfAny,
+    Order,
+    Model,
+    Workers,
+    Parts,
+    Part,
+    Detections,
+    Histogram,
+    List,
+    Undetected,
+    Why,
+    Classes,
+    Pairs,
+    Numbers,
+    /// The format of a run's list.
+    RunFormat,
+    Progress,
+    /// The same for a run that may count detections.
+    RunProgress,
+    /// The format of the list of faults.
+    Format,
+    /// The coverage of the classes of merged part texts, and the circuit that it wants.
+    MergeClasses,
+    MergeBench,
+    /// The format of merged part texts.
+    MergeFormat,
+    FailUnder,
+    /// The same for a run that may be of one part, or count detections.
+    RunFailUnder,
+    Summary,
+    PartTexts,
+}
+
+/// Returns the option `--NAME FILE`, with its letter.
+fn file_option<'a>(alloc: Global, name: &'a str, letter: char, help: &'a str) -> Arg<'a> {
+    Arg::new(alloc, name)
+        .long(name)
+        .short(letter)
+        .value_name("FILE")
+        .required(true)
+        .help(help)
+}
+
+/// The help of the option `--tests`.
+const TESTS_HELP: &str = "The tests, one a line: a bit for each input, then for each flip-flop";
+
+/// Returns the option `--model MODEL`.
+fn model_option<'a>(alloc: Global) -> Arg<'a> {
+    Arg::new(alloc, "model")
+        .long("model")
+        .short('m')
+        .value_name("MODEL")
+        .value_parser(MODELS.as_slice())
+        .default_value("stuck")
+        .help("Which faults: stuck-at, or slow to rise and slow to fall")
+        .long_help(ABOUT_MODELS)
+}
+
+/// Returns the option `--workers N`, with its help.
+fn workers_option<'a>(alloc: Global, help: &'a str) -> Arg<'a> {
+    Arg::new(alloc, "workers")
+        .long("workers")
+        .short('w')
+        .value_name("N")
+        .value_parser(value_parser!(u32).range(1..=i64::from(MAX_WORKERS)))
+        .default_value("4")
+        .help(help)
+}
+
+/// The words that `--parts` takes in place of a number.
+static PARTS_WORDS: [&str; 1] = [AUTO];
+
+/// The option `--parts N`, where its value is a word or a number.
+fn parts_option<'a>(alloc: Global, auto: bool) -> Arg<'a> {
+    let option = Arg::new(alloc, "parts")
+        .long("parts")
+        .value_name("N")
+        .hide_possible_values(true)
+        .help("Run the fault classes in parts, 1 to 65536, or auto: as many as needed");
+    if auto {
+        option.value_parser(PARTS_WORDS.as_slice())
+    } else {
+        option.value_parser(value_parser!(u32).range(1..=i64::from(MAX_PARTS)))
+    }
+}
+
+/// Returns the option `--part I/N`.
+fn part_option<'a>(alloc: Global) -> Arg<'a> {
+    Arg::new(alloc, "part")
+        .long("part")
+        .value_name("I/N")
+        .help("Run only part I of N, from 1, and write its part file")
+}
+
+/// Returns the option `--detections N`.
+fn detections_option<'a>(alloc: Global) -> Result<Arg<'a>, AllocError> {
+    Arg::new(alloc, "detections")
+        .long("detections")
+        .value_name("N")
+        .value_parser(value_parser!(u32).range(1..=i64::from(MAX_DETECTIONS)))
+        .help("Count up to N tests that detect each fault, 1 to 65536")
+        .conflicts_with("part")?
+        .conflicts_with("undetected")?
+        .conflicts_with("classes")
+}
+
+/// The flag `--histogram`.
+fn histogram_flag<'a>(alloc: Global) -> Result<Arg<'a>, AllocError> {
+    Arg::new(alloc, "histogram")
+        .long("histogram")
+        .action(ArgAction::SetTrue)
+        .help("With --detections, also write how many faults have each count")
+        .requires_arg("detections")
+}
+
+/// Returns the help of the option `--workers N`.
+pub(crate) fn workers_help(alloc: Global) -> Result<String, AllocError> {
+    format!(in alloc; "The number of workers that share the run, 1 to {MAX_WORKERS}")
+}
+
+/// Returns the flag `--list`.
+fn list_flag<'a>(alloc: Global) -> Arg<'a> {
+    Arg::new(alloc, "list")
+        .long("list")
+        .short('l')
+        .action(ArgAction::SetTrue)
+        .help("Print the first test of each fault, too, or none if no test detects it")
+}
+
+/// Returns the flag `--undetected`.
+fn undetected_flag<'a>(alloc: Global) -> Result<Arg<'a>, AllocError> {
+    Arg::new(alloc, "undetected")
+        .long("undetected")
+        .action(ArgAction::SetTrue)
+        .help("Print the undetected faults, too")
+        .conflicts_with("list")
+}
+
+/// Returns the flag `--why`.
+fn why_flag<'a>(alloc: Global) -> Result<Arg<'a>, AllocError> {
+    Arg::new(alloc, "why")
+        .long("why")
+        .action(ArgAction::SetTrue)
+        .help("With --undetected, print the reason for each fault")
+        .conflicts_with("list")?
+        .conflicts_with("part")?
+        .conflicts_with("detections")?
+        .conflicts_with("format")
+}
+
+/// Returns the flag `--classes`.
+fn classes_flag<'a>(alloc: Global) -> Arg<'a> {
+    Arg::new(alloc, "classes")
+        .long("classes")
+        .action(ArgAction::SetTrue)
+        .help("Print the coverage of the fault classes, too")
+}
+
+/// Returns the flag `--pairs` of `responses`.
+fn pairs_flag<'a>(alloc: Global) -> Arg<'a> {
+    Arg::new(alloc, "pairs")
+        .long("pairs")
+        .action(ArgAction::SetTrue)
+        .help("Write each test and its capture test: launch-on-capture pairs")
+}
+
+/// The flag `--numbers` of `compact`.
+fn numbers_flag<'a>(alloc: Global) -> Arg<'a> {
+    Arg::new(alloc, "numbers")
+        .long("numbers")
+        .action(ArgAction::SetTrue)
+        .help("Write the numbers of the kept tests instead of the tests")
+}
+
+/// The option `--bench FILE` of `merge`.
+fn merge_bench_option<'a>(alloc: Global) -> Arg<'a> {
+    let help = "The circuit of the run, for --classes and --format";
+    file_option(alloc, "bench", 'b', help).required(false)
+}
+
+/// The formats of a list.
+static FORMATS: [&str; 3] = ["text", "csv", "json"];
+
+/// Returns the option `--format FORMAT`.
+fn format_option<'a>(alloc: Global) -> Arg<'a> {
+    Arg::new(alloc, "format")
+        .long("format")
+        .value_name("FORMAT")
+        .value_parser(FORMATS.as_slice())
+        .default_value("text")
+        .help("The format of the list of faults")
+}
+
+/// The help of the option `--format FORMAT` of `run`.
+const RUN_FORMAT_HELP: &str =
+    "The format of the list; csv and json list all faults, or only undetected ones";
+
+/// Returns the option `--format FORMAT` of `run`.
+fn run_format_option<'a>(alloc: Global) -> Result<Arg<'a>, AllocError> {
+    format_option(alloc)
+        .help(RUN_FORMAT_HELP)
+        .conflicts_with("part")?
+        .conflicts_with("detections")?
+        .conflicts_with("classes")
+}
+
+/// The option `--format FORMAT` of `merge`.
+fn merge_format_option<'a>(alloc: Global) -> Result<Arg<'a>, AllocError> {
+    format_option(alloc)
+        .help(RUN_FORMAT_HELP)
+        .conflicts_with("classes")
+}
+
+/// The option `--fail-under P`.
+fn fail_under_option<'a>(alloc: Global) -> Arg<'a> {
+    Arg::new(alloc, "fail-under")
+        .long("fail-under")
+        .value_name("P")
+        .help("End with status 4 if the coverage of the faults is below P percent")
+}
+
+/// The option `--fail-under P` of `run`.
+fn run_fail_under_option<'a>(alloc: Global) -> Result<Arg<'a>, AllocError> {
+    fail_under_option(alloc)
+        .conflicts_with("part")?
+        .conflicts_with("detections")
+}
+
+/// The option `--summary FILE`.
+fn summary_option<'a>(alloc: Global) -> Result<Arg<'a>, AllocError> {
+    Arg::new(alloc, "summary")
+        .long("summary")
+        .value_name("FILE")
+        .help("Write a summary of the run to FILE, as JSON")
+        .conflicts_with("part")?
+        .conflicts_with("detections")
+}
+
+/// Returns the flag `--progress`.
+fn progress_flag<'a>(alloc: Global) -> Arg<'a> {
+    Arg::new(alloc, "progress")
+        .long("progress")
+        .action(ArgAction::SetTrue)
+        .help("Draw the progress of the run on standard error")
+}
+
+/// Returns the flag `--progress` of `run`.
+fn run_progress_flag<'a>(alloc: Global) -> Result<Arg<'a>, AllocError> {
+    progress_flag(alloc).conflicts_with("detections")
+}
+
+/// Returns the files `FILE..` of `merge`.
+fn part_texts<'a>(alloc: Global) -> Arg<'a> {
+    Arg::new(alloc, "part texts")
+        .value_name("FILE")
+        .action(ArgAction::Append)
+        .num_args(1..)
+        .required(true)
+        .help("The part files of one run, in any order")
+}
+
+/// What some options depend on.
+#[derive(Clone, Copy)]
+pub(crate) struct Setting<'a> {
+    /// The help of `--workers N`.
+    pub(crate) workers: &'a str,
+    /// Whether `--parts` has a word in place of a number.
+    pub(crate) auto: bool,
+}
+
+/// Returns an option.
+pub(crate) fn option<'a>(
+    alloc: Global,
+    choice: Choice,
+    setting: Setting<'a>,
+) -> Result<Arg<'a>, AllocError> {
+    let option = match choice {
+        Choice::Bench => file_option(alloc, "bench", 'b', "The circuit, a bench file"),
+        Choice::Tests => file_option(alloc, "tests", 't', TESTS_HELP),
+        Choice::TestsIfAny => file_option(alloc, "tests", 't', TESTS_HELP).required(false),
+        Choice::Order => file_option(
+            alloc,
+            "order",
+            'o',
+            "The moves: on each line the number of a worker, from 0",
+        ),
+        Choice::Model => model_option(alloc),
+        Choice::Workers => workers_option(alloc, setting.workers),
+        Choice::Parts => parts_option(alloc, setting.auto),
+        Choice::Part => part_option(alloc),
+        Choice::Detections => detections_option(alloc)?,
+        Choice::Histogram => histogram_flag(alloc)?,
+        Choice::List => list_flag(alloc),
+        Choice::Undetected => undetected_flag(alloc)?,
+        Choice::Why => why_flag(alloc)?,
+        Choice::Classes => classes_flag(alloc),
+        Choice::Pairs => pairs_flag(alloc),
+        Choice::Numbers => numbers_flag(alloc),
+        Choice::RunFormat => run_format_option(alloc)?,
+        Choice::Format => format_option(alloc),
+        Choice::MergeClasses => classes_flag(alloc).requires_arg("bench")?,
+        Choice::MergeBench => merge_bench_option(alloc),
+        Choice::MergeFormat => merge_format_option(alloc)?,
+        Choice::FailUnder => fail_under_option(alloc),
+        Choice::RunFailUnder => run_fail_under_option(alloc)?,
+        Choice::Summary => summary_option(alloc)?,
+        Choice::Progress => progress_flag(alloc),
+        Choice::RunProgress => run_progress_flag(alloc)?,
+        Choice::PartTexts => part_texts(alloc),
+    };
+    Ok(option)
+}
