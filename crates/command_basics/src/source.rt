@@ -30,8 +30,8 @@ pub trait Source {
     /// Returns the bytes at a path.
     fn read(&mut self, alloc: Global, path: &str) -> Result<Vec<u8>, SourceFault>;
 
-    /// Returns the stream at a path, where what is there gives its bytes once alone and can be
-    /// told.
+    /// Returns the stream at a path, if what is there can be read only once and has a device and a
+    /// number.
     fn stream(&self, _path: &str) -> Option<Stream> {
         None
     }

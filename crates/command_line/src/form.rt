@@ -105,7 +105,7 @@ pub(crate) fn write_form<'a, R: Threads + Wait, S: Source, W: Out, E: Out + Send
     }
 }
 
-/// Ends a run that found so much and whose text is written: writes the summary, if one is asked
+/// Ends a run whose text is written, with what it found: writes the summary, if one is asked
 /// for, and compares the coverage with the threshold. A run of one part has neither.
 fn end_run<'a, S: Source>(
     alloc: Global,

@@ -25,7 +25,7 @@ pub(crate) enum CommandError<'a> {
     Unwritten(&'a str),
     /// A text is refused, or the work on it, or the output.
     Sim(SimFault),
-    /// A run has too many pieces, by so much.
+    /// A run has too many pieces, by this excess.
     TooManyPieces(SimFault, Excess),
     /// The part text in the file at a path is refused.
     Part(&'a str, MergeFault),
@@ -59,8 +59,8 @@ pub(crate) fn merge_fault(fault: MergeFault) -> CommandError<'static> {
     }
 }
 
-/// Tells a fault in one line, and what is known beside it in a second one, and answers its status,
-/// which is no other where the lines can't be told.
+/// Writes an error on one line and what is known beside it on a second one, and returns its status,
+/// also if the lines cannot be written.
 pub(crate) fn answer_fault<E: Out>(fault: &CommandError<'_>, err: &mut E) -> u8
     ensures failed { 0 < result }
     ensures few { result ≤ 4 }

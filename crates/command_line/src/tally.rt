@@ -1,4 +1,4 @@
-//! What a run finds, as its gate is told.
+//! What a run finds, as its gate sees it.
 
 ghost use Rattle.workers.specs.Verdict.{AreFirsts};
 
@@ -6,7 +6,7 @@ use block_sim::Job;
 use report::{Gate, ReasonCounts, RunCounts, Verdicts, Watch, count_run};
 use std::sync::Mutex;
 
-/// What a run has told its gate.
+/// What a gate has seen of its run.
 #[derive(Clone, Copy, Debug, PartialEq, Eq)]
 pub(crate) struct Found {
     pub(crate) counts: Option<RunCounts>,
@@ -47,7 +47,7 @@ impl Tally {
         }
     }
 
-    /// What a run told.
+    /// What was seen of the run.
     pub(crate) fn found(self) -> Found {
         let Tally { found } = self;
         found.into_inner()

@@ -23,7 +23,7 @@ pub(crate) struct Threshold<'a> {
 }
 
 impl<'a> Threshold<'a> {
-    /// Whether so many of so many are too few.
+    /// Returns whether `detected` of `faults` are too few.
     pub(crate) fn is_missed(self, detected: u32, faults: u32) -> bool
         ensures { IsTrue result ↔ (100000000 * detected < self.entry.millionths * faults) }
     {
@@ -44,7 +44,7 @@ pub(crate) fn read_threshold<'a>(
     }
 }
 
-/// Refuses so many of so many faults where the threshold is missed.
+/// Refuses `detected` of `faults` faults if the threshold is missed.
 pub(crate) fn check_threshold<'a>(
     threshold: Option<Threshold<'a>>,
     detected: u32,

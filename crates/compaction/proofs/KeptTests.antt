@@ -210,7 +210,8 @@ are_last c tests reversed found marks count round are marked_all back given numb
 pub numbered_stuck : (c : List Statement) (tests kept : List Test) (marks : List Bool)
     (given numbers : List ℕ) → AreFinding StuckAt c tests marks
     → given ≡ at_marks marks (below (length tests))
-    → AreLastOf c (at_marks marks tests) kept given numbers → IsNumbered StuckAt c tests kept numbers
+    → AreLastOf c (at_marks marks tests) kept given numbers
+    → IsNumbered StuckAt c tests kept numbers
 numbered_stuck c tests kept marks given numbers are numbered last_of = (
   record {
     marks = both;

@@ -13,8 +13,8 @@ use std::sync::Wait;
 use std::thread::Threads;
 use workers::{OpenGate, RunFault, Verdicts, run_in_parts};
 
-/// Tells of each test of a job whether it is the first to detect some fault. The run is one in so
-/// many parts.
+/// Returns for each test of a job whether it is the first to detect some fault. The run is one in
+/// `parts` parts.
 pub fn finding_tests<R: Threads + Wait>(
     rt: &R,
     alloc: Global,

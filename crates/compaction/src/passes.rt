@@ -59,8 +59,8 @@ pub fn compact<R: Threads + Wait>(
     }
 }
 
-/// The tests that [`compact`] keeps, each with its number in the list. Each run is one in so many
-/// parts.
+/// Returns the tests that [`compact`] keeps, each with its number in the list. Each run is one in
+/// `parts` parts.
 ///
 /// It is refused as [`workers::run_in_parts`] is.
 pub fn compact_in_parts<R: Threads + Wait>(

@@ -11,7 +11,7 @@ use crate::Kept;
 use patterns::{PushFault, Tests};
 use std::alloc::{AllocError, Global};
 
-/// The numbers of so many tests, from 0.
+/// Returns the numbers of the tests, from 0.
 pub fn all_numbers(alloc: Global, tests: u32) -> Result<Vec<u32>, AllocError>
     ensures { IfOk result (λ numbers. numbers.items ≡ below tests) }
 {

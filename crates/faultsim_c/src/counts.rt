@@ -10,7 +10,7 @@ use crate::session::Session;
 use crate::status::{DONE, NO_JOB, RANGE};
 use std::alloc::Global;
 
-/// Tells how many tests detect each class of a list. No more than `most` are counted of a class.
+/// Counts the tests that detect each class of a list. No more than `most` are counted of a class.
 /// The lengths are equal.
 #[unsafe(no_mangle)]
 pub extern "C" fn fs_detections(
@@ -37,7 +37,7 @@ pub extern "C" fn fs_detections(
     status
 }
 
-/// Tells how many tests detect each class of a list, in a session.
+/// Counts the tests that detect each class of a list, in a session.
 fn detections_in(session: &mut Session, classes: &[u32], most: u32, counts: &mut [u32]) -> u32
     ensures done { AreRequests session.old classes.now counts.old
         → (result ≡ 0) × AreClassCounts session.old classes.now most counts.new }

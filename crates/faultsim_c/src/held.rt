@@ -9,8 +9,8 @@ use std::alloc::Global;
 use std::marker::Model;
 use std::ptr::null_mut;
 
-/// A pointer that owns what the handle has, or null. Its type names no type of this library, so that it
-/// crosses to C.
+/// A pointer that owns what the handle has, or null. Its type names no type of this library, so
+/// that it crosses to C.
 #[repr(C)]
 pub struct Held {
     at: *mut u8,

@@ -68,7 +68,7 @@ pub struct FsSizes {
 /// The version of the calls, which changes if a program that calls them must.
 const VERSION: u32 = 1;
 
-/// Tells the version of the calls.
+/// Returns the version of the calls.
 #[unsafe(no_mangle)]
 pub extern "C" fn fs_version() -> u32
     ensures { result ≡ 1 }
@@ -150,7 +150,7 @@ pub extern "C" fn fs_job_share(alloc: Global, job: &mut FsJob, other: &mut FsJob
     }
 }
 
-/// Tells how large the job is.
+/// Writes the sizes of the job.
 #[unsafe(no_mangle)]
 pub extern "C" fn fs_sizes_of(alloc: Global, job: &mut FsJob, sizes: &mut FsSizes) -> u32
     ensures done { (parts : Parts) → job_of job.old.held.holding ≡ Some parts
@@ -291,7 +291,7 @@ pub extern "C" fn fs_set_text(
     }
 }
 
-/// Tells the class of each fault. The length is the number of faults.
+/// Writes the class of each fault. The length is the number of faults.
 #[unsafe(no_mangle)]
 pub extern "C" fn fs_classes_of(alloc: Global, job: &mut FsJob, classes: &mut [u32]) -> u32
     ensures done { (parts : Parts) → job_of job.old.held.holding ≡ Some parts
@@ -311,7 +311,7 @@ pub extern "C" fn fs_classes_of(alloc: Global, job: &mut FsJob, classes: &mut [u
     status
 }
 
-/// Tells the class of each fault of a session.
+/// Writes the class of each fault of a session.
 fn classes_of(session: &Session, classes: &mut [u32]) -> u32
     ensures done { length classes.old ≡ length session.now.list.list
         → (result ≡ 0) × AreClassesOf session.now classes.new }
@@ -328,7 +328,7 @@ fn classes_of(session: &Session, classes: &mut [u32]) -> u32
     DONE
 }
 
-/// Tells the first test that detects each class of a list. The lengths are equal.
+/// Writes the first test that detects each class of a list. The lengths are equal.
 #[unsafe(no_mangle)]
 pub extern "C" fn fs_simulate(
     alloc: Global,
@@ -354,7 +354,7 @@ pub extern "C" fn fs_simulate(
     status
 }
 
-/// Tells the first test that detects each class of a list, in a session.
+/// Writes the first test that detects each class of a list, in a session.
 fn simulate_in(alloc: Global, session: &mut Session, classes: &[u32], firsts: &mut [u32]) -> u32
     ensures done { result ≡ 0 → AreFirsts session.old classes.now firsts.new }
     ensures serves { AreRequests session.old classes.now firsts.old
@@ -372,14 +372,14 @@ fn simulate_in(alloc: Global, session: &mut Session, classes: &[u32], firsts: &m
     }
 }
 
-/// Tells whether all are below the number of classes.
+/// Returns whether all are below the number of classes.
 pub(crate) fn are_classes(classes: &[u32], count: u32) -> bool
     ensures { IsTrue result ↔ All (λ class. class < count) classes.now }
 {
     classes.iter().all(|class| *class < count)
 }
 
-/// Tells the lanes of a block whose tests detect a class.
+/// Writes the lanes of a block whose tests detect a class.
 #[unsafe(no_mangle)]
 pub extern "C" fn fs_detecting(
     alloc: Global,
@@ -407,7 +407,7 @@ pub extern "C" fn fs_detecting(
     status
 }
 
-/// Tells the lanes of a block whose tests detect a class, in a session.
+/// Writes the lanes of a block whose tests detect a class, in a session.
 fn detecting_in(session: &mut Session, class: u32, block: u32, lanes: &mut u64) -> u32
     ensures done { class < length session.old.classes.representative
         → block < blocks (length session.old.tests.tests)
@@ -426,8 +426,9 @@ fn detecting_in(session: &mut Session, class: u32, block: u32, lanes: &mut u64) 
     DONE
 }
 
-/// Tells the first test of a text that detects each fault of a circuit, without a handle. If
-/// `firsts` has a length other than the number of faults, the status is 4, and `faults` tells it.
+/// Writes the first test of a text that detects each fault of a circuit, without a handle. If
+/// `firsts` has a length other than the number of faults, the status is 4, and `faults` is that
+/// number.
 #[unsafe(no_mangle)]
 pub extern "C" fn fs_firsts(
     alloc: Global,
@@ -460,7 +461,7 @@ pub extern "C" fn fs_firsts(
     }
 }
 
-/// Tells the first test that detects each fault of a session.
+/// Writes the first test that detects each fault of a session.
 fn firsts_in(alloc: Global, session: &mut Session, firsts: &mut [u32], faults: &mut u32) -> u32
     ensures done { result ≡ 0 → AreFaultFirsts session.old firsts.new
         × (length firsts.old ≡ length session.old.list.list) }

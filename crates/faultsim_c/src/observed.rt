@@ -12,9 +12,9 @@ use bench_net::{Circuit, ScanCell};
 use block_sim::Job;
 use std::alloc::Global;
 
-/// Tells the signal of each observer, and in `wanted` how many observers there are: the OUTPUT
+/// Writes the signal of each observer, and in `wanted` how many observers there are: the OUTPUT
 /// lines in order, and then the data pins of the flip-flops, in the order of the DFF lines. If the
-/// array has less room than that, the status is 4, and `wanted` tells how much it takes.
+/// array has less room than that, the status is 4, and `wanted` is the room that it needs.
 #[unsafe(no_mangle)]
 pub extern "C" fn fs_observers_of(
     alloc: Global,
@@ -36,7 +36,7 @@ pub extern "C" fn fs_observers_of(
     status
 }
 
-/// Tells the signal of each observer of a job.
+/// Writes the signal of each observer of a job.
 fn observers_in(job: &Job, signals: &mut [u32], wanted: &mut usize) -> u32
     ensures done { IsCopied (observed job.now.circuit) signals.old signals.new wanted.new
         result }
@@ -62,7 +62,7 @@ fn fill_observers(circuit: &Circuit, signals: &mut [u32])
     }
 }
 
-/// Tells the fault-free values of the observers: for each block of 64 tests a word for each
+/// Writes the fault-free values of the observers: for each block of 64 tests a word for each
 /// observer. The length is the number of blocks times that of observers.
 #[unsafe(no_mangle)]
 pub extern "C" fn fs_responses(alloc: Global, job: &mut FsJob, words: &mut [u64]) -> u32
@@ -84,7 +84,7 @@ pub extern "C" fn fs_responses(alloc: Global, job: &mut FsJob, words: &mut [u64]
     status
 }
 
-/// Tells the fault-free values of the observers of a job.
+/// Writes the fault-free values of the observers of a job.
 fn responses_in(job: &Job, words: &mut [u64]) -> u32
     ensures done { length words.old
         ≡ blocks (length job.now.tests.tests) * length (observed job.now.circuit)

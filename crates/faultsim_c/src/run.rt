@@ -1,4 +1,4 @@
-//! Runs for the first tests of classes and of faults, told by numbers.
+//! Runs for the first tests of classes and of faults, as numbers.
 
 ghost use Rattle.std.specs.Prelude.{◌≡◌, ◌<◌, All, IfErr, IfOk, length, None, slice_index_or};
 ghost use Rattle.faultsim_c.specs.Calls.{AreFaultFirsts, AreFirsts, AreFirstNumbers, first_number};
@@ -45,7 +45,7 @@ pub(crate) fn fault_firsts(
     Ok(())
 }
 
-/// Tells first tests by their numbers, as many as there is room for.
+/// Writes first tests as their numbers, as many as there is room for.
 fn tell_firsts(found: &[Option<u32>], firsts: &mut [u32])
     requires { length firsts.old ≡ length found.now }
     ensures { AreFirstNumbers found.now firsts.new }
@@ -55,7 +55,7 @@ fn tell_firsts(found: &[Option<u32>], firsts: &mut [u32])
     }
 }
 
-/// Tells the first tests of all faults by their numbers.
+/// Writes the first tests of all faults by their numbers.
 fn tell_verdicts(verdicts: &Verdicts, firsts: &mut [u32])
     requires { length firsts.old ≡ length verdicts.now.firsts }
     ensures { AreFirstNumbers verdicts.now.firsts firsts.new }
@@ -75,7 +75,7 @@ fn first_at(found: &[Option<u32>], place: usize) -> Option<u32>
     }
 }
 
-/// The number that tells a first test, or that there is none.
+/// The number that stands for a first test, or that there is none.
 fn first_number(first: Option<u32>) -> u32
     ensures { result ≡ first_number first }
 {

@@ -14,7 +14,7 @@ use crate::status::{DONE, NO_JOB, RANGE};
 use block_sim::Job;
 use std::alloc::Global;
 
-/// Tells the stem of each class: the signal at which the fanout-free region of its representative
+/// Writes the stem of each class: the signal at which the fanout-free region of its representative
 /// ends. The length is the number of classes.
 #[unsafe(no_mangle)]
 pub extern "C" fn fs_stems_of(alloc: Global, job: &mut FsJob, stems: &mut [u32]) -> u32
@@ -35,7 +35,7 @@ pub extern "C" fn fs_stems_of(alloc: Global, job: &mut FsJob, stems: &mut [u32])
     status
 }
 
-/// Tells the stem of each class of a job.
+/// Writes the stem of each class of a job.
 fn stems_of(job: &Job, stems: &mut [u32]) -> u32
     ensures done { length stems.old ≡ length job.now.classes.representative
         → (result ≡ 0) × AreStemsOf job.now stems.new }
@@ -51,7 +51,7 @@ fn stems_of(job: &Job, stems: &mut [u32]) -> u32
     DONE
 }
 
-/// Tells the fault-free word of a signal under a block: bit k is its value under test
+/// Writes the fault-free word of a signal under a block: bit k is its value under test
 /// `64 * block + k`.
 #[unsafe(no_mangle)]
 pub extern "C" fn fs_word(
@@ -80,7 +80,7 @@ pub extern "C" fn fs_word(
     status
 }
 
-/// Tells the fault-free word of a signal under a block of a job.
+/// Writes the fault-free word of a signal under a block of a job.
 fn word_in(job: &Job, block: u32, signal: u32, word: &mut u64) -> u32
     ensures done { block < blocks (length job.now.tests.tests)
         → signal < length (names job.now.circuit) → (result ≡ 0)
@@ -96,8 +96,8 @@ fn word_in(job: &Job, block: u32, signal: u32, word: &mut u64) -> u32
     DONE
 }
 
-/// Tells the name of a signal, and how many bytes it has. If the text has less room than that, the
-/// status is 4, and `wanted` tells how much it takes.
+/// Writes the name of a signal, and how many bytes it has. If the text has less room than that, the
+/// status is 4, and `wanted` is the room that it needs.
 #[unsafe(no_mangle)]
 pub extern "C" fn fs_name_of(
     alloc: Global,
@@ -124,7 +124,7 @@ pub extern "C" fn fs_name_of(
     status
 }
 
-/// Tells the name of a signal of a job.
+/// Writes the name of a signal of a job.
 fn name_in(job: &Job, signal: u32, text: &mut [u8], wanted: &mut usize) -> u32
     ensures done { (name : List ℕ) → signal < length (names job.now.circuit)
         → name_of job.now.circuit signal ≡ Some name
@@ -140,7 +140,7 @@ fn name_in(job: &Job, signal: u32, text: &mut [u8], wanted: &mut usize) -> u32
     copy_text(circuit.name_of(signal).as_bytes(), text, wanted)
 }
 
-/// Copies bytes to the front of a text, if it has room for them, and tells how many they are.
+/// Copies bytes to the front of a text, if it has room for them, and returns their number.
 pub(crate) fn copy_text(bytes: &[u8], text: &mut [u8], wanted: &mut usize) -> u32
     ensures copied { IsCopied bytes.now text.old text.new wanted.new result }
     ensures statuses { (result ≡ 0) ⊎ (result ≡ 4) }
@@ -155,7 +155,7 @@ pub(crate) fn copy_text(bytes: &[u8], text: &mut [u8], wanted: &mut usize) -> u3
     DONE
 }
 
-/// Tells the place of a signal in a test, from 0. The status is 4 if the signal is a gate's, too.
+/// Writes the place of a signal in a test, from 0. The status is 4 if the signal is a gate's, too.
 #[unsafe(no_mangle)]
 pub extern "C" fn fs_source_of(alloc: Global, job: &mut FsJob, signal: u32, place: &mut u32) -> u32
     ensures done { result ≡ 0 → (parts : Parts) × (job_of job.old.held.holding ≡ Some parts)
@@ -177,7 +177,7 @@ pub extern "C" fn fs_source_of(alloc: Global, job: &mut FsJob, signal: u32, plac
     status
 }
 
-/// Tells the place of a signal of a job in a test.
+/// Writes the place of a signal of a job in a test.
 fn source_in(job: &Job, signal: u32, place: &mut u32) -> u32
     ensures done { result ≡ 0 → (signal < length (names job.now.circuit))
         × (slice_get (sources job.now.circuit) place.new ≡ name_of job.now.circuit signal) }

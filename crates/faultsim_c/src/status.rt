@@ -17,7 +17,7 @@ pub(crate) const DONE: u32 = 0;
 pub(crate) const NO_JOB: u32 = 1;
 /// Memory ran out.
 pub(crate) const MEMORY: u32 = 2;
-/// A text or words are wrong: the fault tells why.
+/// A text or words are wrong: the fault says why.
 pub(crate) const REFUSED: u32 = 3;
 /// A number is out of range, or an array has a length other than it must have.
 pub(crate) const RANGE: u32 = 4;
@@ -93,7 +93,7 @@ impl From<AllocError> for Refusal {
     }
 }
 
-/// Returns the kind and the place that tell of a refusal.
+/// Returns the kind and the place of a refusal.
 fn fault_of(refusal: Refusal) -> FsFault
     ensures { result ≡ error_numbers refusal }
 {

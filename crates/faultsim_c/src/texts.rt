@@ -1,4 +1,4 @@
-//! Calls that tell texts: the name of a fault, and the report.
+//! Calls that write texts: the name of a fault, and the report.
 
 ghost use Rattle.std.specs.Prelude.{◌≡◌, ◌≢◌, ◌⊎◌, ◌<◌, ◌≤◌, ℕ, IfNone, IfOk, IfSome, List, None};
 ghost use Rattle.std.specs.Prelude.{Some, length, slice_get};
@@ -17,8 +17,8 @@ use block_sim::Job;
 use report::{Contents, Lines, Plain, write_fault, write_report_with};
 use std::alloc::{AllocError, Global};
 
-/// Tells the name of a fault, as the report and the listing write it, and how many bytes it has. If
-/// the text has less room than that, the status is 4, and `wanted` tells how much it takes.
+/// Writes the name of a fault, as the report and the listing write it, and the number of its bytes.
+/// If the text has less room than that, the status is 4, and `wanted` is the room that it needs.
 #[unsafe(no_mangle)]
 pub extern "C" fn fs_fault_text(
     alloc: Global,
@@ -46,7 +46,7 @@ pub extern "C" fn fs_fault_text(
     status
 }
 
-/// Tells the name of a fault of a job.
+/// Writes the name of a fault of a job.
 fn fault_text_in(alloc: Global, job: &Job, fault: u32, text: &mut [u8], wanted: &mut usize) -> u32
     ensures done { (f : Fault)
         → slice_get (faults job.now.list.model job.now.circuit) fault ≡ Some f → result ≢ 2
@@ -81,11 +81,11 @@ fn bytes_of_fault(alloc: Global, job: &Job, fault: u32) -> Result<Vec<u8>, Alloc
     }
 }
 
-/// Tells the report of a run with the job's tests, and how many bytes it has. If the text has less
-/// room than that, the status is 4, and `wanted` tells how much it takes.
+/// Writes the report of a run with the job's tests, and how many bytes it has. If the text has less
+/// room than that, the status is 4, and `wanted` is the room that it needs.
 ///
 /// `lines` is 0 for a report with no line for a fault, 1 with one for each, and 2 with one for each
-/// that no test detects. With `classes` a last line tells the coverage of the classes.
+/// that no test detects. With `classes` a last line has the coverage of the classes.
 #[unsafe(no_mangle)]
 pub extern "C" fn fs_report(
     alloc: Global,
@@ -95,8 +95,9 @@ pub extern "C" fn fs_report(
     text: &mut [u8],
     wanted: &mut usize,
 ) -> u32
-    ensures done { (parts : Parts) → job_of job.old.held.holding ≡ Some parts → lines ≤ 2 → result ≢ 2
-        → (contents : ContentsOf) × (bytes : List ℕ) × AreContents lines classes contents
+    ensures done { (parts : Parts) → job_of job.old.held.holding ≡ Some parts → lines ≤ 2
+        → result ≢ 2 → (contents : ContentsOf) × (bytes : List ℕ)
+        × AreContents lines classes contents
         × IsReportOfJob parts contents bytes
         × IsCopied bytes text.old text.new wanted.new result }
     ensures range { (parts : Parts) → job_of job.old.held.holding ≡ Some parts → 2 < lines
@@ -115,7 +116,7 @@ pub extern "C" fn fs_report(
     status
 }
 
-/// Tells the report of a session.
+/// Writes the report of a session.
 fn report_in(
     alloc: Global,
     session: &mut Session,

@@ -39,7 +39,7 @@ pub trait Watch: Gate {
     {}
 
     /// Takes how many of the undetected faults have each reason, before anything of the text is
-    /// written. Only a run that tells the reasons has them.
+    /// written. Only a run that writes the reasons has them.
     fn explains(&self, _counts: ReasonCounts) {}
 }
 
@@ -49,9 +49,9 @@ impl Watch for OpenGate {
     fn ends(&self) {}
 }
 
-/// Runs a job in so many parts, by workers in threads of their own, as [`workers::run_in_parts`]
-/// does and with the same verdicts and refusals. The gate is told when the run begins, when all is
-/// settled, and of the verdicts.
+/// Runs a job in a number of parts, by workers in threads of their own, as
+/// [`workers::run_in_parts`] does and with the same verdicts and refusals. It calls the gate when
+/// the run begins, when all is settled, and with the verdicts.
 pub fn run_watched<R: Threads + Wait, G: Watch + Sync>(
     rt: &R,
     alloc: Global,

@@ -13,7 +13,8 @@ use std::thread;
 use std::thread::{Promise, Threads};
 use text_lines::{Rows, line_start_from};
 
-/// So many bytes take about a millisecond, some twenty times as long as the start of a thread.
+/// The bytes that a thread reads at least. They take about a millisecond, some twenty times as long
+/// as the start of a thread.
 const BYTES_OF_A_THREAD: usize = 1 << 20;
 
 /// No more threads than this read a text, whatever is asked for.
@@ -71,7 +72,7 @@ struct Plan {
 }
 
 impl Plan {
-    /// A plan for so many threads.
+    /// Returns a plan for a number of threads.
     fn new(text: &[u8], threads: u32) -> Plan {
         let head = first_row(text);
         let rest = &text[head..];
@@ -133,9 +134,9 @@ fn read_stretch(
     Ok(Stretch { start, end, tests })
 }
 
-/// The tests of the text, by so many threads, each of which reads some lines behind those of the
-/// one before. Where the start of a thread is refused no further one is started, and the tests of
-/// the lines from there on are missing.
+/// Reads the tests of the text in a number of threads, each of which reads the lines after those of
+/// the one before. If a thread cannot start, no further one is started, and the tests of the lines
+/// from there on are missing.
 fn read_stretches<R: Threads + Wait>(
     rt: &R,
     alloc: Global,

@@ -36,7 +36,7 @@ impl Model for Octet {
 }
 
 impl Octet {
-    /// No tests, of so many sources.
+    /// Returns no tests, of `width` sources.
     pub(crate) fn new(alloc: Global, width: u32) -> Result<Octet, AllocError>
         ensures { IfOk result (λ octet. octet ≡ record { width = width; tests = [] }) }
     {

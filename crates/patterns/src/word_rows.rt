@@ -53,7 +53,7 @@ pub(crate) fn rows_of(
     Ok(rows)
 }
 
-/// Makes room for one more test behind so many: a row of zeros where the last block is full.
+/// Makes room for one more test after `count` tests: a row of zeros if the last block is full.
 pub(crate) fn make_room(
     alloc: Global,
     rows: &mut Vec<Vec<u64>>,

@@ -73,8 +73,8 @@ pub fn compact_text_in<R: Threads + Wait, W: Out>(
 /// Reads a circuit and tests for it, and writes the tests that [`compact_text_in`] writes, or their
 /// numbers in the list, however the runs are split. Returns how many are kept.
 ///
-/// It is refused as [`crate::simulate_text_watched`] is with an open gate. Nothing is written before
-/// all is known.
+/// It is refused as [`crate::simulate_text_watched`] is with an open gate. Nothing is written
+/// before all is known.
 pub fn compact_text_with<R: Threads + Wait, W: Out>(
     rt: &R,
     alloc: Global,
@@ -152,7 +152,7 @@ fn write_numbers<W: Out>(numbers: &[u32], out: &mut W) -> Result<(), ReportFault
     Ok(put_numbers(numbers, out)?)
 }
 
-/// Writes them, and tells no more than that the output failed.
+/// Writes them. An error says only that the output failed.
 fn put_numbers<W: Out>(numbers: &[u32], out: &mut W) -> Result<(), OutFailed>
     ensures { Writes result (W.seen out.old) (W.seen out.new)
         (flat_map number_line numbers.now) }

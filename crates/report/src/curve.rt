@@ -60,8 +60,9 @@ pub fn curve_text_in<R: Threads + Wait, W: Out>(
 }
 
 /// Reads a circuit and tests for it, and writes the curve that [`curve_text_in`] writes, with the
-/// same bytes, however the run is split. The gate is told when the run begins and when it ends, and
-/// is asked before each piece of work; it decides nothing of the curve but whether there is one.
+/// same bytes, however the run is split. It calls the gate when the run begins and when it ends,
+/// and asks it before each piece of work; the gate decides nothing of the curve but whether there
+/// is one.
 ///
 /// It is refused as [`crate::simulate_text_watched`] is.
 pub fn curve_text_watched<R: Threads + Wait, G: Watch + Sync, W: Out>(

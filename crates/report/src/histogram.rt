@@ -26,8 +26,8 @@ use workers::RunFault;
 
 /// Reads a circuit and tests for it, and writes how many tests detect each fault of a model, as
 /// [`crate::detections_text_in`] does, and then the histogram: a line `COUNT FAULTS` for each count
-/// from 0 to `most`, with how many faults so many tests detect. The last one has the faults that at
-/// least `most` tests detect.
+/// from 0 to `most`, with the number of faults that this many tests detect. The last one has
+/// the faults that at least `most` tests detect.
 ///
 /// It is refused as [`crate::detections_text_in`] is with [`Split::Whole`], and else as
 /// [`crate::detections_text_of_any_size`] is.
@@ -110,7 +110,7 @@ pub fn histogram_of(alloc: Global, counts: &[u32], most: u32) -> Result<Vec<u32>
     Ok(faults)
 }
 
-/// Counts a fault with so many detections.
+/// Counts a fault with `count` detections.
 fn add_one(faults: &mut [u32], count: u32)
     requires { (n : ℕ) → n < length faults.old → get_or faults.old n 0 < 2 ^ 32 - 1 }
     ensures count { length faults.new ≡ length faults.old }

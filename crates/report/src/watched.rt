@@ -18,8 +18,8 @@ use std::sync::Wait;
 use std::thread::Threads;
 
 /// Reads a circuit and tests for it, and writes the report that [`crate::simulate_text_with`]
-/// writes, with the same bytes. The gate is told when the run begins and when it ends, and is asked
-/// before each piece of work; it decides nothing of the report but whether there is one.
+/// writes, with the same bytes. It calls the gate when the run begins and when it ends, and asks it
+/// before each piece of work; the gate decides nothing of the report but whether there is one.
 ///
 /// With [`Split::Parts`] it runs as [`crate::simulate_text_in_parts`] does, and with
 /// [`Split::Whole`] as [`crate::simulate_text_with`]. It is refused as these are, and with

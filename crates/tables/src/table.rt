@@ -167,8 +167,8 @@ pub fn run_table_in<R: Threads + Wait, W: Out>(
     )
 }
 
-/// Writes the table that [`run_table_in`] writes, however the run is split. The gate is told when
-/// the run begins and when it ends, and is asked before each piece of work. It is refused as
+/// Writes the table that [`run_table_in`] writes, however the run is split. It calls the gate when
+/// the run begins and when it ends, and asks it before each piece of work. It is refused as
 /// `report::curve_text_watched` is.
 pub fn run_table_watched<R: Threads + Wait, G: Watch + Sync, W: Out>(
     rt: &R,

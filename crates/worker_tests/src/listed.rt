@@ -14,9 +14,9 @@ use std::thread::Threads;
 use worked_circuits::C17_TEXT;
 use workers::{ListRunner, RunFault, run_in_parts};
 
-/// C17 with 64 tests of ones, which are block 0, and one of zeros, which is test 64. Under zeros G10,
-/// G11, G16 and G19 are 1, and the outputs are 0. So zeros detect the classes of G2 sa1, G7 sa1 and
-/// G22 sa1, which ones don't: classes 1, 7 and 19.
+/// C17 with 64 tests of ones, which are block 0, and one of zeros, which is test 64. Under zeros
+/// G10, G11, G16 and G19 are 1, and the outputs are 0. So zeros detect the classes of G2 sa1, G7
+/// sa1 and G22 sa1, which ones don't: classes 1, 7 and 19.
 const TWO_BLOCKS: JobText = JobText {
     model: Model::StuckAt,
     bench: C17_TEXT,
@@ -71,7 +71,7 @@ fn are_classes(classes: &[u32], count: u32) -> bool
     classes.iter().all(|class| *class < count)
 }
 
-/// Whether a runner tells these first tests of classes of a job.
+/// Whether a runner finds these first tests of classes of a job.
 fn tells(
     runner: &mut ListRunner,
     alloc: Global,
@@ -89,7 +89,7 @@ fn tells(
     Ok(told.as_slice() == firsts)
 }
 
-/// The first of the lists of which a runner tells other first tests, if there is one.
+/// The first of the lists of which a runner finds other first tests, if there is one.
 fn first_wrong(
     runner: &mut ListRunner,
     alloc: Global,
@@ -107,8 +107,8 @@ fn first_wrong(
 }
 
 /// Whether a runner that has run lists has the verdicts on all faults: those of class 1 are G2 sa1,
-/// of class 7 G7 sa1, and of class 19 G10 sa0, pin 2 of G22 sa0 and G22 sa1. Behind the first hits are
-/// the second pieces of the eight classes that ones detect.
+/// of class 7 G7 sa1, and of class 19 G10 sa0, pin 2 of G22 sa0 and G22 sa1. Skipped are the second
+/// pieces of the eight classes that ones detect.
 fn has_verdicts(runner: &mut ListRunner, alloc: Global, job: &Job) -> Result<bool, AllocError>
     requires { ServesLists runner.old job.now }
 {
@@ -122,8 +122,8 @@ fn has_verdicts(runner: &mut ListRunner, alloc: Global, job: &Job) -> Result<boo
     Ok(has_firsts(&verdicts, &firsts) && verdicts.skipped() == 8)
 }
 
-/// Whether a runner goes on where a gate stopped a run. The last class of the list in which one part
-/// runs all classes is 21, so all others have passed block 0, and class 0 waits for block 1.
+/// Whether a runner goes on where a gate stopped a run. The last class of the list in which one
+/// part runs all classes is 21, so all others have passed block 0, and class 0 waits for block 1.
 fn goes_on<R: Threads + Wait>(rt: &R, alloc: Global, job: &Job) -> Result<bool, AllocError> {
     let gate = ShutFor {
         class: 21,

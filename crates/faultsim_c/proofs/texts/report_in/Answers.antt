@@ -9,5 +9,6 @@ returns-in-Ok-clause-done c = λ low other. (
   record { number = c.in-Some.ensures.some; choice = refl },
   c.in-Ok.ensures.report,
   subst (λ (bytes : List ℕ). IsCopied bytes c.args.text.now c.copy_text.new.text
-      c.copy_text.new.wanted c.copy_text.result) c.as_slice.ensures.value c.copy_text.ensures.copied,
+      c.copy_text.new.wanted c.copy_text.result) c.as_slice.ensures.value
+    c.copy_text.ensures.copied,
 )

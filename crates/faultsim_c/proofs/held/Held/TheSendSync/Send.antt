@@ -1,5 +1,5 @@
--- What is held may cross threads: the allocator may, and so may what the handle has and the right to
--- free its box.
+-- What is held may cross threads: the allocator may, and so may what the handle has and the right
+-- to free its box.
 use mir.Raw.{raw}
 use base.Shift.{Keyless}
 use denote.Memory.{lone}
