@@ -122,8 +122,7 @@ impl Circuit {
     }
 
     /// Returns the level of a signal: 0 for a source, and for a gate one more than the greatest
-    /// level of the signals that its pins read (Bushnell and Agrawal, Essentials of Electronic
-    /// Testing).
+    /// level of its inputs (Bushnell and Agrawal, Essentials of Electronic Testing).
     pub fn level_of(&self, signal: u32) -> u32
         requires { signal < length (names self.now) }
         ensures { HasLevel self.now signal result }
@@ -146,8 +145,8 @@ impl Circuit {
     }
 }
 
-/// Makes the circuit of numbered statements. It fails for lines with a gate on a cycle of gates or
-/// fed by one, with the number of the lowest such line, and for no lines at all.
+/// Makes the circuit of numbered statements. It fails if there are no lines, and if a gate is on a
+/// cycle of gates or fed by one, with the lowest such line by its number.
 pub fn circuit_of(alloc: Global, lines: Lines) -> Result<Circuit, BenchFault>
     requires { AreStatements (map string_bytes lines.names.items) lines.lines.items lines.at.items }
     ensures accepted { IfOk result (λ c.

@@ -63,9 +63,9 @@ fn pin_of(lines: &[NumberedLine], definitions: &[usize], signal: u32, pin: u32) 
         .copied()
 }
 
-/// Advances the open gate at the end of the path by one pin: past a pin whose signal has a level,
-/// to an unknown signal, or out of the gate with a level. A pin that reads an open signal closes a
-/// cycle.
+/// Advances the open gate at the end of the path by one pin. It goes past a pin whose signal has a
+/// level, to an unknown signal, or out of the gate with a level. A pin that reads an open signal
+/// closes a cycle.
 fn visit(
     lines: &[NumberedLine],
     definitions: &[usize],
@@ -158,9 +158,9 @@ fn level_in(mark: &Mark) -> u32
 }
 
 /// Returns the level of each signal: 0 for a source, and for a gate one more than the greatest
-/// level of its pins' signals. The signals get their levels in order, each after the signals that
-/// it needs. A gate goes past each of its pins once, so the time is linear in the number of pins. A
-/// path that meets itself is on a cycle, which feeds the signal that the path started from.
+/// level of its inputs. The signals get their levels in order, each after the signals that it
+/// needs. A gate goes past each of its pins once, so the time is linear in the number of pins. A
+/// path that meets itself is on a cycle, which feeds the signal where the path started.
 fn signal_levels(
     alloc: Global,
     lines: &[NumberedLine],

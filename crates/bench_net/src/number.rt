@@ -139,7 +139,7 @@ fn number_line(
     }
 }
 
-/// Returns how many names a statement defines.
+/// Returns the number of names that a statement defines.
 pub fn defined_count(statement: &Stated) -> u32
     ensures { result ≡ length (defined (stands_for statement.now)) }
 {

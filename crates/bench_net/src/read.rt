@@ -34,8 +34,8 @@ const MAX_SIGNALS: usize = 1_000_000;
 /// The greatest number of gate pins, data pins and outputs together.
 const MAX_SINKS: usize = 4_000_000;
 
-/// The statements of a file: the names in the order of their definitions, the lines over their
-/// numbers, and for each name the number, from 1, of the line that defines it.
+/// The statements of a file: the names in the order of their definitions, and the lines over their
+/// numbers. Each name has the number, from 1, of the line that defines it.
 #[derive(Drop)]
 pub struct Lines {
     pub names: Vec<String>,

@@ -95,7 +95,8 @@ fn read_arguments<'a>(
     }
 }
 
-/// Makes `INPUT ( n )` or `OUTPUT ( n )` from the word before the parenthesis and the arguments.
+/// Returns `INPUT ( n )` or `OUTPUT ( n )`, made of the word before the parenthesis and the
+/// arguments.
 fn port<'a>(word: &str, arguments: Arguments<'a>) -> Option<Stated<'a>>
     ensures { option_map stands_for result ≡ port word.now (names_of arguments.entry.items) }
 {
@@ -106,7 +107,8 @@ fn port<'a>(word: &str, arguments: Arguments<'a>) -> Option<Stated<'a>>
     }
 }
 
-/// Makes `q = DFF ( d )` or `n = KIND ( a , b , .. )` from the name, the word and the arguments.
+/// Returns `q = DFF ( d )` or `n = KIND ( a , b , .. )`, made of the name, the word and the
+/// arguments.
 fn driven<'a>(name: &'a str, word: &str, arguments: Arguments<'a>) -> Option<Stated<'a>>
     ensures { option_map stands_for result
         ≡ driven_by name.now word.now (names_of arguments.entry.items) }

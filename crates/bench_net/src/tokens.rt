@@ -25,14 +25,14 @@ pub enum Front<'a> {
     Bad,
 }
 
-/// Returns whether the byte may be in a word: the visible ASCII bytes but the marks and `#`.
+/// Returns whether a word may have the byte: the visible ASCII bytes but the marks and `#`.
 fn is_word_byte(byte: u8) -> bool
     ensures { result ≡ is_word_byte byte }
 {
     matches!(byte, 0x21..=0x7e) && !matches!(byte, b'(' | b')' | b',' | b'=' | b'#')
 }
 
-/// Returns how many blanks the bytes begin with.
+/// Returns the number of blanks at the front of the bytes.
 fn blank_len(bytes: &[u8]) -> usize
     ensures counted { result ≡ prefix_len is_blank bytes.now }
     ensures within { result ≤ length bytes.now }
@@ -40,7 +40,7 @@ fn blank_len(bytes: &[u8]) -> usize
     bytes.iter().take_while(|byte| is_blank(**byte)).count()
 }
 
-/// Returns how many word bytes the bytes begin with.
+/// Returns the number of word bytes at the front of the bytes.
 fn word_len(bytes: &[u8]) -> usize
     ensures counted { result ≡ prefix_len is_word_byte bytes.now }
     ensures within { result ≤ length bytes.now }
