@@ -1,4 +1,4 @@
-//! Reading a test text in several threads, each of which reads some of its lines.
+//! Reads a test file in several threads, each of which reads a range of its lines.
 
 ghost use Rattle.std.specs.Prelude.{◌≡◌, ◌≤◌, ◌⊎◌, IfErr, IfOk, length};
 ghost use Rattle.patterns.specs.Stretches.{HasStretch, HaveStretches};
@@ -13,28 +13,28 @@ use std::thread;
 use std::thread::{Promise, Threads};
 use text_lines::{Rows, line_start_from};
 
-/// The bytes that a thread reads at least. They take about a millisecond, some twenty times as long
-/// as the start of a thread.
+/// The least number of bytes for a thread. It reads them in about a millisecond, 20 times as long
+/// as its start.
 const BYTES_OF_A_THREAD: usize = 1 << 20;
 
-/// No more threads than this read a text, whatever is asked for.
+/// The greatest number of threads that read a file.
 const MAX_THREADS: u32 = 64;
 
-/// The tests of lines that follow each other.
+/// The tests of consecutive lines.
 #[derive(Drop)]
 struct Stretch {
-    /// The place in the text at which the first of the lines begins, counted from 0 in bytes.
+    /// The place in the file at which the first of the lines begins, counted from 0 in bytes.
     start: usize,
-    /// The place behind the last of the lines.
+    /// The place after the last of the lines.
     end: usize,
     /// The tests of the lines.
     tests: Tests,
 }
 
-/// Reads a test text as [`read_tests`] does, with the same refusals, by no more threads than there
-/// are workers. Each thread reads some of the lines. The caller's thread reads those of a thread
-/// that was refused, and it reads on where a row has an error, so it names the first one of the
-/// text. A short text is read by the caller's thread alone.
+/// Reads a test file as [`read_tests`] does, with the same errors, in at most `workers` threads.
+/// Each thread reads a range of the lines. The caller's thread reads the lines of a thread that did
+/// not start. It also reads on from a row with an error, so it reports the first error of the file.
+/// Only the caller's thread reads a short file.
 pub fn read_tests_in_threads<R: Threads + Wait>(
     rt: &R,
     alloc: Global,
@@ -56,15 +56,15 @@ pub fn read_tests_in_threads<R: Threads + Wait>(
     join_stretches(alloc, text, width, parts)
 }
 
-/// How many threads are worth their start.
+/// Returns the number of threads that are worth their start.
 fn threads_for(text: &[u8], workers: u32) -> u32 {
     let most = workers.min(MAX_THREADS) as usize;
     most.min(text.len() / BYTES_OF_A_THREAD) as u32
 }
 
-/// Where a text is cut, if all lines behind its first row are alike: the first thread reads up to
-/// `head` and a part more, and every other thread a part. Each part has full blocks of tests. This
-/// changes nothing but the time.
+/// The places at which a file is cut, if all lines after its first row are alike. The first thread
+/// reads up to `head` and a part more, and every other thread a part. Each part has full blocks of
+/// tests. This affects only the time.
 #[derive(Clone, Copy)]
 struct Plan {
     head: usize,
@@ -72,7 +72,7 @@ struct Plan {
 }
 
 impl Plan {
-    /// Returns a plan for a number of threads.
+    /// Makes a plan for a number of threads.
     fn new(text: &[u8], threads: u32) -> Plan {
         let head = first_row(text);
         let rest = &text[head..];
@@ -83,14 +83,14 @@ impl Plan {
         Plan { head, part }
     }
 
-    /// The place up to which a thread reads, by the number of the thread, from 0.
+    /// Returns the place up to which a thread reads, given by its number, from 0.
     fn end(self, thread: u32) -> usize {
         let parts = self.part.saturating_mul(thread as usize + 1);
         self.head.saturating_add(parts)
     }
 }
 
-/// The place of the first line that begins with a digit `0` or `1`, or the end of the text.
+/// Returns the place of the first line that begins with a digit `0` or `1`, or the end of the file.
 fn first_row(text: &[u8]) -> usize
     ensures { result ≤ length text.now }
 {
@@ -104,7 +104,7 @@ fn first_row(text: &[u8]) -> usize
     place
 }
 
-/// What a thread is promised to give back: tests of lines of this text.
+/// The data that a thread borrows: it returns tests of lines of this file.
 #[derive(Clone, Copy)]
 struct TestsOf<'a> {
     text: &'a [u8],
@@ -117,7 +117,7 @@ impl<'a> Promise<Result<Stretch, TestFault>> for TestsOf<'a> {
     ghost kept_by = { λ p r. HasStretch p.text.now p.width r };
 }
 
-/// The work of one thread.
+/// Reads the lines of one thread.
 fn read_stretch(
     text: &[u8],
     alloc: Global,
@@ -134,9 +134,9 @@ fn read_stretch(
     Ok(Stretch { start, end, tests })
 }
 
-/// Reads the tests of the text in a number of threads, each of which reads the lines after those of
-/// the one before. If a thread cannot start, no further one is started, and the tests of the lines
-/// from there on are missing.
+/// Reads the tests of the file in a number of threads, each of which reads the lines after those of
+/// the thread before. If a thread cannot start, the following ones aren't started either, and the
+/// tests of their lines are missing.
 fn read_stretches<R: Threads + Wait>(
     rt: &R,
     alloc: Global,
@@ -178,8 +178,8 @@ fn read_stretches<R: Threads + Wait>(
     )
 }
 
-/// The tests of all lines: those that threads gave back, one part after another as long as there
-/// are full blocks of them, and then those that are missing.
+/// Joins the tests of all lines: the tests that threads returned, part by part, as long as all
+/// blocks are full, and then the missing ones.
 fn join_stretches(
     alloc: Global,
     text: &[u8],

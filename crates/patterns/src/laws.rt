@@ -6,13 +6,13 @@ ghost use Rattle.patterns.specs.Least.{IsFirstTest};
 ghost use Rattle.patterns.specs.Tests.{TestList, IsTestList, HasTests, IsTestRefusal, blocks};
 ghost use Rattle.patterns.specs.declared.TestFault.{TestFault};
 
-/// States that over no blocks no class is hit.
+/// States that no class is hit over no blocks.
 pub fn least_of_none()
     ensures { (table : Table) (class : ℕ) → least table 0 class ≡ None }
 {}
 
-/// States that the least test over a table is in the least block that is hit, and that there is
-/// none exactly if all blocks are clear.
+/// States that the least test over a table is in the least block that is hit. There is none exactly
+/// if all blocks are clear.
 pub fn least_hit()
     ensures hit { (table : Table) (blocks class t : ℕ)
         → (least table blocks class ≡ Some t) ↔ IsLeastHit table blocks class t }
@@ -20,8 +20,8 @@ pub fn least_hit()
         → (least table blocks class ≡ None) ↔ AreClear table blocks class }
 {}
 
-/// States that if the outcome of each block is the first of its tests that pass, the least test
-/// over the table is the first test that passes.
+/// States when the least test over a table is the first test that passes: if the outcome of each
+/// block is the first of its tests that pass.
 pub fn least_is_first()
     ensures { (passes : ℕ → Bool) (table : Table) (tests class : ℕ)
         → ((block : ℕ) → block < blocks tests

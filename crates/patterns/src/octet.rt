@@ -1,4 +1,4 @@
-//! Up to eight tests in a byte for each source. A reader packs rows into bytes, of which a
+//! Up to eight tests, with a byte for each source. A reader packs rows into bytes, of which a
 //! processor takes many at a time, and then moves eight tests into words at once.
 
 ghost use Rattle.std.specs.Prelude.{◌≡◌, ◌≢◌, ℕ, ◌+◌, ◌<◌, ◌≤◌, ◌==◌, [], map, length, IfOk};
@@ -16,7 +16,7 @@ use std::marker::Model;
 pub(crate) struct Octet {
     width: u32,
     count: u32,
-    /// The byte of each source. Bit k is that of test k, and 0 past the last test.
+    /// The byte of each source: bit k is the bit of test k, and 0 past the last test.
     bytes: Vec<u8>,
 }
 
@@ -36,7 +36,7 @@ impl Model for Octet {
 }
 
 impl Octet {
-    /// Returns no tests, of `width` sources.
+    /// Makes an octet of `width` sources without tests.
     pub(crate) fn new(alloc: Global, width: u32) -> Result<Octet, AllocError>
         ensures { IfOk result (λ octet. octet ≡ record { width = width; tests = [] }) }
     {
@@ -48,7 +48,7 @@ impl Octet {
         })
     }
 
-    /// How many tests there are.
+    /// Returns the number of tests.
     pub(crate) fn count(&self) -> u32
         ensures count { result ≡ length self.now.tests }
         ensures few { result ≤ 8 }
@@ -56,7 +56,7 @@ impl Octet {
         self.count
     }
 
-    /// The byte of each source: bit k is that of test k, and 0 past the last test.
+    /// Returns the byte of each source: bit k is the bit of test k, and 0 past the last test.
     pub(crate) fn bytes(&self) -> &[u8]
         ensures count { length result.now ≡ self.now.width }
         ensures list { IsTestList self.now }
@@ -102,7 +102,7 @@ fn set_bits(bytes: &mut [u8], row: &[u8], lane: u32)
     }
 }
 
-/// The bit if the digit is `1`, and else 0.
+/// Returns the bit if the digit is `1`, and else 0.
 #[inline(always)]
 fn bit_if_one(digit: u8, bit: u8) -> u8
     ensures { result ≡ (if digit == 49 then bit else 0) }
@@ -110,7 +110,7 @@ fn bit_if_one(digit: u8, bit: u8) -> u8
     if digit == b'1' { bit } else { 0 }
 }
 
-/// Puts bytes into words, from this lane on.
+/// Merges bytes into words, from this lane on.
 pub(crate) fn merge_bytes(words: &mut [u64], bytes: &[u8], lane: u32)
     requires lane { lane < 64 }
     requires sources { length words.old ≡ length bytes.now }

@@ -17,8 +17,8 @@ use std::alloc::{AllocError, Global};
 use std::marker::Model;
 use text_lines::{Row, Rows, are_bits};
 
-/// The tests of a list. Tests, sources and blocks are numbered from 0; block b has the tests `64 *
-/// b` to `64 * b + 63`, and the last block may be short.
+/// The tests of a list. Tests, sources and blocks are numbered from 0. Block b has the tests
+/// `64 * b` to `64 * b + 63`; the last block may have fewer.
 #[derive(Debug, Drop)]
 pub struct Tests {
     width: u32,
@@ -64,8 +64,8 @@ pub fn read_tests(alloc: Global, text: &[u8], width: u32) -> Result<Tests, TestF
     read_rows(alloc, none, rows)
 }
 
-/// Reads rows as tests behind others. If the rows before them in a text have those tests, the
-/// result is the tests of the text.
+/// Reads rows as tests, and appends them to `before`. If the rows before them in a file have those
+/// tests, the result is the tests of the file.
 pub(crate) fn read_rows(alloc: Global, before: Tests, rows: Rows<'_>) -> Result<Tests, TestFault>
     ensures tests { IfOk result (λ t. HasTestsBehind before (rows_left rows.entry) t) }
     ensures refused { IfErr result (λ fault. (fault ≡ TestFault.Memory)
@@ -105,7 +105,7 @@ fn check_row(place: u32, row: Row<'_>, width: u32) -> Result<(), TestFault>
     Ok(())
 }
 
-/// Returns the file of tests, which [`read_tests`] reads as the same tests: for each a row of a `0`
+/// Writes a test file, which [`read_tests`] reads as the same tests: for each test a row with a `0`
 /// or a `1` for each source, and a line feed.
 pub fn write_tests(alloc: Global, tests: &Tests) -> Result<Vec<u8>, AllocError>
     ensures text { IfOk result (λ text. text.items ≡ test_text tests.now.tests) }
@@ -133,7 +133,7 @@ impl Tests {
         }
     }
 
-    /// Makes tests of words: for each block, from the first on, a word for each source, as
+    /// Makes tests from words: for each block, from the first on, a word for each source, as
     /// [`Tests::word`] returns it. Bit k of a word, from the least, is the bit of the block's test
     /// k, and 0 past the last test.
     ///
@@ -174,9 +174,9 @@ impl Tests {
     ///
     /// # Errors
     ///
-    /// A test past [`MAX_TESTS`] is [`PushFault::TooMany`] whatever its bits; one with another
-    /// number of bits is [`PushFault::BadWidth`]; [`PushFault::Memory`] if memory ran out. The
-    /// tests are then as they were.
+    /// A test past [`MAX_TESTS`] is [`PushFault::TooMany`] whatever its bits. A test with another
+    /// number of bits is [`PushFault::BadWidth`]. If memory runs out, the error is
+    /// [`PushFault::Memory`]. After an error the tests are as before.
     pub fn push(&mut self, alloc: Global, row: &[bool]) -> Result<(), PushFault>
         ensures pushed { OnOk result (self.new ≡ with_test self.old row.now) }
         ensures kept { OnErr result (self.new ≡ self.old) }
@@ -208,7 +208,8 @@ impl Tests {
         Ok(())
     }
 
-    /// Whether all blocks are full, and the tests are within the limit with other ones behind them.
+    /// Returns whether all blocks are full, and the tests are within the limit with `more` after
+    /// them.
     pub(crate) fn takes(&self, more: &Tests) -> bool
         ensures { IsTrue result ↔ ((length self.now.tests % 64 ≡ 0)
             × (length self.now.tests + length more.now.tests ≤ max_tests)) }
@@ -217,7 +218,7 @@ impl Tests {
         count <= MAX_TESTS && self.count % BLOCK_SIZE == 0
     }
 
-    /// Adds other tests behind those of blocks that are all full.
+    /// Appends other tests to blocks that are all full.
     pub(crate) fn append(&mut self, more: Tests) -> Result<(), AllocError>
         requires full { length self.old.tests % 64 ≡ 0 }
         requires width { more.width ≡ self.old.width }
@@ -234,8 +235,8 @@ impl Tests {
         Ok(())
     }
 
-    /// Moves the tests of an octet behind the others, for which there is room in the last block or,
-    /// if that is full, in the next one.
+    /// Moves the tests of an octet to the end, into the last block or, if that is full, into the
+    /// next one. The block has room for them.
     fn take(&mut self, alloc: Global, octet: &mut Octet) -> Result<(), AllocError>
         requires width { octet.old.width ≡ self.old.width }
         requires fits { length self.old.tests % 64 + length octet.old.tests ≤ 64 }
@@ -258,7 +259,7 @@ impl Tests {
     }
 
     /// Adds the row of a test to a file's bytes: a `0` or a `1` for each source, and a line feed.
-    /// If memory runs out, the bytes are as they were.
+    /// If memory runs out, the bytes are as before.
     pub fn push_row(&self, test: u32, text: &mut Vec<u8>) -> Result<(), AllocError>
         requires { test < length self.now.tests }
         ensures row { OnOk result (text.new.items
@@ -339,7 +340,7 @@ fn set_lane(words: &mut [u64], row: &[bool], lane: u32)
     }
 }
 
-/// Writes the bit of each word at `lane`, as a digit, from this place of a text on.
+/// Writes the bit of each word at `lane`, as a digit, from this place of the bytes on.
 fn write_digits(text: &mut [u8], start: usize, words: &[u64], lane: u32)
     requires lane { lane < 64 }
     requires place { start + length words.now ≤ length text.old }

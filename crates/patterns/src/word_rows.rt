@@ -1,4 +1,4 @@
-//! Words that tests are made of: for each block a row of words, one for each source.
+//! Words from which tests are made: for each block a row of words, one for each source.
 ghost use Rattle.std.specs.Prelude.{◌≡◌, ◌≢◌, ℕ, ◌+◌, ◌*◌, ◌<◌, ◌≤◌, List, [], map, length};
 ghost use Rattle.std.specs.Prelude.{slice_range, slice_index_or, IfOk, IfErr, OnOk, OnErr};
 ghost use Rattle.patterns.specs.Making.{HasIdleBit, IsFirstIdle};
@@ -8,8 +8,8 @@ ghost use Rattle.patterns.specs.Words.{AreWords, HaveRoom};
 use crate::{BLOCK_SIZE, WordsFault};
 use std::alloc::{AllocError, Global};
 
-/// Sees that no word has a bit past the last test. Only a last block that is short has room for
-/// one.
+/// Checks that no word has a bit past the last test. Only a last block that is not full has room
+/// for one.
 pub(crate) fn check_idle_bits(width: u32, count: u32, words: &[u64]) -> Result<(), WordsFault>
     requires count { count ≤ max_tests }
     requires words { length words.now ≡ width * blocks count }
