@@ -5,7 +5,7 @@ ghost use Rattle.std.specs.Prelude.{◌≡◌, ◌≢◌, ℕ, ◌<◌, All, IfO
 use std::alloc::{AllocError, Global};
 use std::marker::Model;
 
-/// A word for each signal, 0 if the signal doesn't differ, with the list of those that do.
+/// A word for each signal, 0 if the signal doesn't differ, with the list of the signals that do.
 #[derive(Drop)]
 pub struct Overlay {
     words: Vec<u128>,
@@ -47,7 +47,7 @@ impl Overlay {
         self.words.as_slice()
     }
 
-    /// Lets a signal differ that didn't.
+    /// Lets a signal differ that didn't differ before.
     #[inline(always)]
     pub fn change(&mut self, signal: u32, word: u128)
         requires signal { signal < length self.old }

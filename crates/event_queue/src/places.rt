@@ -126,7 +126,7 @@ fn least_word(words: &[u64], summary: &[u64], from: usize) -> Option<usize>
     }
 }
 
-/// Returns the first marked word, of those whose marks are in the summary from this word on.
+/// Returns the first marked word, by the marks in the summary from this word on.
 #[inline(always)]
 fn first_marked(summary: &[u64], from: usize) -> Option<usize>
     requires few { 64 * length summary.now < 2 ^ 64 }
