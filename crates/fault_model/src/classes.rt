@@ -135,8 +135,8 @@ fn kind_of(circuit: &Circuit, signal: u32) -> Option<Kind>
 }
 
 /// Returns the number of a fault's next fault, which is equivalent to it, if it has one. If the
-/// only sink of the fault's line is a gate's pin, that is the fault on the gate's stem that the
-/// table gives.
+/// only sink of the fault's line is a gate's pin, the next fault is on the gate's stem, at the bit
+/// of [`next_stuck`].
 fn next_fault(circuit: &Circuit, kinds: &[Option<Kind>], list: &Faults, fault: u32) -> Option<u32>
     requires kinds { HaveKinds circuit.now (length (names circuit.now)) kinds.now }
     requires same { list.now.list ≡ faults list.now.model circuit.now }
@@ -264,8 +264,8 @@ fn follow_stems(circuit: &Circuit, list: &Faults, nexts: &[Option<u32>], class_o
     }
 }
 
-/// Sets the classes of all faults from the classes of those on stems, because a next fault is on a
-/// stem.
+/// Sets the classes of all faults from the classes of the faults on stems, because a next fault is
+/// on a stem.
 fn follow_all(circuit: &Circuit, list: &Faults, nexts: &[Option<u32>], class_of: &mut [u32])
     requires same { list.now.list ≡ faults list.now.model circuit.now }
     requires nexts { HaveNexts list.now.model circuit.now (length list.now.list) nexts.now }
@@ -280,7 +280,7 @@ fn follow_all(circuit: &Circuit, list: &Faults, nexts: &[Option<u32>], class_of:
     }
 }
 
-/// Sets the classes of all faults from the classes of those that have no next fault.
+/// Sets the classes of all faults from the classes of the faults without a next fault.
 fn follow_chains(circuit: &Circuit, list: &Faults, nexts: &[Option<u32>], class_of: &mut [u32])
     requires same { list.now.list ≡ faults list.now.model circuit.now }
     requires nexts { HaveNexts list.now.model circuit.now (length list.now.list) nexts.now }
@@ -295,9 +295,9 @@ fn follow_chains(circuit: &Circuit, list: &Faults, nexts: &[Option<u32>], class_
 }
 
 /// Collapses the faults of a circuit into equivalence classes. If the only sink of a fault's line
-/// is a gate pin, the fault goes with the equivalent fault on the gate's stem, if there is one, and
-/// so on along the gates. The end of this chain is the representative. The faults with one
-/// representative are a class.
+/// is a gate pin, the fault may have an equivalent fault on the gate's stem. It then goes with that
+/// fault, and so on along the gates. The end of this chain is the representative. The faults with
+/// one representative are a class.
 ///
 /// The list belongs to the circuit. Time and memory are linear in the number of sinks.
 ///

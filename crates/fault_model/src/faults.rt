@@ -12,9 +12,9 @@ use bench_net::{Circuit, Sink};
 use std::alloc::{AllocError, Global};
 use std::marker::Model;
 
-/// The faults of a circuit, numbered from 0 in this order: for each signal its stem stuck at 0 and
-/// stuck at 1, and then, if two or more sinks read the signal, each branch stuck at 0 and stuck at
-/// 1. The branches are in the order of [`Circuit::sinks_of`].
+/// The faults of a circuit, numbered from 0, by signal: first its stem stuck at 0 and stuck at 1.
+/// If two or more sinks read the signal, each branch follows, stuck at 0 and stuck at 1, in the
+/// order of [`Circuit::sinks_of`].
 ///
 /// No call takes memory or more time than a look-up.
 #[derive(Drop)]
@@ -98,8 +98,8 @@ pub fn list_faults(alloc: Global, circuit: &Circuit) -> Result<Faults, AllocErro
 }
 
 /// Lists the faults of a circuit under a model: signals in their order, for each its stem and then
-/// its branches in the order of the sinks, and for each line the fault of bit 0 and then that of
-/// bit 1.
+/// its branches in the order of the sinks. Each line has first the fault of bit 0 and then the
+/// fault of bit 1.
 ///
 /// # Errors
 ///

@@ -22,7 +22,7 @@ ghost use Rattle.fault_model.specs.Reordered.{IsDetectedSameAt, IsOrderedBy, IsS
 ghost use Rattle.fault_model.specs.Laws.{HavePairsClassOfTransitions};
 ghost use Rattle.fault_model.specs.Laws.{HavePairsClassesOfTransitions};
 
-/// States that a circuit without cycles has exactly one solution under each test, without a fault
+/// States that a circuit without cycles has exactly one solution under each test, both fault-free
 /// and with each single stuck-at fault.
 pub fn solutions()
     ensures exist { (c : List Statement) → IsWellFormed c → HasSolutions c }
@@ -46,7 +46,7 @@ pub fn collapsing()
 {}
 
 /// States that faults of one class are equivalent: they show the same bits to every observer under
-/// every test, so the same tests detect them (Bushnell and Agrawal, Essentials of Electronic
+/// every test. So the same tests detect them (Bushnell and Agrawal, Essentials of Electronic
 /// Testing, on fault equivalence).
 pub fn equivalence()
     ensures show_same { (c : List Statement) → IsWellFormed c → HaveArities c → ClassesShowSame c }
@@ -92,8 +92,8 @@ pub fn reordering()
         → IsLevelOrder c order → IsLevelOrder c other → order ≡ other }
 {}
 
-/// States that launch/capture pairs have the classes of transition faults under tests in a row: the
-/// same lines and bits are in one class, and the classes have the same numbers.
+/// States that launch/capture pairs have the same classes as transition faults under tests in a
+/// row: the same lines and bits are in one class, and the classes have the same numbers.
 pub fn pairs()
     ensures class { (c : List Statement) → HavePairsClassOfTransitions c }
     ensures classes { (c : List Statement) → HavePairsClassesOfTransitions c }
