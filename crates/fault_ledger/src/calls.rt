@@ -11,8 +11,8 @@ use std::alloc::Global;
 
 /// Returns the replies to a list of calls of a new ledger, in order, and the ledger after them.
 ///
-/// The reply to a call with a worker or a class out of range is its refusal, and the later calls go
-/// on. It fails as [`Ledger::new`] does, and if there is no memory for the replies.
+/// The reply to a call with a worker or a class out of range is [`Reply::Refused`], and the later
+/// calls go on. `replay` fails as [`Ledger::new`] does, and if there is no memory for the replies.
 pub fn replay(
     alloc: Global,
     shape: Shape,

@@ -112,7 +112,7 @@ impl Closed {
         Finish::Finished
     }
 
-    /// Returns the number of pieces that were dropped. It takes the time of a look at each piece.
+    /// Returns the number of pieces that were dropped. It looks at each piece.
     pub fn skipped(&self) -> u32
         ensures { result ≡ count_by is_skipped self.now.states }
     {
@@ -138,7 +138,7 @@ fn state_of(shape: Shape, codes: &[u8], class: u32, block: u32) -> PieceState
     state_at(u64::from(code))
 }
 
-/// Returns how many of the first blocks of a class are clear: none if the class has no piece.
+/// Returns the number of first blocks of a class that are clear: none if the class has no piece.
 fn clear_of(clear_blocks: &[u32], class: u32) -> u32
     ensures { result ≡ slice_index clear_blocks.now class }
 {
@@ -148,7 +148,7 @@ fn clear_of(clear_blocks: &[u32], class: u32) -> u32
     }
 }
 
-/// Returns how many of the first blocks of a class are clear, by the codes of all pieces.
+/// Returns the number of first blocks of a class that are clear, by the codes of all pieces.
 fn clear_head(shape: Shape, codes: &[u8], class: u32) -> u32
     requires limits { shape_fault shape ≡ None }
     requires states { AreStates shape (map rule.state_at codes.now) }

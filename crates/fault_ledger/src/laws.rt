@@ -9,14 +9,14 @@ ghost use Rattle.fault_ledger.specs.Answer.{IsLegal, IsTrueTo, SettlesAtLeast, S
 ghost use Rattle.fault_ledger.specs.Settled.{IsFirstHit, IsSettledAt};
 
 /// States that a settled class is settled at the least test of every table of outcomes to which the
-/// reports are true, whatever the order of the reports and the drops.
+/// reports are true. The order of the reports and the drops doesn't matter.
 pub fn settles_at_the_least_test()
     ensures { (shape : Shape) (table : Table) (h : History) → IsTrueTo shape table h
         → SettlesAtLeast shape table h }
 {}
 
-/// States that a class is settled at a test exactly if that is the test of the first of its blocks
-/// that isn't clear, which is a hit; and at none exactly if all its blocks are clear.
+/// States when a class is settled at a test: exactly if the first of its blocks that isn't clear is
+/// a hit at that test. It is settled at none exactly if all its blocks are clear.
 pub fn settled_at_the_first_hit()
     ensures { (shape : Shape) (h : History) (class : ℕ) (at : Option ℕ)
         → IsSettledAt shape h class at ↔ IsFirstHit shape h class at }

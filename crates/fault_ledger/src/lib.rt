@@ -68,12 +68,12 @@ pub enum Status {
     Waiting(u32),
 }
 
-/// Whether all fault classes are settled.
+/// The result of a check whether all fault classes are settled.
 #[derive(Clone, Copy, Debug, PartialEq, Eq)]
 pub enum Finish {
     /// All are settled.
     Finished,
-    /// The lowest class that isn't settled, and the lowest open block of it.
+    /// The lowest class that isn't settled, and its lowest open block.
     Waiting { class: u32, block: u32 },
 }
 
@@ -100,10 +100,10 @@ pub enum Refusal {
     NoSuchClass,
 }
 
-/// The result of a claim.
+/// The result of a claim that is accepted.
 #[derive(Clone, Copy, Debug, PartialEq, Eq)]
 pub enum Claim {
-    /// The worker now holds this piece.
+    /// The worker holds this piece from then on.
     Piece { class: u32, block: u32 },
     /// All pieces were claimed.
     Exhausted,
@@ -150,7 +150,7 @@ pub enum Reply {
     Refused(Refusal),
     /// The status of the class.
     Status(Status),
-    /// Whether all classes are settled.
+    /// The reply to [`Ledger::finished`].
     Finish(Finish),
 }
 

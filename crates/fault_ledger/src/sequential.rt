@@ -133,7 +133,7 @@ impl Ledger {
         })
     }
 
-    /// Takes a worker's outcome of the piece that it holds; the worker then no longer holds it. It
+    /// Reports a worker's outcome of the piece that it holds; the worker then holds no piece. It
     /// takes constant time.
     ///
     /// It fails with [`Refusal::NoSuchWorker`], else with [`Refusal::NothingHeld`], else with
@@ -157,8 +157,7 @@ impl Ledger {
         Ok(())
     }
 
-    /// Skips the piece that a worker holds; the worker then no longer holds it. It takes constant
-    /// time.
+    /// Skips the piece that a worker holds; the worker then holds no piece. It takes constant time.
     ///
     /// It fails with [`Refusal::NoSuchWorker`], else with [`Refusal::NothingHeld`], else with
     /// [`Refusal::NoEarlierHit`] if no earlier block of the class is a hit; the worker then still
@@ -178,8 +177,8 @@ impl Ledger {
         Ok(())
     }
 
-    /// Returns at which test a class is settled, else the block that it waits for. It takes at most
-    /// the time of a look at each block of the class, and stops at the first that isn't clear.
+    /// Returns at which test a class is settled, else the block that it waits for. It looks at the
+    /// blocks of the class up to the first that isn't clear.
     pub fn status(&self, class: u32) -> Status
         requires { class < self.now.shape.classes }
         ensures { Answers self.now (Call.Status class) (Reply.Status result) self.now }

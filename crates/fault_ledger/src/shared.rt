@@ -24,17 +24,16 @@ use patterns::{BLOCK_SIZE, Outcome};
 use std::alloc::{AllocError, Global};
 use std::marker::Model;
 
-/// The number of classes of which a seat remembers what it has seen, the first ones, at 8 bytes a
-/// class.
+/// The number of first classes whose seen blocks a seat remembers, at 8 bytes a class.
 const REMEMBERED_CLASSES: u32 = 65_536;
 
 /// A ledger that threads share.
 ///
 /// The n-th claim over all workers, counted from 0, is for the piece of class `n % classes` and
 /// block `n / classes`. Each worker calls with its [`Seat`]. Each accepted claim, report and drop
-/// takes effect at one atomic step, so the calls of all workers stand in one legal history of the
-/// sequential fault list. No call takes a lock or tries a step again. Only [`SharedLedger::new`]
-/// and [`SharedLedger::close`] take memory.
+/// takes effect at one atomic step, so the calls of all workers are one legal history of the
+/// sequential ledger. No call takes a lock or tries a step again. Only [`SharedLedger::new`] and
+/// [`SharedLedger::close`] take memory.
 ///
 /// Contracts see a seat as its ledger, its worker, the history that it has seen, and whether it has
 /// got [`Claim::Exhausted`]. Seats come from the ledger that they are used with.
@@ -65,7 +64,7 @@ pub struct Seat {
     // The row of the piece that was claimed last.
     row: BlockRow,
     piece: Option<u32>,
-    // For each of the first classes what the seat has seen of it, which stays so.
+    // For each of the first classes the blocks that the seat has seen. What it has seen stays so.
     remembered: Vec<Remembered>,
 }
 
@@ -74,11 +73,11 @@ pub struct Seat {
 pub(crate) struct Remembered {
     /// The number of its first blocks that are clear.
     pub(crate) clear: u32,
-    /// Whether the block after them is known to be a hit.
+    /// True if the block after them is known to be a hit.
     pub(crate) hit: bool,
 }
 
-/// The memory of a class that a seat has seen nothing of.
+/// The memory of a class of which a seat has seen nothing.
 const NOTHING_SEEN: Remembered = Remembered {
     clear: 0,
     hit: false,
@@ -196,8 +195,8 @@ impl SharedLedger {
         Ok(Claim::Piece { class, block })
     }
 
-    /// Takes a seat's outcome of the piece that it holds; the seat then no longer holds it. It is
-    /// one atomic step.
+    /// Reports a seat's outcome of the piece that it holds; the seat then holds no piece. It is one
+    /// atomic step.
     ///
     /// It fails, without a step, with [`Refusal::NothingHeld`], else with [`Refusal::BadOutcome`]
     /// if the outcome names a test that the piece's block doesn't have; the seat then still holds
@@ -224,7 +223,7 @@ impl SharedLedger {
         Ok(())
     }
 
-    /// Skips the piece that a seat holds; the seat then no longer holds it. It looks at the earlier
+    /// Skips the piece that a seat holds; the seat then holds no piece. It looks at the earlier
     /// blocks of the piece's class until it sees a hit, and then drops the piece in one atomic
     /// step.
     ///
@@ -424,8 +423,8 @@ impl SharedLedger {
         Finish::Finished
     }
 
-    /// Joins what two seats have seen: afterwards both have seen all that either had seen or done.
-    /// It takes three looks at the cursor.
+    /// Joins the knowledge of two seats: afterwards both have seen all that either had seen or
+    /// done. It takes three looks at the cursor.
     pub fn meet(&self, first: &mut Seat, second: &mut Seat)
         requires { (first.old.place ≡ self.now) × (second.old.place ≡ self.now) }
         ensures first { Keeps first.old first.new }
@@ -435,7 +434,7 @@ impl SharedLedger {
         self.words.meet(&mut first.token, &mut second.token);
     }
 
-    /// Closes the ledger, and returns the state of each piece. Seats may be missing: the states
+    /// Closes the ledger, and returns the state of each piece. Seats may be missing. The states
     /// then include their reports, but the contract ties the states only to what the given seats
     /// have seen.
     ///
@@ -473,7 +472,7 @@ fn remembered_of(remembered: &[Remembered], class: u32) -> Remembered
     }
 }
 
-/// Remembers this of a class, if it is one of the first.
+/// Remembers these blocks of a class, if it is one of the first.
 fn remember(remembered: &mut Vec<Remembered>, class: u32, known: Remembered)
     ensures { remembered.new.items ≡ set remembered.old.items class known }
 {

@@ -1,8 +1,8 @@
 //! The words of a shared ledger, and the tokens that step on them.
 //!
 //! Word 0 is the cursor, which counts the claims that were tried. The pieces follow it, eight to a
-//! word: piece p, counted from 0, has the field of eight bits from bit 8 * (p % 8) on of word p / 8
-//! + 1.
+//! word: the field of piece p, counted from 0, is eight bits of word p / 8 + 1, from bit 8 * (p %
+//! 8) on.
 //!
 //! ```text
 //! bit      63    56    48    40    32    24    16     8     0
@@ -67,8 +67,8 @@ pub(crate) const SKIPPED: u64 = 2;
 /// The code of a hit at test 0 of its block; a hit at test k has `HIT + k`.
 const HIT: u64 = 128;
 
-/// A worker that a token represents, whether it has seen that all pieces are claimed, and the
-/// history that it has seen, the newest event first.
+/// The post of a token: a worker that it represents, whether the worker has seen that all pieces
+/// are claimed, and the history that it has seen, the newest event first.
 pub(crate) struct Post {
     pub(crate) worker: u32,
     pub(crate) told: bool,
