@@ -25,7 +25,7 @@ const LONGEST: u32 = 8;
 ///
 /// If most pieces are dropped, or take few evaluations, several workers are slower than one,
 /// because each waits for what the others have just claimed and changed. So a worker owes the price
-/// of each claim between two of which others claimed, and pays with its evaluations. If it owes
+/// of each claim if others claimed since its last one, and pays with its evaluations. If it owes
 /// much, it rests, and most of the time only one worker claims. Worker 0 never rests.
 #[derive(Drop)]
 pub(crate) struct Backoff {

@@ -9,9 +9,9 @@ use block_sim::Job;
 use std::alloc::{AllocError, Global};
 
 /// A class of a job, with the visit to its region and the number of the region's stem. It is
-/// ordered by the visit and the stem, then by its own number.
-/// The visit is the stem's place in the lists of the simulation: for a stem it reads the gates that
-/// lie ahead of it. The gates of near stems are near, so they are still in the caches.
+/// ordered by the visit and the stem, then by its own number. The visit is the stem's place in the
+/// lists of the simulation, and a stem's simulation reads the gates that lie ahead of it. The gates
+/// of near stems are near, so they are still in the caches.
 #[derive(Clone, Copy, Debug, PartialEq, Eq, PartialOrd, Ord)]
 pub(crate) struct Ranked {
     visit: u32,

@@ -3,13 +3,13 @@
 //! Workers share one fault ledger. Each claims a piece of work, a fault class on a block of 64
 //! tests. It drops the piece if an earlier block of the class is known to detect it, else it
 //! simulates the piece and reports. The verdict of a fault is the first test that detects it, or
-//! none, as in serial fault simulation (Bushnell and Agrawal, Essentials of Electronic Testing),
-//! whatever the workers do in whatever order.
+//! none, as in serial fault simulation (Bushnell and Agrawal, Essentials of Electronic Testing). It
+//! doesn't depend on what the workers do, nor on the order.
 //!
 //! [`run_schedule`] is a run of one thread, which makes the moves of all workers in the caller's
 //! order. [`run`] has a thread for each worker, and [`work`] is the work of one. [`run_in_parts`]
 //! cuts the classes into parts, each of which one worker simulates by itself. A ledger hands out
-//! the parts. [`run_open`] does so with as many parts as serve the workers, and [`run_part`] with
+//! the parts. [`run_open`] does so with a number of parts that suits the workers. [`run_part`] runs
 //! the classes of one part of a run that several machines share.
 #![tactic(auto)]
 

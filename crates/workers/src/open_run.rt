@@ -1,4 +1,4 @@
-//! Runs with an open gate, in as many parts as serve the workers.
+//! Runs with an open gate, in a number of parts that suits the workers.
 
 ghost use Rattle.std.specs.Prelude.{◌<◌, ◌≤◌, ⊤, IfErr, IfOk, OnOk};
 ghost use Rattle.fault_ledger.specs.Seats.{ClosedFace};

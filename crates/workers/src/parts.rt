@@ -137,8 +137,8 @@ pub(crate) fn first_in(verdict: PartVerdict) -> Option<u32>
 }
 
 /// Runs the classes of a part, counted from 0, of this number of parts, as [`run_in_parts`] runs
-/// all: in stretches, as many as serve the workers. Returns for each fault of the uncollapsed list
-/// the first test that detects it, or none, if its class is in the part, and else that it is in
+/// all: in a number of stretches that suits the workers. Returns for each fault of the uncollapsed
+/// list the first test that detects it, or none, if its class is in the part. Any other fault is in
 /// another part.
 ///
 /// It fails as [`run_in_parts`] does, but the limit of [`patterns::MAX_PIECES`] pieces applies to
@@ -179,14 +179,14 @@ pub fn run_part<G: Gate + Sync, R: Threads + Wait>(
 /// one for each part. A worker claims a part at a ledger that all share, which has a piece for each
 /// part with a class. It simulates the part by itself, reports it, and goes on to the next. It
 /// simulates the part's classes block after block, and skips a class that an earlier block detects.
-/// The verdicts are the first tests, for every number of parts and of workers, whatever the workers
-/// do in whatever order. The skipped pieces are the pieces after the first hits.
+/// The verdicts are the first tests, for every number of parts and of workers, in whatever order
+/// the workers run. The skipped pieces are the pieces after the first hits.
 ///
 /// A part is here a stretch of the list of all classes, region by region in the order of the
-/// visits: the data that a worker reads for one region are then near to the data for the next. With
-/// n classes a stretch has n divided by the number of parts, rounded up; the last ones have fewer,
-/// or none. The parts of [`run_part`] instead depend on the stems, by a rule that a part file
-/// names, so that other machines make the same parts.
+/// visits. So the data that a worker reads for one region are near to the data for the next. With n
+/// classes a stretch has n divided by the number of parts, rounded up; the last ones have fewer, or
+/// none. The parts of [`run_part`] instead depend on the stems, by a rule that a part file names,
+/// so that other machines make the same parts.
 ///
 /// It fails with [`RunFault::NoWorkers`], with [`RunFault::TooManyWorkers`] above 64 workers, and
 /// with [`RunFault::TooManyPieces`] if a stretch has more than [`patterns::MAX_PIECES`] pieces. It
@@ -416,7 +416,7 @@ struct Handed {
     dones: Vec<Vec<Done>>,
 }
 
-/// Closes a ledger with what its workers returned.
+/// Closes a ledger with the results of its workers.
 fn close_over(
     alloc: Global,
     ledger: SharedLedger,
@@ -438,7 +438,7 @@ fn close_over(
 }
 
 /// Makes a shared ledger of this number of stretches, and the seats of its workers. A job has no
-/// more classes than a ledger takes pieces, so it fails only for memory.
+/// more classes than a ledger may have pieces, so only memory can make it fail.
 fn ledger_of(
     alloc: Global,
     stretches: u32,
@@ -457,8 +457,8 @@ fn ledger_of(
     }
 }
 
-/// Lets workers simulate the stretches that they claim at a shared ledger, in threads of their own,
-/// and returns the closed ledger and the results of each.
+/// Lets workers claim stretches at a shared ledger and simulate them, in threads of their own.
+/// Returns the closed ledger and the results of each worker.
 fn hand_out<G: Gate + Sync, R: Threads + Wait>(
     rt: &R,
     alloc: Global,

@@ -25,7 +25,7 @@ pub(crate) trait Simulator {
             job.now.tests.tests class block result }
         ensures serves { serves self.new job.now };
 
-    /// Returns how often it has evaluated a gate on a word.
+    /// Returns how many times it has evaluated a gate on a word.
     fn evaluations(&self) -> u64;
 }
 

@@ -149,7 +149,7 @@ fn workers_of(alloc: Global, job: &Job, seats: Vec<Seat>) -> Result<Vec<Worker>,
 }
 
 /// Makes a shared ledger of chosen classes of a job, and the seats of its workers. They have no
-/// more pieces than a ledger takes, so it fails only for memory.
+/// more pieces than a ledger takes, so only memory can make it fail.
 fn share_ledger<C: ClassSelection>(
     alloc: Global,
     job: &Job,
@@ -173,16 +173,16 @@ fn share_ledger<C: ClassSelection>(
 }
 
 /// Runs a job by workers in threads of their own, numbered from 0, which share one ledger without a
-/// lock. Each claims a piece, asks the gate whether it may go on, drops the piece if an earlier
-/// block of its class detects, else simulates it and reports. The verdicts are the first tests,
-/// whatever the workers do in whatever order.
+/// lock. Each claims a piece and asks the gate whether it may go on. It drops the piece if an
+/// earlier block of its class detects, else it simulates the piece and reports. The verdicts are
+/// the first tests, in whatever order the workers run.
 ///
-/// It fails, in this order, with [`RunFault::NoWorkers`], with [`RunFault::TooManyWorkers`] above
-/// 64 workers, with [`RunFault::TooManyPieces`] above [`patterns::MAX_PIECES`] pieces, which a job
-/// of [`Job::new`] doesn't have, and with [`RunFault::Memory`] or [`RunFault::Threads`] if memory
-/// runs out or a thread doesn't start; the threads that were started are joined first. If the gate
-/// stopped workers and not all classes are settled, it fails with [`RunFault::Unfinished`]. The job
-/// is unchanged, and can run again.
+/// It fails, in this order, with [`RunFault::NoWorkers`]; with [`RunFault::TooManyWorkers`] above
+/// 64 workers; with [`RunFault::TooManyPieces`] above [`patterns::MAX_PIECES`] pieces, which a job
+/// of [`Job::new`] doesn't have; and with [`RunFault::Memory`] or [`RunFault::Threads`] if memory
+/// runs out or a thread doesn't start, after the started threads are joined. If the gate stopped
+/// workers and not all classes are settled, it fails with [`RunFault::Unfinished`]. The job is
+/// unchanged, and can run again.
 ///
 /// The ledger, a simulation for each worker and the room of the verdicts are there before the first
 /// claim, and the workers take no memory. They rest between pieces as [`crate::work`] does.

@@ -31,7 +31,7 @@ pub enum End {
 pub trait Gate {
     ghost use Rattle.workers.specs.Stops.{Stops};
 
-    /// If it holds, [`Gate::pass`] lets every piece pass.
+    /// A claim about a gate: if it holds, [`Gate::pass`] lets every piece pass.
     ghost passing: { Self → Type 0 };
 
     /// The workers, classes and blocks for which [`Gate::pass`] may stop the worker, and for which
@@ -134,7 +134,7 @@ fn lowest_waiting(ledger: &SharedLedger, seat: &mut Seat, classes: u32, from: u3
 /// class is settled.
 ///
 /// If others claim too and pieces take little work, a worker rests between two pieces, and holds
-/// none meanwhile: it spins for 1,000 pauses of the processor times its number, at most 8,000,
+/// none meanwhile. It spins for 1,000 pauses of the processor times its number, at most 8,000,
 /// about 400 microseconds. Worker 0 never rests.
 pub fn work<G: Gate>(
     job: &Job,

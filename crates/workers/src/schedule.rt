@@ -57,12 +57,12 @@ fn step(job: &Job, ledger: &mut Ledger, simulation: &mut Simulation, worker: u32
     }
 }
 
-/// The effect of moves in order.
+/// The effect of a list of moves.
 #[derive(Clone, Copy, Debug, PartialEq, Eq)]
 struct Played {
     /// The number of pieces that were dropped.
     skipped: u32,
-    /// Whether there was an event at all.
+    /// True if there was an event at all.
     changed: bool,
 }
 
@@ -142,13 +142,13 @@ fn check_moves(workers: u32, moves: &[u32]) -> Result<(), RunFault>
 /// Runs a job by moves of its workers, numbered from 0, in one thread. By a move a worker that
 /// holds nothing claims a piece. A worker that holds a piece drops it if an earlier block of its
 /// class detects, else it simulates the piece and reports. The given moves come first, and then all
-/// workers move in turn until nothing is left to claim. The verdicts are the first tests whatever
-/// the moves.
+/// workers move in turn until nothing is left to claim. The verdicts are the first tests for every
+/// list of moves.
 ///
-/// It fails, in this order, with [`RunFault::NoWorkers`], with [`RunFault::TooManyWorkers`] above
-/// 64 workers, with [`RunFault::NoSuchMove`] and the least index of a move of a worker that isn't
-/// below the number of workers, before any move is made, with [`RunFault::TooManyPieces`] above
-/// [`patterns::MAX_PIECES`] pieces, which a job of [`Job::new`] doesn't have, and with
+/// It fails, in this order, with [`RunFault::NoWorkers`]; with [`RunFault::TooManyWorkers`] above
+/// 64 workers; with [`RunFault::NoSuchMove`], before any move is made, and the least index of a
+/// move whose worker isn't below the number of workers; with [`RunFault::TooManyPieces`] above
+/// [`patterns::MAX_PIECES`] pieces, which a job of [`Job::new`] doesn't have; and with
 /// [`RunFault::Memory`]. Beside the ledger, a simulation and the verdicts it takes a word for each
 /// worker.
 pub fn run_schedule(

@@ -60,7 +60,7 @@ struct BlockSweep {
     found: usize,
 }
 
-/// Returns the turn of a block, if this number of first blocks is done already.
+/// Returns the sweep of a block, if this number of first blocks is done already.
 fn sweep_of(job: &Job, rows: &[ListedClass], block: u32, known: u32) -> BlockSweep
     requires block { block < blocks (length job.now.tests.tests) }
     requires known { known ≤ blocks (length job.now.tests.tests) }
@@ -114,7 +114,7 @@ pub(crate) fn run_list<G: Gate>(
     None
 }
 
-/// Whether the gate lets a worker go on with the class of a row on the block of a turn.
+/// Returns whether the gate lets a worker go on with the class of a row on the block of a sweep.
 fn passes<G: Gate>(gate: &G, worker: u32, row: ListedClass, sweep: BlockSweep) -> bool
     ensures passing { G.passing gate.now → result ≡ true }
     ensures stopped { result ≡ false → (G.stops gate.now).may worker row.class sweep.block }
@@ -123,10 +123,10 @@ fn passes<G: Gate>(gate: &G, worker: u32, row: ListedClass, sweep: BlockSweep) -
     gate.pass(worker, row.class, sweep.block)
 }
 
-/// Simulates on a block the classes of a list that no earlier block detects, and takes out those
-/// whose first test is known, so that it meets none of them again. It asks the gate for each class.
-/// The results of the first open class of a region are kept for the others, and for the later
-/// blocks that are simulated with this one.
+/// Simulates on a block the classes of a list that no earlier block detects. It takes out each
+/// class whose first test is known, so that it meets none of them again. It asks the gate for each
+/// class. The results of the first open class of a region are kept for the others, and for the
+/// later blocks that are simulated with this one.
 fn run_block<G: Gate>(
     job: &Job,
     rows: &[ListedClass],
@@ -297,7 +297,8 @@ fn first_at(firsts: &[Option<u32>], place: usize) -> Option<u32>
     firsts[place]
 }
 
-/// Returns how many first blocks of the class at a place were done when the worker was stopped.
+/// Returns the number of first blocks of the class at a place that were done when the worker was
+/// stopped.
 fn done_before(stop: Stop, place: usize) -> u32
     requires { stop.block < 1024 }
     ensures { AreEarlier stop.place stop.block place result }

@@ -135,7 +135,7 @@ pub(crate) fn not_begun(
     Ok(lowest_open(job, own, stop, firsts.as_slice()))
 }
 
-/// What a worker returns: its seat, and its results for the stretches that it claimed.
+/// The result of a worker: its seat, and its results for the stretches that it claimed.
 #[derive(Drop)]
 pub(crate) struct Served {
     pub(crate) seat: Seat,

@@ -15,9 +15,9 @@ use block_sim::Job;
 /// 0.42 s there for one part, 0.45 for 16 and 0.50 for 64.
 const PARTS_OF_A_WORKER: u32 = 4;
 
-/// Returns the number of stretches for this number of classes and workers: one for one worker, and
-/// for several a few times their number, so that all end at about the same time, but no more than
-/// there are classes.
+/// Returns the number of stretches for this number of classes and workers. One worker gets one
+/// stretch. Several get a few times their number, so that all end at about the same time, but no
+/// more than there are classes.
 pub(crate) fn stretches_for(classes: u32, workers: u32) -> u32
     ensures count { result ≡ stretches_for classes workers }
     ensures some { 0 < result }

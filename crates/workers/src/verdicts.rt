@@ -72,7 +72,7 @@ impl Verdicts {
     }
 
     /// Returns the number of pieces of work that were dropped because an earlier block of their
-    /// class detects.
+    /// class detects it.
     pub fn skipped(&self) -> u64
         ensures { result ≡ self.now.skipped }
     {
