@@ -27,7 +27,7 @@ pub(crate) fn count_class(job: &Job, workspace: &mut Workspace, class: u32, most
 }
 
 /// Counts the tests that detect the faults of a class. The count ends at `most`, so more tests may
-/// detect a class with `most`. It takes no memory and no thread.
+/// detect a class with `most`. It takes no memory and starts no thread.
 pub fn class_detections(job: &Job, workspace: &mut Workspace, class: u32, most: u32) -> u32
     requires class { class < length job.now.classes.representative }
     requires fits { HasRoom workspace.old job.now }

@@ -1,4 +1,4 @@
-//! How many tests of a list detect each fault.
+//! Counts the tests of a list that detect each fault.
 //!
 //! A test set that detects each fault several times also detects more of the defects that no fault
 //! model has (n-detect test sets: Ma, Franco and McCluskey, An Experimental Chip to Evaluate Test
