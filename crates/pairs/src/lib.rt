@@ -17,10 +17,10 @@ use patterns::{MAX_TESTS, PushFault, TestFault, Tests};
 use std::alloc::{AllocError, Global};
 
 /// Returns the launch-on-capture pairs of tests for a circuit, two tests for each: the test itself,
-/// and its capture test. That has the test's bits at the primary inputs, which are held, and in the
-/// scan cells the bits that the flip-flops capture under it (Bushnell and Agrawal, Essentials of
-/// Electronic Testing, chapter 12, on delay test). The result is a list of pairs for
-/// [`fault_model::Model::TransitionPairs`].
+/// and its capture test. The capture test has the same bits at the primary inputs, which are held.
+/// In the scan cells it has the bits that the flip-flops capture under the test (Bushnell and
+/// Agrawal, Essentials of Electronic Testing, chapter 12, on delay test). The result is a list of
+/// pairs for [`fault_model::Model::TransitionPairs`].
 ///
 /// # Errors
 ///
@@ -43,8 +43,8 @@ pub fn launch_pairs(alloc: Global, circuit: Circuit, tests: &Tests) -> Result<Te
     Ok(pair_rows(alloc, tests, &shown, held, from)?)
 }
 
-/// Returns two rows for each test: its own, and a row of its first bits, as many as are held, and
-/// then of the bits of its response from a place on.
+/// Returns two rows for each test: its own, and a row of its first `held` bits and then the bits of
+/// its response from a place on.
 fn pair_rows(
     alloc: Global,
     tests: &Tests,
