@@ -1,9 +1,9 @@
 //! Reasons why no test of a list detects a fault.
 //!
-//! To detect a fault a test has to activate it, that is to give its line the complement of the
-//! stuck bit, and to carry the difference along some path to an observer (Bushnell and Agrawal,
-//! Essentials of Electronic Testing, the chapter on combinational test generation). [`reasons`]
-//! returns for each undetected fault which of these is missing.
+//! To detect a fault a test has to activate it, which gives its line the complement of the stuck
+//! bit. The test also has to carry the difference along a path to an observer (Bushnell and
+//! Agrawal, Essentials of Electronic Testing, the chapter on combinational test generation).
+//! [`reasons`] returns for each undetected fault which of these is missing.
 #![tactic(auto)]
 
 mod finding;
@@ -19,6 +19,6 @@ pub enum Reason {
     /// No test of the list activates the fault: none gives the line the complement of the stuck
     /// bit, or under transition faults no pair launches the transition.
     NotActivated,
-    /// Some test activates the fault, and no observer shows it under any test.
+    /// A test activates the fault, and no observer shows it under any test.
     NotObserved,
 }
