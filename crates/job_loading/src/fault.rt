@@ -12,7 +12,7 @@ use workers::RunFault;
 /// An error of writing a report or a list.
 #[derive(Clone, Copy, Debug, PartialEq, Eq, Error)]
 pub enum ReportFault {
-    /// The output took nothing more: it has a beginning of the text.
+    /// The output took nothing more, after a beginning of the text.
     #[error("cannot write")]
     Write,
 }
@@ -41,7 +41,7 @@ pub enum SimFault {
     /// The run failed.
     #[error("{0}")]
     Run(RunFault),
-    /// The text was not written whole.
+    /// The text was not written in full.
     #[error("{0}")]
     Report(ReportFault),
     /// Memory ran out.

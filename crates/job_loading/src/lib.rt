@@ -1,7 +1,7 @@
-//! From the bytes of a bench file and a test file to a job, and from a job to its verdicts.
+//! From the files of a run to a job, and from a job to its verdicts.
 //!
 //! [`job_of`] reads a circuit and tests for it, lists the faults of a model and collapses them.
-//! [`run_watched`] runs such a job by workers in threads, under a gate that learns of the run.
+//! [`run_watched`] runs such a job by workers in threads, under a gate that observes the run.
 //! [`SimFault`] is the error of these calls, and of calls that go on to write.
 #![tactic(auto)]
 

@@ -17,14 +17,16 @@ use std::sync::Wait;
 use std::thread::Threads;
 use workers::parts_for;
 
-/// How many parts a run splits the fault classes into. The verdicts are the same for each.
+/// The number of parts into which a run splits the fault classes. The verdicts are the same for
+/// each.
 #[derive(Clone, Copy, Debug, PartialEq, Eq)]
 pub enum Split {
-    /// As many parts as serve the workers. The whole run is within the limit on pieces.
+    /// A number of parts that suits the workers. The whole run is within the limit on pieces.
     Whole,
     /// This number of parts. Each part is within the limit on pieces.
     Parts(u32),
-    /// As many parts as serve the workers, and more if a part would exceed the limit on pieces.
+    /// A number of parts that suits the workers, or more if a part would exceed the limit on
+    /// pieces.
     Fitting,
 }
 
@@ -52,7 +54,8 @@ pub fn least_parts(job: &Job) -> u32
     fewest_parts(job.classes().count(), job.tests().blocks())
 }
 
-/// Returns as many parts as serve `workers` workers, and more if a part would exceed the limit.
+/// Returns a number of parts that suits `workers` workers, or more if a part would exceed the
+/// limit.
 fn fitting_parts(job: &Job, workers: u32) -> u32
     ensures some { 0 < result }
     ensures within { ArePartsWithin job.now result }
@@ -60,11 +63,11 @@ fn fitting_parts(job: &Job, workers: u32) -> u32
     least_parts(job).max(parts_for(job, workers))
 }
 
-/// Reads the job of a bench text and a test text under a model, and returns it with the number of
+/// Reads the job of a bench file and a test file under a model, and returns it with the number of
 /// parts in which `workers` workers run it.
 ///
-/// It reads the texts as [`crate::job_of_in_threads`] does, by no more threads than there are
-/// workers. Only with [`Split::Whole`] does it look at the number of pieces.
+/// It reads the files as [`crate::job_of_in_threads`] does, in at most `workers` threads. Only with
+/// [`Split::Whole`] does it check the number of pieces.
 pub fn split_job_of<R: Threads + Wait>(
     rt: &R,
     alloc: Global,

@@ -30,8 +30,8 @@ pub fn job_of(alloc: Global, model: Model, bench: &[u8], tests: &[u8]) -> Result
     job_for(alloc, model, circuit, tests)
 }
 
-/// The job that [`job_of`] makes, with the same refusals, by no more threads than there are workers
-/// ([`read_tests_in_threads`], [`Job::new_in_threads`]).
+/// Reads the job as [`job_of`] does, with the same errors, in at most as many threads as there are
+/// workers ([`read_tests_in_threads`], [`Job::new_in_threads`]).
 pub fn job_of_in_threads<R: Threads + Wait>(
     rt: &R,
     alloc: Global,
@@ -62,8 +62,8 @@ pub fn job_of_any_size(
     Ok(make_any_job(alloc, model, circuit, tests)?)
 }
 
-/// The job that [`job_of_any_size`] makes, with the same refusals, by no more threads than there
-/// are workers ([`read_tests_in_threads`], [`Job::new_in_threads`]).
+/// Reads the job as [`job_of_any_size`] does, with the same errors, in at most as many threads as
+/// there are workers ([`read_tests_in_threads`], [`Job::new_in_threads`]).
 pub fn job_of_any_size_in_threads<R: Threads + Wait>(
     rt: &R,
     alloc: Global,
@@ -111,8 +111,7 @@ fn make_any_job_in_threads<R: Threads + Wait>(
     Job::of_any_size_in_threads(rt, alloc, circuit, faults, classes, tests, workers)
 }
 
-/// Reads the circuit of a bench file, and the tests for it of a test file. The bench file comes
-/// first.
+/// Reads the circuit of a bench file, and then the tests for it of a test file.
 pub fn read_inputs(alloc: Global, bench: &[u8], tests: &[u8]) -> Result<(Circuit, Tests), SimFault>
     ensures circuit { IfOk result (λ read. IsAccepted bench.now read.0) }
     ensures tests { IfOk result (λ read. HasTests tests.now (length (sources read.0)) read.1) }
@@ -124,8 +123,8 @@ pub fn read_inputs(alloc: Global, bench: &[u8], tests: &[u8]) -> Result<(Circuit
     Ok((circuit, tests))
 }
 
-/// The circuit and the tests that [`read_inputs`] reads, with the same refusals: the tests by no
-/// more threads than there are workers ([`read_tests_in_threads`]).
+/// Reads the circuit and the tests as [`read_inputs`] does, with the same errors, the tests in at
+/// most as many threads as there are workers ([`read_tests_in_threads`]).
 pub fn read_inputs_in_threads<R: Threads + Wait>(
     rt: &R,
     alloc: Global,
@@ -143,8 +142,8 @@ pub fn read_inputs_in_threads<R: Threads + Wait>(
     Ok((circuit, tests))
 }
 
-/// Makes the job of a circuit and of tests for it under a model. It fails only for its number of
-/// pieces, or for memory.
+/// Makes the job of a circuit and of tests for it under a model. Only its number of pieces, or
+/// memory, can make it fail.
 pub fn job_for(alloc: Global, model: Model, circuit: Circuit, tests: Tests) -> Result<Job, SimFault>
     requires { AreTestsFor circuit tests }
     ensures job { IfOk result (IsJobFor model circuit tests) }

@@ -1,4 +1,4 @@
-//! Runs under gates that learn of the whole run.
+//! Runs under gates that observe the whole run.
 
 ghost use Rattle.std.specs.Prelude.{◌<◌, ◌≤◌, IfErr, IfOk, OnOk};
 ghost use Rattle.workers.specs.Refused.{ArePartsWithin, IsPartsFault};
@@ -10,19 +10,19 @@ use std::sync::Wait;
 use std::thread::Threads;
 use workers::{Gate, OpenGate, RunFault, Verdicts, run_in_parts};
 
-/// The number of undetected faults of a run for each reason (the reasons are those of the crate
+/// The number of undetected faults of a run for each reason (the reasons of the crate
 /// `undetected`).
 #[derive(Clone, Copy, Debug, PartialEq, Eq)]
 pub struct ReasonCounts {
-    /// No observer is reached from the line of these faults.
+    /// Faults whose line reaches no observer.
     pub no_path: usize,
-    /// No test activates these.
+    /// Faults that no test activates.
     pub not_activated: usize,
-    /// Some test activates each of these, and none detects it.
+    /// Faults that a test activates and no test detects.
     pub not_observed: usize,
 }
 
-/// A gate that learns how much work a run has, and when that work is done.
+/// A gate that observes how much work a run has, and when that work is done.
 pub trait Watch: Gate {
     /// Begins the run: it has this number of fault classes, each on this number of blocks of 64
     /// tests.
@@ -31,15 +31,15 @@ pub trait Watch: Gate {
     /// Ends the run: all classes are settled. Nothing is written yet.
     fn ends(&self);
 
-    /// Takes the verdicts of a run of all classes, before anything of the text is written. A run of
-    /// one part has none.
+    /// Takes the verdicts of a run of all classes, before any text is written. A run of one part
+    /// doesn't call it.
     fn finds(&self, _job: &Job, _verdicts: &Verdicts)
         requires { AreFirsts _job.now.list.model _job.now.circuit _job.now.tests.tests
             _verdicts.now.firsts }
     {}
 
-    /// Takes how many of the undetected faults have each reason, before anything of the text is
-    /// written. Only a run that writes the reasons has them.
+    /// Takes the number of undetected faults for each reason, before any text is written. Only a
+    /// run that writes the reasons calls it.
     fn explains(&self, _counts: ReasonCounts) {}
 }
 
@@ -50,8 +50,8 @@ impl Watch for OpenGate {
 }
 
 /// Runs a job in a number of parts, by workers in threads of their own, as
-/// [`workers::run_in_parts`] does and with the same verdicts and refusals. It calls the gate when
-/// the run begins, when all is settled, and with the verdicts.
+/// [`workers::run_in_parts`] does and with the same verdicts and errors. It calls the gate when the
+/// run begins, when all is settled, and with the verdicts.
 pub fn run_watched<R: Threads + Wait, G: Watch + Sync>(
     rt: &R,
     alloc: Global,
