@@ -18,7 +18,7 @@ use std::alloc::{AllocError, Global};
 /// The result of checking the files of a run.
 #[derive(Drop)]
 pub enum Answer<'a> {
-    /// They are accepted. The text is a table of their sizes, and warnings.
+    /// Both are accepted. The text is a table of their sizes, and warnings.
     Accepted(String),
     /// The bench file has errors.
     BenchRefused(Findings<'a>),
@@ -45,7 +45,7 @@ pub fn check_texts<'a>(
     }
 }
 
-/// Returns the answer for a circuit.
+/// Returns the result for a circuit.
 fn answer_for<'a>(
     alloc: Global,
     model: Model,
@@ -67,7 +67,7 @@ fn answer_for<'a>(
     }
 }
 
-/// Returns the answer for a circuit and the bytes of a test file.
+/// Returns the result for a circuit and the bytes of a test file.
 fn answer_for_text<'a>(
     alloc: Global,
     model: Model,
@@ -83,7 +83,7 @@ fn answer_for_text<'a>(
     }
 }
 
-/// Returns the answer for a circuit and tests for it.
+/// Returns the result for a circuit and tests for it.
 fn answer_for_tests<'a>(
     alloc: Global,
     model: Model,

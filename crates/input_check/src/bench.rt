@@ -17,7 +17,7 @@ pub enum BenchCheck<'a> {
     Refused(Findings<'a>),
 }
 
-/// Reads a bench file, and finds all its errors if there is one. The first of them is the error of
+/// Reads a bench file, and lists all its errors if there is one. The first of them is the error of
 /// `bench_net::read_bench`.
 pub fn check_bench<'a>(alloc: Global, text: &'a [u8]) -> Result<BenchCheck<'a>, AllocError>
     ensures { IfOk result (IsBenchCheckOf text.now) }

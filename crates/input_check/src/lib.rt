@@ -2,8 +2,7 @@
 //! sizes of a circuit and its tests.
 //!
 //! [`check_texts`] does all of it. `bench_net` and `patterns` decide whether a file is accepted,
-//! and which of its errors is the first. The rest is a second look at its lines, by the crate
-//! `findings`.
+//! and which of its errors is the first. The crate `input_errors` then looks at its lines again.
 #![tactic(auto)]
 
 mod answer;

@@ -18,7 +18,7 @@ pub enum TestCheck<'a> {
     Refused(Findings<'a>),
 }
 
-/// Reads tests for a circuit, and finds all errors of their file if there is one. The first of them
+/// Reads tests for a circuit, and lists all errors of their file if there is one. The first of them
 /// is the error of `patterns::read_tests`.
 pub fn check_tests<'a>(
     alloc: Global,
