@@ -11,9 +11,9 @@ use indexmap::IndexSet;
 use std::alloc::{AllocError, Global};
 use text_lines::without_carriage_return;
 
-/// Finds the errors of a bench file, of which `bench_net::read_bench` reports this one. They come
-/// in the order of the search: lines, names defined again, names that no line defines, and cycles.
-/// Only memory can make it fail.
+/// Lists the errors of a bench file, whose first error, by `bench_net::read_bench`, is this one.
+/// They come in the order of the search: lines, names defined again, names that no line defines,
+/// and cycles. Only memory can make it fail.
 pub fn find_in_bench<'a>(
     alloc: Global,
     text: &'a [u8],
@@ -146,7 +146,7 @@ fn empty<'a>() -> Finding<'a> {
     }
 }
 
-/// Checks each line of a file, and reports those that are no statement.
+/// Checks each line of a file, and reports each one that is no statement.
 fn look_at_lines<'a>(
     alloc: Global,
     text: &'a [u8],

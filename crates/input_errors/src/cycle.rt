@@ -6,8 +6,8 @@ use std::alloc::{AllocError, Global};
 /// A cycle of gates.
 #[derive(Drop)]
 pub(crate) struct Cycle {
-    /// The gate that the error is reported at, by the number of its name: one that is on the cycle
-    /// or fed by it.
+    /// The gate at which the error is reported, by the number of its name: it is on the cycle or
+    /// fed by it.
     pub(crate) at: usize,
     /// The gates on the cycle: each feeds the next, and the last the first.
     pub(crate) gates: Vec<usize>,
@@ -18,7 +18,7 @@ pub(crate) struct Cycle {
 enum State {
     /// Unknown so far.
     New,
-    /// On the path from the gate where the search began.
+    /// On the path from the first gate of the search.
     Open,
     /// Done: the gates that feed it are known.
     Done,

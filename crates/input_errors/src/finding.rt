@@ -63,7 +63,7 @@ fn fmt_tests<W: fmt::Write>(fault: &TestFault, f: &mut Formatter<W>) -> fmt::Res
     }
 }
 
-/// An error of a file with the line where it is, and a note on it.
+/// An error of a file with its line and place, and a note on it.
 #[derive(Debug, Drop)]
 pub struct Finding<'a> {
     /// The error, which names the line.

@@ -131,7 +131,8 @@ fn only<'a>(word: Name<'a>, arguments: &[Name<'a>]) -> Result<Name<'a>, Stop<'a>
     }
 }
 
-/// Makes `INPUT ( n )` or `OUTPUT ( n )` from the word before the parenthesis and the arguments.
+/// Returns `INPUT ( n )` or `OUTPUT ( n )`, made of the word before the parenthesis and the
+/// arguments.
 fn port<'a>(
     alloc: Global,
     word: Name<'a>,
@@ -172,7 +173,8 @@ fn is_in(word: &str, list: &[&str]) -> bool {
     list.iter().any(|known| word.eq_ignore_ascii_case(*known))
 }
 
-/// Makes `q = DFF ( d )` or `n = KIND ( a , b , .. )` from the name, the word and the arguments.
+/// Returns `q = DFF ( d )` or `n = KIND ( a , b , .. )`, made of the name, the word and the
+/// arguments.
 fn driven<'a>(
     alloc: Global,
     name: Name<'a>,
@@ -200,7 +202,7 @@ fn driven<'a>(
 /// The words of ABC's constants.
 static CONSTANTS: [&str; 2] = ["vdd", "gnd"];
 
-/// Returns the statement of ABC that the word after `=` begins, if no bench file has it.
+/// Returns the statement of ABC that the word after `=` begins, if bench files don't have it.
 fn of_abc(line: &[u8], word: Name<'_>) -> Option<OfAbc> {
     match token_from(line, word.place.end()).token {
         Token::End if is_in(word.text, &CONSTANTS) => Some(OfAbc::Constant),

@@ -51,7 +51,7 @@ pub enum Note<'a> {
         name: &'a str,
         names: Vec<&'a str>,
     },
-    /// The number of what is past its limit.
+    /// A number that is past its limit.
     TooMany {
         found: usize,
         what: &'static str,

@@ -8,7 +8,7 @@ use patterns::{MAX_TESTS, TestFault};
 use std::alloc::{AllocError, Global};
 use text_lines::{Row, Rows, is_blank};
 
-/// Finds the errors of the rows of a test file, in their order. A row has a bit for each of the
+/// Lists the errors of the rows of a test file, in their order. A row has a bit for each of the
 /// inputs and then one for each of the flip-flops. Only memory can make it fail.
 pub fn find_in_tests<'a>(
     alloc: Global,
@@ -67,7 +67,7 @@ fn tell_too_many<'a>(rows: u32, found: &mut Found<'a>) -> Result<(), AllocError>
 struct PlacedRow<'a> {
     row: Row<'a>,
     line: &'a [u8],
-    /// The place where the row begins on the line.
+    /// The place of the row's first byte on the line.
     start: usize,
 }
 

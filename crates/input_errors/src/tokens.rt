@@ -71,7 +71,7 @@ pub(crate) struct Spot<'a> {
     pub(crate) place: Place,
 }
 
-/// Returns whether the byte may be in a word.
+/// Returns whether a word may have the byte.
 fn is_word_byte(byte: u8) -> bool {
     matches!(byte, 0x21..=0x7e) && !matches!(byte, b'(' | b')' | b',' | b'=' | b'#')
 }

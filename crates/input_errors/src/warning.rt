@@ -69,10 +69,10 @@ pub enum Warning<'a> {
     OutputTwice(NameList<'a>),
     /// There is no test.
     NoTest,
-    /// A test that is the same as one before it, both counted from 0, and how many more there are.
+    /// A test that equals an earlier one, both counted from 0, and how many more there are.
     SameTest { test: u32, as_test: u32, more: u64 },
-    /// A pair of tests that is the same as one before it, both named by the number of their first
-    /// test, and how many more there are.
+    /// A pair of tests that equals an earlier one, each with the number of its first test, and how
+    /// many more there are.
     SamePair { test: u32, as_test: u32, more: u64 },
     /// The last test, if tests are pairs and their number is odd.
     NoSecond { test: u32 },
@@ -116,7 +116,7 @@ impl Display for Warning<'_> {
     }
 }
 
-/// Writes that a pair is the same as one before it.
+/// Writes that a pair equals an earlier one.
 fn fmt_same_pair<W: fmt::Write>(
     test: u32,
     as_test: u32,
@@ -164,7 +164,7 @@ pub fn circuit_warnings<'a>(
     Ok(warnings)
 }
 
-/// Returns how many of the sinks are OUTPUT lines.
+/// Returns the number of sinks that are OUTPUT lines.
 fn output_lines(sinks: &[Sink]) -> usize {
     sinks
         .iter()
@@ -268,7 +268,7 @@ fn constant_sources<'a>(
     Ok(constant)
 }
 
-/// Returns how many tests have a 1 at a source.
+/// Returns the number of tests with a 1 at a source.
 fn ones_of(tests: &Tests, source: u32) -> u64
     requires { source < tests.now.width }
 {
@@ -344,8 +344,7 @@ fn push_test(tests: &Tests, test: u32, row: &mut Vec<u8>) -> Result<(), AllocErr
     Ok(())
 }
 
-/// The first unit that is the same as one before it, both by their numbers, and how many more there
-/// are.
+/// The first unit that equals an earlier one, both by their numbers, and how many more there are.
 #[derive(Clone, Copy)]
 struct Same {
     test: u32,
@@ -353,7 +352,7 @@ struct Same {
     more: u64,
 }
 
-/// Returns the first unit that is the same as one before it.
+/// Returns the first unit that equals an earlier one.
 fn first_same(alloc: Global, tests: &Tests, unit: Unit) -> Result<Option<Same>, AllocError> {
     let same = same_as_before(alloc, tests, unit)?;
     let Some(first) = same.iter().copied().min() else {
@@ -366,7 +365,7 @@ fn first_same(alloc: Global, tests: &Tests, unit: Unit) -> Result<Option<Same>, 
     }))
 }
 
-/// Returns each unit that is the same as one before it, with that one.
+/// Returns each unit that equals an earlier one, with the earlier one.
 fn same_as_before(alloc: Global, tests: &Tests, unit: Unit) -> Result<Vec<(u32, u32)>, AllocError> {
     let sums = sums_of(alloc, tests, unit)?;
     let mut same = Vec::new(alloc);
@@ -390,8 +389,7 @@ fn same_as_before(alloc: Global, tests: &Tests, unit: Unit) -> Result<Vec<(u32, 
     Ok(same)
 }
 
-/// Returns the numbers of all units, each with a sum that equal ones share, by the sums and then in
-/// their order.
+/// Returns the numbers of all units, sorted by a sum that equal units share, and then by number.
 fn sums_of(alloc: Global, tests: &Tests, unit: Unit) -> Result<Vec<(u64, u32)>, AllocError> {
     let mut sums = Vec::new(alloc);
     let mut row = Vec::new(alloc);
