@@ -1,5 +1,4 @@
-//! Byte outputs: they report how much of a piece they took and count their failures. Calls put
-//! whole texts.
+//! Byte outputs: they return how much of a piece they took, and count their failures.
 #![tactic(auto)]
 
 ghost use Rattle.std.specs.List.{flat_map};
@@ -18,11 +17,12 @@ pub struct OutFailed;
 
 /// An output of bytes, which counts its failures.
 pub trait Out {
-    // The bytes that it has taken, if it records them, and how many of its calls failed, or took
-    // nothing of a piece that isn't empty. The number stays at the greatest u64.
+    // The bytes that it has taken, if it records them, and the number of its failures, up to the
+    // greatest u64. A call fails if it returns an error, or takes nothing of a piece that isn't
+    // empty.
     ghost seen: { Self → Output };
 
-    /// Takes a front part of the piece and returns its length; an error took nothing.
+    /// Takes a front part of the piece and returns its length; with an error it took nothing.
     fn put(&mut self, piece: &[u8]) -> Result<usize, OutFailed>
         ensures within { IfOk result (λ n. n ≤ length piece.now) }
         ensures taken { WriteAppends (seen self.old).bytes (seen self.new).bytes result piece.now }
@@ -30,7 +30,7 @@ pub trait Out {
             ≡ fails_after (seen self.old).fails (is_refusal result piece.now) };
 }
 
-/// The output over a writer of std, by one `write` a call. It records the bytes that the writer
+/// An output over a writer of std, by one `write` a call. It records the bytes that the writer
 /// records: over a vector, the bytes of the vector.
 #[derive(Drop)]
 pub struct Plain<W> {
