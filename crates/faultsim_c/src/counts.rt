@@ -1,4 +1,4 @@
-//! The call that counts how many tests detect classes.
+//! The call that counts the tests that detect classes.
 
 ghost use Rattle.std.specs.Prelude.{◌≡◌, ◌≢◌, ◌<◌, All, None, Some, length};
 ghost use Rattle.block_sim.specs.Parts.{Parts};
@@ -10,8 +10,7 @@ use crate::session::Session;
 use crate::status::{DONE, NO_JOB, RANGE};
 use std::alloc::Global;
 
-/// Counts the tests that detect each class of a list. No more than `most` are counted of a class.
-/// The lengths are equal.
+/// Counts the tests that detect each class of a list, each up to `most`. The lengths are equal.
 #[unsafe(no_mangle)]
 pub extern "C" fn fs_detections(
     alloc: Global,

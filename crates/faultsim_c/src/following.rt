@@ -1,4 +1,4 @@
-//! New tests behind the last test of a job, so that the pair over the edge isn't lost.
+//! New tests after the last test of a job, so that the pair of both isn't lost.
 
 ghost use Rattle.std.specs.Prelude.{◌≡◌, ◌+◌, ◌<◌, ◌≤◌, ◌++◌, ◌∷◌, [], IfErr, IfOk, OnOk, length};
 ghost use Rattle.std.specs.Prelude.{slice_index_or};
@@ -10,7 +10,7 @@ use crate::status::Refusal;
 use patterns::{MAX_TESTS, PushFault, Tests, WordsFault};
 use std::alloc::{AllocError, Global};
 
-/// The last of some tests, if there is one, and other tests behind it.
+/// Returns the last test of `old`, if there is one, and the tests of `new` after it.
 pub(crate) fn behind_last(alloc: Global, old: &Tests, new: &Tests) -> Result<Tests, Refusal>
     requires { old.now.width ≡ new.now.width }
     ensures tests { IfOk result (λ tests. tests.tests ≡ behind_last old.now.tests new.now.tests) }
@@ -28,7 +28,7 @@ pub(crate) fn behind_last(alloc: Global, old: &Tests, new: &Tests) -> Result<Tes
     Ok(tests)
 }
 
-/// How many tests stand before the new ones: 1, or 0 if there is none.
+/// Returns the number of tests before the new ones: 1, or 0 if there is none.
 fn kept_count(old: &Tests) -> u32
     ensures count { result ≡ length (last_of old.now.tests) }
     ensures few { result ≤ 1 }
@@ -39,7 +39,7 @@ fn kept_count(old: &Tests) -> u32
     0
 }
 
-/// The last of some tests alone, if there is one.
+/// Returns only the last test of a list, if there is one.
 fn last_alone(alloc: Global, tests: &Tests) -> Result<Tests, AllocError>
     ensures rows { IfOk result (λ last. last.tests ≡ last_of tests.now.tests) }
     ensures list { IfOk result (λ last. IsTestList last) }
@@ -53,7 +53,7 @@ fn last_alone(alloc: Global, tests: &Tests) -> Result<Tests, AllocError>
     Ok(last)
 }
 
-/// Adds a test of a list to another list of the same width, where there is room for it.
+/// Adds a test of a list to another list of the same width, if it has room.
 fn push_test(alloc: Global, tests: &Tests, test: u32, list: &mut Tests) -> Result<(), AllocError>
     requires test { test < length tests.now.tests }
     requires width { list.old.width ≡ tests.now.width }
@@ -68,7 +68,7 @@ fn push_test(alloc: Global, tests: &Tests, test: u32, list: &mut Tests) -> Resul
     push_row(alloc, &row, list)
 }
 
-/// Adds a row of the right width, where there is room for one.
+/// Adds a row of the right width, if there is room for it.
 fn push_row(alloc: Global, row: &[bool], list: &mut Tests) -> Result<(), AllocError>
     requires room { length list.old.tests < max_tests }
     requires width { length row.now ≡ list.old.width }

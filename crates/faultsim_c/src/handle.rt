@@ -29,7 +29,7 @@ fn none(alloc: Global) -> FsJob
     }
 }
 
-/// Takes out of a handle what it has, if it has a job.
+/// Takes the contents out of a handle, if it has a job.
 pub(crate) fn take(alloc: Global, job: &mut FsJob) -> Option<Box<Holding>>
     ensures some { IfSome result (λ h. job.old.held.holding ≡ Some h.value) }
     ensures job { IfSome result (λ h. job_of job.old.held.holding ≡ Some h.value.session) }
@@ -45,7 +45,7 @@ pub(crate) fn take(alloc: Global, job: &mut FsJob) -> Option<Box<Holding>>
     }
 }
 
-/// Puts something into a handle, and frees what the handle had.
+/// Puts contents into a handle, and frees its earlier ones.
 pub(crate) fn put(alloc: Global, job: &mut FsJob, holding: Box<Holding>)
     ensures { job.new.held.holding ≡ Some holding.value }
 {

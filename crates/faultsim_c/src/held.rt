@@ -1,4 +1,4 @@
-//! What a handle holds.
+//! The pointer in a handle.
 
 ghost use Rattle.std.specs.Prelude.{◌≡◌, Option, Some, None};
 ghost use Rattle.faultsim_c.specs.Held.{Value, held_by, value_coded};
@@ -9,8 +9,8 @@ use std::alloc::Global;
 use std::marker::Model;
 use std::ptr::null_mut;
 
-/// A pointer that owns what the handle has, or null. Its type names no type of this library, so
-/// that it crosses to C.
+/// A pointer that owns the contents of a handle, or null. Its type names no type of this library,
+/// so that it crosses to C.
 #[repr(C)]
 pub struct Held {
     at: *mut u8,
@@ -33,7 +33,7 @@ impl Held {
         }
     }
 
-    /// Holds what a handle has.
+    /// Holds the contents of a handle.
     pub(crate) fn of(taken: Taken<Holding, Global>) -> Held
         ensures { result.holding ≡ Some taken.value }
     {
@@ -64,5 +64,5 @@ impl Held {
     }
 }
 
-// What a handle holds may go to another thread because the job and its room may.
+// A handle's contents may go to another thread because the job and its room may.
 unsafe impl Send for Held {}

@@ -1,4 +1,4 @@
-//! What a handle has: a session, and whether no other handle shares its job.
+//! The contents of a handle: a session, and whether no other handle shares its job.
 
 ghost use Rattle.std.specs.Prelude.{◌≡◌, IfErr, IfOk, length};
 ghost use Rattle.bench_net.specs.Scan.{sources};
@@ -13,16 +13,16 @@ use crate::session::Session;
 use crate::status::Refusal;
 use std::alloc::{AllocError, Global};
 
-/// What a handle has.
+/// The contents of a handle.
 #[derive(Drop)]
 pub(crate) struct Holding {
     pub(crate) session: Session,
-    /// Whether no other handle was given the job since it was read, or since it last took tests.
+    /// True if no other handle was given the job since it was read, or since it last took tests.
     pub(crate) alone: bool,
 }
 
 impl Holding {
-    /// Makes what another handle of the same job has. Neither handle is alone then.
+    /// Makes the contents of another handle of the same job. Both handles then share the job.
     pub(crate) fn share(&mut self, alloc: Global) -> Result<Box<Holding>, AllocError>
         ensures other { IfOk result (λ other. other.value ≡ shared_with self.old.session) }
         ensures shared { IfOk result (λ _. self.new ≡ shared_with self.old.session) }
@@ -35,7 +35,7 @@ impl Holding {
         Ok(other)
     }
 
-    /// Takes tests in words in place of the job's.
+    /// Replaces the job's tests with tests in words.
     pub(crate) fn set_words(
         &mut self,
         alloc: Global,
@@ -54,7 +54,7 @@ impl Holding {
         Ok(())
     }
 
-    /// Takes tests in words in place of the job's, behind the last of those.
+    /// Replaces the job's tests with their last one and then tests in words.
     pub(crate) fn next_words(
         &mut self,
         alloc: Global,
@@ -74,7 +74,7 @@ impl Holding {
         Ok(())
     }
 
-    /// Takes the tests of a text in place of the job's.
+    /// Replaces the job's tests with the tests of a test file.
     pub(crate) fn set_text(&mut self, alloc: Global, text: &[u8]) -> Result<(), Refusal>
         ensures done { IfOk result (λ _. (tests : TestList)
             × HasTests text.now (length (sources self.old.session.circuit)) tests
@@ -89,10 +89,11 @@ impl Holding {
     }
 }
 
-/// What a handle has may go to another thread: each has room of its own, and all have one job.
+/// States that the contents of a handle may go to another thread: each has room of its own, and all
+/// share one job.
 pub(crate) fn may_cross(holding: &Holding) {
     is_send(holding)
 }
 
-/// Takes what may go to another thread.
+/// Takes a value that may go to another thread.
 pub(crate) fn is_send<T: Send>(_value: &T) {}

@@ -2,8 +2,8 @@
 //!
 //! A handle is taken apart at the start of a call and put together at its end, so that the code
 //! between is safe. A call returns a status: 0 if it is done, 1 for a handle without a job, 2 if
-//! memory ran out, 3 for a wrong text or wrong words, 4 for a number or a length out of range, and
-//! 5 for a job that another handle shares.
+//! memory ran out, and 3 for a wrong file or wrong words. The status is 4 for a number or a length
+//! out of range, and 5 for a job that another handle shares.
 #![tactic(auto)]
 
 ghost use Rattle.std.specs.Prelude.{◌≡◌, ◌≢◌, ◌↔◌, ◌⊎◌, ◌<◌, ◌≤◌, All, IfNone, IfSome};
@@ -47,7 +47,7 @@ use session::Session;
 use status::{DONE, FsFault, MEMORY, NO_JOB, RANGE, tell};
 use std::alloc::Global;
 
-/// How large a job is.
+/// The sizes of a job.
 #[repr(C)]
 #[derive(Clone, Copy, Debug)]
 pub struct FsSizes {
@@ -55,13 +55,13 @@ pub struct FsSizes {
     pub sources: u32,
     /// Signals.
     pub signals: u32,
-    /// Faults before collapsing.
+    /// Faults of the uncollapsed list.
     pub faults: u32,
     /// Equivalence classes of faults.
     pub classes: u32,
     /// Tests.
     pub tests: u32,
-    /// Blocks of 64 tests; the last may be short.
+    /// Blocks of 64 tests; the last may have fewer.
     pub blocks: u32,
 }
 
@@ -76,7 +76,7 @@ pub extern "C" fn fs_version() -> u32
     VERSION
 }
 
-/// Frees what a handle has, and leaves zeros.
+/// Frees the contents of a handle, and leaves zeros.
 #[unsafe(no_mangle)]
 pub extern "C" fn fs_job_free(alloc: Global, job: &mut FsJob)
     ensures { job.new.held.holding ≡ None }
@@ -166,7 +166,7 @@ pub extern "C" fn fs_sizes_of(alloc: Global, job: &mut FsJob, sizes: &mut FsSize
     DONE
 }
 
-/// Returns how large the job of a session is.
+/// Returns the sizes of the job of a session.
 fn sizes_of(session: &Session) -> FsSizes
     ensures { AreSizes session.now result }
 {
@@ -181,7 +181,7 @@ fn sizes_of(session: &Session) -> FsSizes
     }
 }
 
-/// Takes tests in words in place of the job's: for each block one for each source.
+/// Replaces the job's tests with tests in words: for each block one word for each source.
 #[unsafe(no_mangle)]
 pub extern "C" fn fs_set_words(
     alloc: Global,
@@ -217,8 +217,8 @@ pub extern "C" fn fs_set_words(
     }
 }
 
-/// Takes tests in words in place of the job's, behind the last of those: that is test 0 then, and
-/// the pair of it and the first new test isn't lost. If the job has no tests, all are new.
+/// Replaces the job's tests with their last one and then tests in words. The last test becomes test
+/// 0, so its pair with the first new test isn't lost. If the job has no tests, all are new.
 #[unsafe(no_mangle)]
 pub extern "C" fn fs_next_words(
     alloc: Global,
@@ -256,7 +256,7 @@ pub extern "C" fn fs_next_words(
     }
 }
 
-/// Takes the tests of a text in place of the job's.
+/// Replaces the job's tests with the tests of a test file.
 #[unsafe(no_mangle)]
 pub extern "C" fn fs_set_text(
     alloc: Global,
@@ -426,7 +426,7 @@ fn detecting_in(session: &mut Session, class: u32, block: u32, lanes: &mut u64) 
     DONE
 }
 
-/// Writes the first test of a text that detects each fault of a circuit, without a handle. If
+/// Writes the first test of a test file that detects each fault of a circuit, without a handle. If
 /// `firsts` has a length other than the number of faults, the status is 4, and `faults` is that
 /// number.
 #[unsafe(no_mangle)]
@@ -485,7 +485,7 @@ fn firsts_in(alloc: Global, session: &mut Session, firsts: &mut [u32], faults: &
     }
 }
 
-/// A handle may go to another thread, because what it holds may.
+/// States that a handle may go to another thread, because its contents may.
 pub fn may_go(job: &FsJob) {
     is_send(job)
 }

@@ -12,9 +12,9 @@ use bench_net::{Circuit, ScanCell};
 use block_sim::Job;
 use std::alloc::Global;
 
-/// Writes the signal of each observer, and in `wanted` how many observers there are: the OUTPUT
-/// lines in order, and then the data pins of the flip-flops, in the order of the DFF lines. If the
-/// array has less room than that, the status is 4, and `wanted` is the room that it needs.
+/// Writes the signal of each observer, and in `wanted` the number of observers. The order is: the
+/// OUTPUT lines, and then the data pins of the flip-flops, in the order of the DFF lines. If the
+/// array has less room, the status is 4, and `wanted` is the room that it needs.
 #[unsafe(no_mangle)]
 pub extern "C" fn fs_observers_of(
     alloc: Global,
@@ -63,7 +63,7 @@ fn fill_observers(circuit: &Circuit, signals: &mut [u32])
 }
 
 /// Writes the fault-free values of the observers: for each block of 64 tests a word for each
-/// observer. The length is the number of blocks times that of observers.
+/// observer. The length is the number of blocks times the number of observers.
 #[unsafe(no_mangle)]
 pub extern "C" fn fs_responses(alloc: Global, job: &mut FsJob, words: &mut [u64]) -> u32
     ensures done { (parts : Parts) → job_of job.old.held.holding ≡ Some parts
@@ -106,14 +106,14 @@ fn responses_in(job: &Job, words: &mut [u64]) -> u32
     DONE
 }
 
-/// The number of observers.
+/// Returns the number of observers.
 fn observer_count(circuit: &Circuit) -> usize
     ensures { result ≡ length (observed circuit.now) }
 {
     circuit.outputs().len() + circuit.scan_cells().len()
 }
 
-/// The signal of an observer.
+/// Returns the signal of an observer.
 fn observer_at(circuit: &Circuit, place: usize) -> u32
     requires { place < length (observed circuit.now) }
     ensures signal { result ≡ slice_index (observed circuit.now) place }
@@ -129,7 +129,7 @@ fn observer_at(circuit: &Circuit, place: usize) -> u32
     }
 }
 
-/// The flip-flop at a place.
+/// Returns the flip-flop at a place.
 fn cell_at(cells: &[ScanCell], place: usize) -> ScanCell
     requires { place < length cells.now }
     ensures { slice_get cells.now place ≡ Some result }

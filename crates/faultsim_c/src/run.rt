@@ -45,7 +45,7 @@ pub(crate) fn fault_firsts(
     Ok(())
 }
 
-/// Writes first tests as their numbers, as many as there is room for.
+/// Writes first tests as their numbers, as far as there is room.
 fn tell_firsts(found: &[Option<u32>], firsts: &mut [u32])
     requires { length firsts.old ≡ length found.now }
     ensures { AreFirstNumbers found.now firsts.new }
@@ -65,7 +65,7 @@ fn tell_verdicts(verdicts: &Verdicts, firsts: &mut [u32])
     }
 }
 
-/// The first test at a place.
+/// Returns the first test at a place.
 fn first_at(found: &[Option<u32>], place: usize) -> Option<u32>
     ensures { result ≡ slice_index_or found.now place None }
 {
@@ -75,7 +75,7 @@ fn first_at(found: &[Option<u32>], place: usize) -> Option<u32>
     }
 }
 
-/// The number that stands for a first test, or that there is none.
+/// Returns the number that stands for a first test, or for none.
 fn first_number(first: Option<u32>) -> u32
     ensures { result ≡ first_number first }
 {

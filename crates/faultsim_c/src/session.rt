@@ -1,4 +1,4 @@
-//! What a handle stands for: a job with room to simulate it.
+//! The session of a handle: a job with room to simulate it.
 
 ghost use Rattle.std.specs.Prelude.{◌≡◌, ◌<◌, All, IfErr, IfOk, length};
 ghost use Rattle.bench_net.specs.Circuit.{IsCircuit};
@@ -29,7 +29,7 @@ use std::marker::Model;
 use std::sync::Arc;
 use workers::{ListRunner, Verdicts};
 
-/// A job, which sessions of several threads share, and room of one's own to simulate it.
+/// A job, which sessions of several threads share, and the session's own room to simulate it.
 #[derive(Drop)]
 pub(crate) struct Session {
     job: Arc<Job>,
@@ -104,14 +104,14 @@ impl Session {
         })
     }
 
-    /// The job.
+    /// Returns the job.
     pub(crate) fn job(&self) -> &Job
         ensures { result.now ≡ self.now }
     {
         &self.job
     }
 
-    /// Takes tests in words in place of the job's.
+    /// Replaces the job's tests with tests in words.
     pub(crate) fn set_words(
         &mut self,
         alloc: Global,
@@ -130,7 +130,7 @@ impl Session {
         self.set_tests(alloc, alone, tests)
     }
 
-    /// Takes tests in words in place of the job's, behind the last of those.
+    /// Replaces the job's tests with their last one and then tests in words.
     pub(crate) fn next_words(
         &mut self,
         alloc: Global,
@@ -150,7 +150,7 @@ impl Session {
         self.set_tests(alloc, alone, tests)
     }
 
-    /// Takes the tests of a text in place of the job's.
+    /// Replaces the job's tests with the tests of a test file.
     pub(crate) fn set_text(
         &mut self,
         alloc: Global,
@@ -168,7 +168,7 @@ impl Session {
         self.set_tests(alloc, alone, tests)
     }
 
-    /// Takes tests in place of the job's, unless another session has the job.
+    /// Replaces the job's tests, unless another session shares the job.
     fn set_tests(&mut self, alloc: Global, alone: bool, tests: Tests) -> Result<(), Refusal>
         requires tests { IsTestList tests }
         requires width { tests.width ≡ length (sources self.old.circuit) }
@@ -179,7 +179,7 @@ impl Session {
         replace_tests(alloc, alone, &mut self.job, tests)
     }
 
-    /// The lanes of a block whose tests detect a class.
+    /// Returns the lanes of a block whose tests detect a class.
     pub(crate) fn detecting(&mut self, class: u32, block: u32) -> u64
         requires class { class < length self.old.classes.representative }
         requires block { block < blocks (length self.old.tests.tests) }
@@ -190,7 +190,7 @@ impl Session {
         detecting(&self.job, &mut self.workspace, class, block)
     }
 
-    /// How many tests detect a class. Counting ends at `most`.
+    /// Returns the number of tests that detect a class. Counting ends at `most`.
     pub(crate) fn detections(&mut self, class: u32, most: u32) -> u32
         requires { class < length self.old.classes.representative }
         ensures count { (f : Fault) → IsClassOf self.old.list.model self.old.circuit f class
@@ -200,7 +200,7 @@ impl Session {
         class_detections(&self.job, &mut self.workspace, class, most)
     }
 
-    /// The first test that detects each class of a list, or none.
+    /// Returns the first test that detects each class of a list, or none.
     pub(crate) fn first_tests(
         &mut self,
         alloc: Global,
@@ -214,7 +214,7 @@ impl Session {
         self.runner.first_tests(alloc, &self.job, classes)
     }
 
-    /// The verdicts on all faults.
+    /// Returns the verdicts on all faults.
     pub(crate) fn verdicts(&mut self, alloc: Global) -> Result<Verdicts, AllocError>
         ensures firsts { IfOk result (λ verdicts. AreFirsts self.old.list.model
             self.old.circuit self.old.tests.tests verdicts.firsts) }
@@ -224,10 +224,11 @@ impl Session {
     }
 }
 
-/// Takes tests in place of a job's, unless another session has the job.
+/// Replaces a job's tests, unless another session shares the job.
 ///
-/// `Arc::get_mut` promises nothing of when it gives none. If it gave none of a job that one session
-/// alone has, the answer would be that memory ran out, and not that another one shares the job.
+/// The contract of `Arc::get_mut` doesn't say when it returns none. If it returned none for a job
+/// of only one session, this call would report that memory ran out, and not that another session
+/// shares the job.
 fn replace_tests(
     alloc: Global,
     alone: bool,

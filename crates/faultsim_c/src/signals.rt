@@ -96,8 +96,8 @@ fn word_in(job: &Job, block: u32, signal: u32, word: &mut u64) -> u32
     DONE
 }
 
-/// Writes the name of a signal, and how many bytes it has. If the text has less room than that, the
-/// status is 4, and `wanted` is the room that it needs.
+/// Writes the name of a signal, and the number of its bytes. If `text` has less room, the status is
+/// 4, and `wanted` is the room that it needs.
 #[unsafe(no_mangle)]
 pub extern "C" fn fs_name_of(
     alloc: Global,

@@ -1,4 +1,4 @@
-//! What a call reports to C: a status, and why a text or words are wrong.
+//! The report of a call to C: a status, and the error of a file or of words.
 
 ghost use Rattle.std.specs.Prelude.{◌≡◌, ◌≢◌};
 ghost use Rattle.faultsim_c.specs.Statuses.{error_numbers, status_number};
@@ -8,23 +8,23 @@ use patterns::{TestFault, WordsFault};
 use std::alloc::{AllocError, AllocFailed};
 use thiserror::Error;
 
-/// In place of a first test if no test detects.
+/// The number that stands for no first test.
 pub(crate) const NONE: u32 = u32::MAX;
 
-/// The call did what it is for.
+/// The call is done.
 pub(crate) const DONE: u32 = 0;
 /// The handle has no job.
 pub(crate) const NO_JOB: u32 = 1;
 /// Memory ran out.
 pub(crate) const MEMORY: u32 = 2;
-/// A text or words are wrong: the fault says why.
+/// A file or words are wrong: the error is in [`FsFault`].
 pub(crate) const REFUSED: u32 = 3;
-/// A number is out of range, or an array has a length other than it must have.
+/// A number is out of range, or an array has a wrong length.
 pub(crate) const RANGE: u32 = 4;
 /// Another handle shares the job.
 pub(crate) const SHARED: u32 = 5;
 
-/// Why a text or words are wrong: a kind, and a place that depends on it.
+/// The error of a file or of words: a kind, and a place that depends on it.
 #[repr(C)]
 #[derive(Clone, Copy, Debug)]
 pub struct FsFault {
@@ -34,7 +34,7 @@ pub struct FsFault {
     pub place: u64,
 }
 
-/// Why a call isn't done.
+/// The reason why a call isn't done.
 #[derive(Clone, Copy, Debug, PartialEq, Eq, Error)]
 pub(crate) enum Refusal {
     #[error("{0}")]
@@ -93,7 +93,7 @@ impl From<AllocError> for Refusal {
     }
 }
 
-/// Returns the kind and the place of a refusal.
+/// Returns the kind and the place of an error.
 fn fault_of(refusal: Refusal) -> FsFault
     ensures { result ≡ error_numbers refusal }
 {
@@ -135,7 +135,7 @@ fn status_of_refusal(refusal: Refusal) -> u32
     }
 }
 
-/// Reports a refusal: `fault` is written only if the status is [`REFUSED`].
+/// Returns the status of an error: `fault` is written only if the status is [`REFUSED`].
 pub(crate) fn tell(refusal: Refusal, fault: &mut FsFault) -> u32
     ensures status { result ≡ status_number refusal }
     ensures fault { result ≡ 3 → fault.new ≡ error_numbers refusal }

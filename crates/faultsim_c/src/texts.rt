@@ -17,8 +17,8 @@ use block_sim::Job;
 use report::{Contents, Lines, Plain, write_fault, write_report_with};
 use std::alloc::{AllocError, Global};
 
-/// Writes the name of a fault, as the report and the listing write it, and the number of its bytes.
-/// If the text has less room than that, the status is 4, and `wanted` is the room that it needs.
+/// Writes the name of a fault, as a report writes it, and the number of its bytes. If `text` has
+/// less room, the status is 4, and `wanted` is the room that it needs.
 #[unsafe(no_mangle)]
 pub extern "C" fn fs_fault_text(
     alloc: Global,
@@ -66,7 +66,7 @@ fn fault_text_in(alloc: Global, job: &Job, fault: u32, text: &mut [u8], wanted: 
     }
 }
 
-/// The name of a fault of a job.
+/// Returns the name of a fault of a job.
 fn bytes_of_fault(alloc: Global, job: &Job, fault: u32) -> Result<Vec<u8>, AllocError>
     requires { fault < length job.now.list.list }
     ensures { (f : Fault) → slice_get (faults job.now.list.model job.now.circuit) fault ≡ Some f
@@ -76,16 +76,16 @@ fn bytes_of_fault(alloc: Global, job: &Job, fault: u32) -> Result<Vec<u8>, Alloc
     let mut out = Plain::new(Vec::new(alloc));
     match write_fault(job, fault, &mut out) {
         Ok(()) => Ok(out.into_writer()),
-        // A vector refuses bytes for want of memory alone.
+        // Only memory can make a vector fail.
         Err(_) => Err(AllocError),
     }
 }
 
-/// Writes the report of a run with the job's tests, and how many bytes it has. If the text has less
-/// room than that, the status is 4, and `wanted` is the room that it needs.
+/// Writes the report of a run with the job's tests, and the number of its bytes. If `text` has less
+/// room, the status is 4, and `wanted` is the room that it needs.
 ///
-/// `lines` is 0 for a report with no line for a fault, 1 with one for each, and 2 with one for each
-/// that no test detects. With `classes` a last line has the coverage of the classes.
+/// `lines` is 0 for a report without fault lines, 1 with a line for each fault, and 2 with a line
+/// for each undetected fault. With `classes` a last line has the coverage of the classes.
 #[unsafe(no_mangle)]
 pub extern "C" fn fs_report(
     alloc: Global,
@@ -158,7 +158,7 @@ fn lines_of(lines: u32) -> Option<Lines>
     }
 }
 
-/// The report of a session.
+/// Returns the report of a session.
 fn bytes_of_report(
     alloc: Global,
     session: &mut Session,
@@ -173,7 +173,7 @@ fn bytes_of_report(
     let mut out = Plain::new(Vec::new(alloc));
     match write_report_with(session.job(), &verdicts, contents, &mut out) {
         Ok(()) => Ok(out.into_writer()),
-        // A vector refuses bytes for want of memory alone.
+        // Only memory can make a vector fail.
         Err(_) => Err(AllocError),
     }
 }
