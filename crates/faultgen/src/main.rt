@@ -6,7 +6,7 @@ use generator::run_arguments;
 use report::Plain;
 use std::process::ExitCode;
 
-/// Does what the command line asks for, and ends with its status.
+/// Runs the command line, and ends with its status.
 fn main(rt: HostRuntime) -> ExitCode {
     let mut out = Plain::new(rt.stdout());
     let mut err = Plain::new(rt.stderr());
