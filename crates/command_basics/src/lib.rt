@@ -1,5 +1,5 @@
-//! What the programs of a command line share: where their files come from, the names of the fault
-//! models, and the statuses that they end with.
+//! The common base of the programs: the files that they read and write, the names of the fault
+//! models, and the statuses with which they end.
 #![tactic(auto)]
 
 mod models;

@@ -1,16 +1,16 @@
-//! Where the program's texts come from.
+//! The files that the programs read and write.
 
 use std::alloc::Global;
 use std::io::ErrorKind;
 use std::os::unix::fs::{FileTypeExt, MetadataExt};
 use std::{fs, rt};
 
-/// Why a text could not be had.
+/// The reason why a file is not read.
 #[derive(Clone, Copy, Debug, PartialEq, Eq)]
 pub enum SourceFault {
-    /// It cannot be read, for whatever cause but want of memory.
+    /// It cannot be read, for any cause but memory.
     Unreadable,
-    /// There is no room for it.
+    /// There is no memory for it.
     Memory,
 }
 
@@ -18,36 +18,35 @@ pub enum SourceFault {
 #[derive(Clone, Copy, Debug, PartialEq, Eq)]
 pub struct WriteFault;
 
-/// What a stream is known by: its device, and its number there.
+/// The identity of a stream: its device, and its number there.
 #[derive(Clone, Copy, Debug, PartialEq, Eq)]
 pub struct Stream {
     pub device: u64,
     pub number: u64,
 }
 
-/// What the program sees of the system: the text at a path, whole; files that it writes; a clock.
+/// The system as the programs see it: the bytes at a path, files that they write, and a clock.
 pub trait Source {
     /// Returns the bytes at a path.
     fn read(&mut self, alloc: Global, path: &str) -> Result<Vec<u8>, SourceFault>;
 
-    /// Returns the stream at a path, if what is there can be read only once and has a device and a
-    /// number.
+    /// Returns the stream at a path, if it can be read only once and has a device and a number.
     fn stream(&self, _path: &str) -> Option<Stream> {
         None
     }
 
-    /// Writes a text to the file at a path, in place of what is there.
+    /// Writes a file at a path, in place of what is there.
     fn write(&mut self, _path: &str, _text: &[u8]) -> Result<(), WriteFault> {
         Err(WriteFault)
     }
 
-    /// The milliseconds since some moment that stays the same, if there is a clock.
+    /// Returns the milliseconds since a fixed moment, if there is a clock.
     fn milliseconds(&self) -> Option<u64> {
         None
     }
 }
 
-/// Returns whether a path is that of the standard input: `-`, or a name that the system has for it.
+/// Returns whether a path names the standard input: `-`, or a name that the system has for it.
 pub fn is_standard_input(path: &str) -> bool {
     matches!(path, "-" | "/dev/stdin" | "/dev/fd/0" | "/proc/self/fd/0")
 }

@@ -1,4 +1,4 @@
-//! The statuses that programs end with.
+//! The exit statuses of the programs.
 
 ghost use Rattle.std.specs.Prelude.{◌<◌, ◌≤◌};
 
@@ -7,20 +7,21 @@ use block_sim::JobFault;
 use patterns::{OrderFault, TestFault};
 use report::{ReportFault, RunFault, SimFault};
 
-/// The status of a command that was done.
+/// The status of a command that is done.
 pub const DONE: u8 = 0;
 
-/// The status of a refused text.
+/// The status of a file with an error.
 pub const REFUSED: u8 = 1;
 
-/// The status of a refused command line.
+/// The status of a command line with an error.
 pub const MISUSED: u8 = 2;
 
-/// The status of a file, an output, memory or a thread that is refused.
+/// The status of a file that cannot be read or written, an output that fails, or missing memory or
+/// threads.
 pub const FAILED: u8 = 3;
 
-/// Returns the status of a text call's fault: 1 where a text is refused, 2 where the number of
-/// workers is, and 3 where the output, memory or a thread is, or where the run did not end.
+/// Returns the status of an error: 1 for an error of a file, and 2 for a wrong number of workers.
+/// It is 3 if the output fails, if memory or a thread is missing, and if the run did not end.
 pub fn status_of(fault: &SimFault) -> u8
     ensures failed { 0 < result }
     ensures few { result ≤ 3 }
