@@ -1,22 +1,22 @@
-//! Circuits of bench texts: what each call of `Circuit` answers.
+//! Circuits of bench files: the result of each call of `Circuit`.
 
 use crate::checks::check;
 use bench_net::{BenchFault, Circuit, Kind, ScanCell, Sink, read_bench};
 use std::alloc::{AllocError, Global};
 use worked_circuits::C17;
 
-/// What drives a signal: a place in a test row, or a gate.
+/// The driver of a signal: a place in a test, or a gate.
 #[derive(Clone, Copy)]
 enum Driver {
     Source(u32),
     Gate(Kind),
 }
 
-/// A bench text, and what the calls of its circuit answer: the signals of the INPUT lines, the
-/// cells, the signals of the OUTPUT lines and the signals by level; then the number of sources and
-/// the depth; then the name of each signal, its level and what drives it; then what gates read and
-/// the sinks, each with its signal. All numbers count from 0. A sink that is a pin is the number of
-/// the gate's signal and the place among its pins.
+/// A bench file, and the results of its circuit's calls. First come the signals of the INPUT lines,
+/// the cells, the signals of the OUTPUT lines, the signals by level, the number of sources and the
+/// depth. Then come each signal's name, level and driver. Last come the pins of gates and the
+/// sinks, each with its signal. All numbers count from 0. A sink that is a pin is the number of the
+/// gate's signal and the place among its pins.
 struct Case {
     name: &'static str,
     text: &'static [u8],
@@ -319,7 +319,7 @@ static SHAPES: [Case; 10] = [
     },
 ];
 
-/// Texts that are spelled in several ways.
+/// Files that are spelled in several ways.
 static SPELLINGS: [Case; 8] = [
     Case {
         name: "first_line_of_c17",
@@ -456,7 +456,7 @@ static SPELLINGS: [Case; 8] = [
     },
 ];
 
-/// Whether the calls for lists and numbers answer what the case says.
+/// Returns whether the calls for lists and numbers have the results of the case.
 fn has_lists(circuit: &Circuit, case: &Case) -> bool {
     circuit.inputs() == case.inputs
         && circuit.scan_cells() == case.cells
@@ -466,7 +466,7 @@ fn has_lists(circuit: &Circuit, case: &Case) -> bool {
         && circuit.depth() == case.depth
 }
 
-/// Whether these are what the rows of a signal say.
+/// Returns whether `found` is the list of the rows of a signal.
 fn are_of<T: Copy + PartialEq>(found: &[T], signal: u32, rows: &[(u32, T)]) -> bool {
     let mut place: usize = 0;
     for (at, want) in rows {
@@ -480,7 +480,7 @@ fn are_of<T: Copy + PartialEq>(found: &[T], signal: u32, rows: &[(u32, T)]) -> b
     place == found.len()
 }
 
-/// Whether a signal is driven from this place in a test row, or by this gate.
+/// Returns whether a signal is driven from this place in a test, or by this gate.
 fn is_driven(circuit: &Circuit, signal: u32, driver: Driver, pins: &[(u32, u32)]) -> bool {
     if signal >= circuit.signals() {
         return false;
@@ -494,7 +494,7 @@ fn is_driven(circuit: &Circuit, signal: u32, driver: Driver, pins: &[(u32, u32)]
     }
 }
 
-/// Whether the calls for a signal answer what the case says.
+/// Returns whether the calls for a signal have the results of the case.
 fn has_signal(circuit: &Circuit, signal: u32, name: &str, case: &Case) -> bool {
     let Some(driver) = case.drivers.get(signal as usize) else {
         return false;
@@ -506,7 +506,7 @@ fn has_signal(circuit: &Circuit, signal: u32, name: &str, case: &Case) -> bool {
         && is_driven(circuit, signal, *driver, case.pins)
 }
 
-/// Whether the calls for all signals answer what the case says.
+/// Returns whether the calls for all signals have the results of the case.
 fn has_signals(circuit: &Circuit, case: &Case) -> bool {
     let mut signal: u32 = 0;
     for name in case.names.split(' ') {
@@ -518,7 +518,7 @@ fn has_signals(circuit: &Circuit, case: &Case) -> bool {
     circuit.signals() == signal
 }
 
-/// Whether the calls of the circuit of the case's text answer what the case says.
+/// Returns whether the calls of the circuit of the case's file have the results of the case.
 fn is_answered(alloc: Global, case: &Case) -> Result<bool, BenchFault> {
     let circuit = read_bench(alloc, case.text)?;
     Ok(has_lists(&circuit, case) && has_signals(&circuit, case))
@@ -538,8 +538,9 @@ fn calls_of_circuits_of_all_spellings(rt: HostRuntime) {
     }
 }
 
-/// A text with a line for each of 20,000 inverters, of which the first reads `n0` and the last
-/// drives `n20000`, from the first inverter on or from the last back, and what stands round them.
+/// A file with a line for each of 20,000 inverters, and lines before and after these. The first
+/// inverter reads `n0` and the last drives `n20000`. They go from the first one on, or from the
+/// last one back.
 pub(crate) struct Chain {
     pub(crate) first: &'static str,
     pub(crate) is_backward: bool,
@@ -569,7 +570,7 @@ fn push_inverters(text: &mut String, is_backward: bool) -> Result<(), AllocError
     Ok(())
 }
 
-/// The text of a chain.
+/// Returns the text of a chain.
 pub(crate) fn chain_text(alloc: Global, chain: &Chain) -> Result<String, AllocError> {
     let mut text = String::from_str(alloc, chain.first)?;
     push_inverters(&mut text, chain.is_backward)?;
@@ -577,13 +578,13 @@ pub(crate) fn chain_text(alloc: Global, chain: &Chain) -> Result<String, AllocEr
     Ok(text)
 }
 
-/// The number of signals of a text's circuit, and its depth.
+/// Returns the number of signals of a file's circuit, and its depth.
 fn signals_and_depth(alloc: Global, text: &str) -> Result<(u32, u32), BenchFault> {
     let circuit = read_bench(alloc, text.as_bytes())?;
     Ok((circuit.signals(), circuit.depth()))
 }
 
-/// The same of a chain.
+/// Returns the number of signals of a chain, and its depth.
 fn signals_and_depth_of(alloc: Global, chain: &Chain) -> Result<(u32, u32), BenchFault> {
     let text = chain_text(alloc, chain)?;
     signals_and_depth(alloc, text.as_str())

@@ -1,12 +1,12 @@
-//! C17 cut behind each of its bytes: what is left is read, or refused by name.
+//! C17 cut after each of its bytes: the front is read, or has a named error.
 
 use crate::checks::check;
 use bench_net::{BenchFault, read_bench};
 use std::alloc::Global;
 use worked_circuits::C17;
 
-/// A line of C17: its number, from 1, the bytes before it and those up to its end, without its line
-/// feed, and the answer to the text up to there: the number of signals, or why it is refused.
+/// A line of C17: its number, from 1, and the numbers of bytes up to its begin and up to its end,
+/// without its line feed. The file that ends there has this number of signals, or this error.
 struct CutLine {
     number: u64,
     begin: usize,
@@ -14,8 +14,8 @@ struct CutLine {
     answer: Result<u32, BenchFault>,
 }
 
-/// Up to line 5 there are inputs alone. From line 6 on an output reads G22, which line 12 defines,
-/// and from line 7 on one reads G23, which line 13 defines.
+/// Up to line 5 there are only inputs. From line 6 on an output reads G22, which line 12 defines,
+/// and from line 7 on an output reads G23, which line 13 defines.
 static LINES: [CutLine; 13] = [
     CutLine {
         number: 1,
@@ -97,8 +97,8 @@ static LINES: [CutLine; 13] = [
     },
 ];
 
-/// The answer to the text cut behind so many bytes: a line that is cut has no shape of a statement,
-/// which is told before a name that no line defines.
+/// Returns the result for the file cut after `cut` bytes. A line that is cut is no statement, and
+/// this error comes before a name that no line defines.
 fn answer_at(cut: usize) -> Result<u32, BenchFault> {
     let mut answer = Err(BenchFault::Empty);
     for line in &LINES {
@@ -113,7 +113,7 @@ fn answer_at(cut: usize) -> Result<u32, BenchFault> {
     answer
 }
 
-/// The number of signals of a text's circuit.
+/// Returns the number of signals of a file's circuit.
 fn signals_of(alloc: Global, text: &[u8]) -> Result<u32, BenchFault> {
     let circuit = read_bench(alloc, text)?;
     Ok(circuit.signals())

@@ -10,8 +10,9 @@ use fault_model::{Faults, Line, Model, collapse, list_faults, list_faults_in};
 use std::alloc::{AllocError, Global};
 use worked_circuits::C17;
 
-/// A line by the names of its signals, with pins and outputs from 1: the stem of a signal, a pin of
-/// the gate that drives a signal, the data pin of the cell that drives one, or an output.
+/// A line by the names of its signals, with pins and outputs from 1. It is the stem of a signal, a
+/// pin of the gate that drives a signal, the data pin of the cell that drives a signal, or an
+/// output.
 #[derive(Clone, Copy)]
 enum Spot {
     Stem(&'static str),
@@ -20,13 +21,13 @@ enum Spot {
     Out(u64),
 }
 
-/// The class of each fault, by the number of the fault, and the fault that stands for each class.
+/// The class of each fault, by the number of the fault, and the representative of each class.
 struct Classes {
     of_faults: &'static [u32],
     representatives: &'static [u32],
 }
 
-/// A bench text, the lines of its circuit, and the classes under each model. Line `i` has the
+/// A bench file, the lines of its circuit, and the classes under each model. Line `i` has the
 /// faults `2 * i` and `2 * i + 1`: stuck at 0 and at 1, or slow to rise and slow to fall.
 struct Case {
     name: &'static str,
@@ -238,12 +239,12 @@ static CASES: [Case; 8] = [
     },
 ];
 
-/// Whether a signal has this name.
+/// Returns whether a signal has this name.
 fn is_named(circuit: &Circuit, signal: u32, name: &str) -> bool {
     signal < circuit.signals() && circuit.name_of(signal) == name
 }
 
-/// Whether a cell drives the signal of this name.
+/// Returns whether a cell drives the signal of this name.
 fn drives(circuit: &Circuit, cell: u32, name: &str) -> bool {
     match circuit.scan_cells().get(cell as usize) {
         Some(cell) => is_named(circuit, cell.q, name),
@@ -251,7 +252,7 @@ fn drives(circuit: &Circuit, cell: u32, name: &str) -> bool {
     }
 }
 
-/// Whether a line is the one that is meant.
+/// Returns whether a line is at this spot.
 fn is_at(circuit: &Circuit, line: Line, spot: Spot) -> bool {
     match (line, spot) {
         (Line::Stem(signal), Spot::Stem(name)) => is_named(circuit, signal, name),
@@ -264,7 +265,7 @@ fn is_at(circuit: &Circuit, line: Line, spot: Spot) -> bool {
     }
 }
 
-/// Whether the fault list has the two faults of each of these lines.
+/// Returns whether the fault list has the two faults of each of these lines.
 fn has_lines(circuit: &Circuit, faults: &Faults, lines: &[Spot]) -> bool {
     for fault in 0..faults.count() {
         let Some(spot) = lines.get((fault / 2) as usize) else {
@@ -279,7 +280,7 @@ fn has_lines(circuit: &Circuit, faults: &Faults, lines: &[Spot]) -> bool {
     faults.count() as usize == 2 * lines.len()
 }
 
-/// Whether the classes have these representatives.
+/// Returns whether the classes have these representatives.
 fn are_represented(classes: &fault_model::Classes, representatives: &[u32]) -> bool {
     for class in 0..classes.count() {
         if representatives.get(class as usize) != Some(&classes.representative(class)) {
@@ -289,7 +290,7 @@ fn are_represented(classes: &fault_model::Classes, representatives: &[u32]) -> b
     classes.count() as usize == representatives.len()
 }
 
-/// Whether a list of faults has these classes.
+/// Returns whether a list of faults has these classes.
 fn has_classes(
     alloc: Global,
     circuit: &Circuit,
@@ -310,7 +311,8 @@ fn has_classes(
     )
 }
 
-/// Whether the circuit has the lines of this case under the model, and these classes of faults.
+/// Returns whether the circuit has the lines of this case under the model, and these classes of
+/// faults.
 fn is_under(
     alloc: Global,
     circuit: &Circuit,
@@ -323,7 +325,7 @@ fn is_under(
     Ok(has_classes(alloc, circuit, &faults, want)? && is_listed)
 }
 
-/// Whether a circuit has the lines and classes of this case under all models.
+/// Returns whether a circuit has the lines and classes of this case under all models.
 fn is_under_all(alloc: Global, circuit: &Circuit, case: &Case) -> Result<bool, AllocError> {
     Ok(
         is_under(alloc, circuit, case, Model::StuckAt, &case.stuck_at)?
@@ -338,7 +340,7 @@ fn is_under_all(alloc: Global, circuit: &Circuit, case: &Case) -> Result<bool, A
     )
 }
 
-/// Whether the circuit of the case's text has the lines and classes of the case.
+/// Returns whether the circuit of the case's file has the lines and classes of the case.
 fn is_so(alloc: Global, case: &Case) -> Result<bool, BenchFault> {
     let circuit = read_bench(alloc, case.text)?;
     Ok(is_under_all(alloc, &circuit, case)?)
@@ -358,20 +360,20 @@ static CHAIN: Chain = Chain {
     last: "",
 };
 
-/// The model of a circuit's faults, their number and that of their classes.
+/// Returns the model of a circuit's faults, their number and the number of their classes.
 fn faults_and_classes(alloc: Global, circuit: &Circuit) -> Result<(Model, u32, u32), AllocError> {
     let faults = list_faults(alloc, circuit)?;
     let classes = collapse(alloc, circuit, &faults)?;
     Ok((faults.model(), faults.count(), classes.count()))
 }
 
-/// The same of the circuit of a text.
+/// Returns the model and these numbers for the circuit of a file.
 fn faults_and_classes_of(alloc: Global, text: &str) -> Result<(Model, u32, u32), BenchFault> {
     let circuit = read_bench(alloc, text.as_bytes())?;
     Ok(faults_and_classes(alloc, &circuit)?)
 }
 
-/// The same of the circuit of a chain.
+/// Returns the model and these numbers for the circuit of a chain.
 fn faults_and_classes_of_chain(
     alloc: Global,
     chain: &Chain,

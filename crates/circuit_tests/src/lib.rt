@@ -1,7 +1,7 @@
-//! Worked cases of what stands below: circuits of bench texts, faults and classes, test texts and
-//! order texts. A case is one row of a table; a test goes over its table. Texts that are refused,
-//! with their words, are cases of the command line. This crate has tests alone, so that the crates
-//! below, which are larger, are proved once.
+//! Worked cases of the crates below: circuits of bench files, faults and classes, test files and
+//! order files. A case is one row of a table; a test goes over its table. Files with an error, with
+//! its words, are cases of the command line. This crate has only tests, so that the crates below,
+//! which are larger, are proved once.
 #![tactic(auto)]
 
 #[cfg(test)]

@@ -1,10 +1,10 @@
-//! Tests that are made of words and of bits, what is refused, and the text that is written of them.
+//! Tests made from words and from bits, their errors, and the files that are written.
 
 use crate::checks::{check, is_said};
 use patterns::{MAX_TESTS, PushFault, TestFault, Tests, WordsFault, read_tests, write_tests};
 use std::alloc::{AllocError, Global};
 
-/// Words, with the number of sources and that of tests, and the text of the tests.
+/// Words, with the number of sources and the number of tests, and the test file.
 struct Case {
     name: &'static str,
     width: u32,
@@ -44,7 +44,7 @@ static CASES: [Case; 4] = [
     },
 ];
 
-/// The number of sources and that of tests, words, and how they are refused.
+/// The number of sources and the number of tests, words, and their error.
 static REFUSED: [(u32, u32, &[u64], WordsFault); 6] = [
     (1, 65_537, &[], WordsFault::TooMany),
     (2, 3, &[0b101], WordsFault::BadCount),
@@ -54,7 +54,7 @@ static REFUSED: [(u32, u32, &[u64], WordsFault); 6] = [
     (3, 2, &[0, 0b100, 0b1100], WordsFault::IdleBits(1)),
 ];
 
-/// Faults of words, each with its words.
+/// The errors of words, each with its text.
 static WORDS: [(WordsFault, &str); 3] = [
     (
         WordsFault::IdleBits(4),
@@ -64,19 +64,19 @@ static WORDS: [(WordsFault, &str); 3] = [
     (WordsFault::TooMany, "more than 65536 tests"),
 ];
 
-/// Whether tests are written as this text.
+/// Returns whether tests are written as this file.
 fn are_written(alloc: Global, tests: &Tests, text: &str) -> Result<bool, AllocError> {
     let written = write_tests(alloc, tests)?;
     Ok(written.as_slice() == text.as_bytes())
 }
 
-/// Whether the words of a case make tests that are written as its text.
+/// Returns whether the words of a case make tests that are written as its file.
 fn is_made(alloc: Global, case: &Case) -> Result<bool, WordsFault> {
     let tests = Tests::from_words(alloc, case.width, case.count, case.words)?;
     Ok(are_written(alloc, &tests, case.text)?)
 }
 
-/// Whether the text of a case is read as so many tests.
+/// Returns whether the file of a case is read as its number of tests.
 fn is_read(alloc: Global, case: &Case) -> Result<bool, TestFault> {
     if case.width < 1 {
         return Ok(false);
@@ -93,7 +93,7 @@ fn tests_of_words(rt: HostRuntime) {
     }
 }
 
-/// Whether the last two of 65 tests are the first ones with a 1.
+/// Returns whether the last two of 65 tests are the first ones with a 1.
 fn are_across_blocks(alloc: Global) -> Result<bool, WordsFault> {
     let tests = Tests::from_words(alloc, 1, 65, &[1 << 63, 1])?;
     Ok(
@@ -118,14 +118,14 @@ fn refused_words(rt: HostRuntime) {
     }
 }
 
-/// Adds two tests of two sources and one of one, and gives its refusal.
+/// Adds two tests of two sources and then one of one source, and returns the error of the last.
 fn push_bits(alloc: Global, tests: &mut Tests) -> Result<Option<PushFault>, PushFault> {
     tests.push(alloc, &[true, false])?;
     tests.push(alloc, &[false, false])?;
     Ok(tests.push(alloc, &[true]).err())
 }
 
-/// Whether the test of one source is refused, and the two others are written.
+/// Returns whether only the test of one source has an error, and the two others are written.
 fn are_bits(alloc: Global) -> Result<bool, PushFault> {
     let mut tests = Tests::new(alloc, 2);
     let refused = push_bits(alloc, &mut tests)?;
@@ -137,13 +137,13 @@ fn tests_of_bits(rt: HostRuntime) {
     assert!(rt; are_bits(rt.alloc()) == Ok(true));
 }
 
-/// Adds a test of no sources and one of one, and gives its refusal.
+/// Adds a test of no sources and one of one source, and returns the error of the last.
 fn push_two(alloc: Global, tests: &mut Tests) -> Result<Option<PushFault>, PushFault> {
     tests.push(alloc, &[])?;
     Ok(tests.push(alloc, &[true]).err())
 }
 
-/// Whether the last test that there is room for is added, and no more.
+/// Returns whether the last test within the limit is added, and no more.
 fn is_full(alloc: Global) -> Result<bool, WordsFault> {
     let mut tests = Tests::from_words(alloc, 0, MAX_TESTS - 1, &[])?;
     let refused = push_two(alloc, &mut tests);
@@ -155,7 +155,7 @@ fn a_test_past_the_limit(rt: HostRuntime) {
     assert!(rt; is_full(rt.alloc()) == Ok(true));
 }
 
-/// Whether the second of three tests is written behind a text.
+/// Returns whether the second of three tests is written after other bytes.
 fn is_written_behind(alloc: Global, tests: &Tests) -> Result<bool, AllocError> {
     if tests.count() != 3 {
         return Ok(false);
@@ -165,7 +165,7 @@ fn is_written_behind(alloc: Global, tests: &Tests) -> Result<bool, AllocError> {
     Ok(text.as_slice() == b"# kept\n01\n".as_slice())
 }
 
-/// Whether that is so of the tests `10`, `01` and `11`.
+/// Returns whether the second of the tests `10`, `01` and `11` is written so.
 fn is_row_written(alloc: Global) -> Result<bool, WordsFault> {
     let tests = Tests::from_words(alloc, 2, 3, &[0b101, 0b110])?;
     Ok(is_written_behind(alloc, &tests)?)

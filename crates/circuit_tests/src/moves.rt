@@ -1,10 +1,10 @@
-//! Order texts, and the moves that are read.
+//! Order files, and the moves that are read.
 
 use crate::checks::check;
 use patterns::{OrderFault, read_order};
 use std::alloc::Global;
 
-/// Texts, each with its moves.
+/// Files, each with its moves.
 static READ: [(&str, &[u32]); 4] = [
     ("000000003", &[3]),
     ("0\n# none\n003\n", &[0, 3]),
@@ -12,7 +12,7 @@ static READ: [(&str, &[u32]); 4] = [
     ("# none\n", &[]),
 ];
 
-/// Whether an order of four workers has these moves.
+/// Returns whether an order of four workers has these moves.
 fn has_moves(alloc: Global, text: &str, moves: &[u32]) -> Result<bool, OrderFault> {
     let read = read_order(alloc, text.as_bytes(), 4)?;
     Ok(read.as_slice() == moves)
@@ -25,7 +25,7 @@ fn moves_of_orders(rt: HostRuntime) {
     }
 }
 
-/// Texts that are refused, each with why.
+/// Files, each with its error.
 static REFUSED: [(&str, OrderFault); 6] = [
     ("0000000003", OrderFault::BadNumber(1)),
     ("0 1", OrderFault::BadNumber(1)),
@@ -35,7 +35,7 @@ static REFUSED: [(&str, OrderFault); 6] = [
     ("3\nx\n4\n", OrderFault::BadNumber(2)),
 ];
 
-/// Why an order of four workers is refused.
+/// Returns the error of an order for four workers.
 fn refusal_of(alloc: Global, text: &str) -> Option<OrderFault> {
     read_order(alloc, text.as_bytes(), 4).err()
 }

@@ -1,18 +1,18 @@
-//! Test texts, and the tests that are read, in words of 64.
+//! Test files, and the tests that are read, in words of 64.
 
 use crate::checks::check;
 use patterns::{TestFault, Tests, read_tests};
 use std::alloc::{AllocError, Global};
 
-/// So many lines that are the same, and what stands behind them.
+/// A number of equal lines, and the bytes after them.
 struct Text {
     row: &'static str,
     count: u32,
     last: &'static str,
 }
 
-/// A text, and its tests: their width, their number and that of their blocks; then some of their
-/// sizes as (block, size), words as (block, source, word) and bits as (test, source, bit).
+/// A file, and its tests: their width, their number and the number of their blocks. Then some of
+/// their sizes as (block, size), words as (block, source, word) and bits as (test, source, bit).
 struct Case {
     name: &'static str,
     text: Text,
@@ -111,7 +111,7 @@ static CASES: [Case; 6] = [
     },
 ];
 
-/// The bytes of a text.
+/// Returns the bytes of a file.
 fn text_of(alloc: Global, text: &Text) -> Result<String, AllocError> {
     let mut words = String::new(alloc);
     for _ in 0..text.count {
@@ -122,7 +122,7 @@ fn text_of(alloc: Global, text: &Text) -> Result<String, AllocError> {
     Ok(words)
 }
 
-/// Whether the tests have these sizes of blocks.
+/// Returns whether the tests have these sizes of blocks.
 fn has_sizes(tests: &Tests, sizes: &[(u32, u32)]) -> bool {
     for (block, size) in sizes {
         if *block >= tests.blocks() || tests.size_of(*block) != *size {
@@ -132,7 +132,7 @@ fn has_sizes(tests: &Tests, sizes: &[(u32, u32)]) -> bool {
     true
 }
 
-/// Whether the tests have these words.
+/// Returns whether the tests have these words.
 fn has_words(tests: &Tests, words: &[(u32, u32, u64)]) -> bool {
     for (block, source, word) in words {
         if *block >= tests.blocks()
@@ -145,7 +145,7 @@ fn has_words(tests: &Tests, words: &[(u32, u32, u64)]) -> bool {
     true
 }
 
-/// Whether the tests have these bits.
+/// Returns whether the tests have these bits.
 fn has_bits(tests: &Tests, bits: &[(u32, u32, bool)]) -> bool {
     for (test, source, bit) in bits {
         if *test >= tests.count() || *source >= tests.width() || tests.bit(*test, *source) != *bit {
@@ -155,7 +155,7 @@ fn has_bits(tests: &Tests, bits: &[(u32, u32, bool)]) -> bool {
     true
 }
 
-/// Whether a text is read as the tests of this case.
+/// Returns whether a file is read as the tests of this case.
 fn is_read(alloc: Global, text: &str, case: &Case) -> Result<bool, TestFault> {
     if case.width < 1 {
         return Ok(false);
@@ -170,7 +170,7 @@ fn is_read(alloc: Global, text: &str, case: &Case) -> Result<bool, TestFault> {
     )
 }
 
-/// Whether the text of a case is read as its tests.
+/// Returns whether the file of a case is read as its tests.
 fn is_so(alloc: Global, case: &Case) -> Result<bool, TestFault> {
     let text = text_of(alloc, &case.text)?;
     is_read(alloc, text.as_str(), case)
@@ -183,7 +183,7 @@ fn tests_of_texts(rt: HostRuntime) {
     }
 }
 
-/// A text that is refused, the width of its tests, and why.
+/// A file with an error, the width of its tests, and the error.
 struct Refused {
     name: &'static str,
     text: Text,
@@ -254,7 +254,7 @@ static REFUSED: [Refused; 6] = [
     },
 ];
 
-/// Why a text is not read as tests of this width.
+/// Returns the error of a file that is read as tests of this width.
 fn refusal_of(alloc: Global, text: &str, width: u32) -> Option<TestFault> {
     if width < 1 {
         return None;
@@ -262,7 +262,7 @@ fn refusal_of(alloc: Global, text: &str, width: u32) -> Option<TestFault> {
     read_tests(alloc, text.as_bytes(), width).err()
 }
 
-/// Whether a text is refused as its case says.
+/// Returns whether a file has the error of its case.
 fn is_refused(alloc: Global, case: &Refused) -> Result<bool, AllocError> {
     let text = text_of(alloc, &case.text)?;
     Ok(refusal_of(alloc, text.as_str(), case.width) == Some(case.fault))

@@ -59,12 +59,12 @@ static CASES: [Case; 5] = [
     },
 ];
 
-/// The bit of a test at a source: one bit of the test's number.
+/// Returns the bit of a test at a source: one bit of the test's number.
 fn bit(test: u32, source: u32) -> bool {
     (test >> (source % 17)) & 1 == 1
 }
 
-/// Adds the row of a test to a text.
+/// Adds the row of a test to a file.
 fn push_row(text: &mut Vec<u8>, test: u32) -> Result<(), AllocError> {
     for source in 0..WIDTH {
         text.push(if bit(test, source) { b'1' } else { b'0' })?;
@@ -73,7 +73,7 @@ fn push_row(text: &mut Vec<u8>, test: u32) -> Result<(), AllocError> {
     Ok(())
 }
 
-/// The bytes of a case.
+/// Returns the bytes of a case.
 fn text_of(alloc: Global, case: &Case) -> Result<Vec<u8>, AllocError> {
     let mut text = Vec::new(alloc);
     for test in 0..case.rows {
