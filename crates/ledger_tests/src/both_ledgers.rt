@@ -1,4 +1,5 @@
-//! Cases of calls and their replies: the ledger of one owner and the shared one reply alike.
+//! Cases of calls and their replies: the sequential ledger and the shared one have the same
+//! replies.
 
 ghost use Rattle.std.specs.Prelude.{◌≡◌, IfOk, IfSome};
 
@@ -23,7 +24,7 @@ const NO_EARLIER_HIT: Reply = Reply::Refused(Refusal::NoEarlierHit);
 
 const ALL_FINISHED: Reply = Reply::Finish(Finish::Finished);
 
-/// Calls and their replies, in turn, with what the closed ledger says then.
+/// Calls and their replies, in turn, and the states in the closed ledger after them.
 struct Case {
     name: &'static str,
     shape: Shape,
@@ -33,7 +34,7 @@ struct Case {
     skipped: Option<u32>,
 }
 
-/// Calls of eight workers on one class, with a hit of block 5 before that of block 2.
+/// Calls of eight workers on one class, with a hit of block 5 before a hit of block 2.
 const OUT_OF_ORDER: [(Call, Reply); 19] = [
     (
         Call::Claim(0),
@@ -80,7 +81,7 @@ const OUT_OF_ORDER: [(Call, Reply); 19] = [
     (Call::Claim(6), HOLDING),
 ];
 
-/// The same calls, with a drop of block 2 that is refused: no lower block of the class is a hit.
+/// The same calls, with a drop of block 2 that fails: no lower block of the class is a hit.
 const NO_DROP: [(Call, Reply); 17] = [
     (
         Call::Claim(0),
@@ -125,7 +126,7 @@ const NO_DROP: [(Call, Reply); 17] = [
     (Call::Finished, ALL_FINISHED),
 ];
 
-/// The states of the blocks after either.
+/// The states of the blocks after these calls.
 const LEFT_OUT_OF_ORDER: [(u32, PieceState); 8] = [
     (0, PieceState::Clear),
     (1, PieceState::Clear),
@@ -305,7 +306,7 @@ static CASES: [Case; 9] = [
     },
 ];
 
-/// Whether a shared ledger replies to the calls so.
+/// Returns whether a shared ledger has these replies to the calls.
 fn replies(staffed: &mut Staffed, steps: &[(Call, Reply)]) -> bool
     ensures { staffed.new.shape ≡ staffed.old.shape }
 {
@@ -317,7 +318,7 @@ fn replies(staffed: &mut Staffed, steps: &[(Call, Reply)]) -> bool
     true
 }
 
-/// A shared ledger on which the calls were made, closed, if it replied to them so.
+/// Returns a shared ledger on which the calls were made, closed, if it had these replies.
 fn closed_after(
     alloc: Global,
     shape: Shape,
@@ -333,7 +334,7 @@ fn closed_after(
     Ok(Some(closed))
 }
 
-/// Whether these are the replies.
+/// Returns whether these are the replies.
 fn are_replies(replies: &[Reply], steps: &[(Call, Reply)]) -> bool {
     for (place, step) in steps.iter().enumerate() {
         if replies.get(place) != Some(&step.1) {
@@ -343,12 +344,12 @@ fn are_replies(replies: &[Reply], steps: &[(Call, Reply)]) -> bool {
     replies.len() == steps.len()
 }
 
-/// The calls.
+/// Returns the calls.
 fn calls_of(alloc: Global, steps: &[(Call, Reply)]) -> Result<Vec<Call>, AllocError> {
     steps.iter().map(|(call, _reply)| *call).collect(alloc)
 }
 
-/// A ledger of one owner on which the calls were made, if it replied to them so.
+/// Returns a sequential ledger on which the calls were made, if it had these replies.
 fn ledger_after(
     alloc: Global,
     shape: Shape,
@@ -365,7 +366,7 @@ fn ledger_after(
     }
 }
 
-/// Whether the blocks of class 0 have these states.
+/// Returns whether the blocks of class 0 have these states.
 pub(crate) fn has_states(shape: Shape, closed: &Closed, states: &[(u32, PieceState)]) -> bool
     requires { closed.now.shape ≡ shape }
 {
@@ -380,7 +381,7 @@ pub(crate) fn has_states(shape: Shape, closed: &Closed, states: &[(u32, PieceSta
     true
 }
 
-/// Whether two ledgers of this shape say the same of all classes.
+/// Returns whether two ledgers of this shape have the same status for every class.
 fn say_the_same(shape: Shape, ledger: &Ledger, closed: &Closed) -> bool
     requires ledger { ledger.now.shape ≡ shape }
     requires closed { closed.now.shape ≡ shape }
@@ -393,7 +394,7 @@ fn say_the_same(shape: Shape, ledger: &Ledger, closed: &Closed) -> bool
     closed.finished() == ledger.finished() && ledger.shape() == shape
 }
 
-/// Whether both ledgers reply to the calls so, and what the closed one says then is that.
+/// Returns whether both ledgers have the replies of the case, and then its states.
 fn is_so(alloc: Global, case: &Case) -> Result<bool, LedgerFault> {
     let Some(closed) = closed_after(alloc, case.shape, case.steps)? else {
         return Ok(false);
@@ -419,7 +420,8 @@ fn both_ledgers_reply_to_each_case_as_it_says(rt: HostRuntime) {
     }
 }
 
-/// The one piece is claimed, and 64 other claims follow, the last of which no worker makes.
+/// Returns the claim of the one piece, and 64 more claims, the last of a worker that is out of
+/// range.
 fn claims_of_all(alloc: Global) -> Result<Vec<(Call, Reply)>, AllocError> {
     let mut steps = Vec::new(alloc);
     steps.push((Call::Claim(0), piece(0, 0)))?;
@@ -437,7 +439,7 @@ const CROWDED: Shape = Shape {
     workers: 64,
 };
 
-/// Whether both ledgers of that shape reply to these claims so.
+/// Returns whether both ledgers of that shape have the replies to these claims.
 fn is_claimed_once(alloc: Global) -> Result<bool, LedgerFault> {
     let steps = claims_of_all(alloc)?;
     let is_shared = closed_after(alloc, CROWDED, &steps)?.is_some();

@@ -1,7 +1,7 @@
 //! Tests of the fault ledger: cases of calls and replies, of seats that look and meet, and runs of
 //! workers in threads.
 //!
-//! They stand in a crate above it, since a crate with tests is proved a second time as a whole.
+//! They are in a crate of their own, because a crate with tests is proved twice.
 #![tactic(auto)]
 
 #[cfg(test)]

@@ -1,4 +1,4 @@
-//! The limits of a ledger, and the words of its faults.
+//! The limits of a ledger, and the words of its errors.
 
 use crate::checks::check;
 use crate::staffed::Staffed;
@@ -7,7 +7,7 @@ use fault_ledger::{
 };
 use std::alloc::{AllocError, Global};
 
-/// Numbers of classes, tests and workers, and why there is no ledger of them.
+/// Numbers of classes, tests and workers, and the reason why there is no ledger of them.
 static SHAPES: [(u32, u32, u32, Option<LedgerFault>); 9] = [
     (16_384, 65_536, 1, None),
     (65_537, 4_096, 1, None),
@@ -29,7 +29,7 @@ fn limits_of_a_shape(rt: HostRuntime) {
     }
 }
 
-/// Each kind of fault, and its words.
+/// Each kind of error, and its words.
 static WORDS: [(LedgerFault, &str); 4] = [
     (LedgerFault::NoWorkers, "no workers"),
     (LedgerFault::TooManyWorkers, "more than 64 workers"),
@@ -37,7 +37,7 @@ static WORDS: [(LedgerFault, &str); 4] = [
     (LedgerFault::Memory, "out of memory"),
 ];
 
-/// Whether a fault is written in these words.
+/// Returns whether an error is written in these words.
 fn is_said(alloc: Global, fault: LedgerFault, words: &str) -> Result<bool, AllocError> {
     let said = format!(in alloc; "{fault}")?;
     Ok(said.as_str() == words)
@@ -57,7 +57,7 @@ const NO_PIECES: Shape = Shape {
     workers: 1,
 };
 
-/// What both ledgers of that shape reply: all is claimed, and each class is settled at no test.
+/// The replies of both ledgers of that shape: all is claimed, and each class is settled at no test.
 static NO_PIECES_REPLIES: [(Call, Reply); 4] = [
     (Call::Claim(0), Reply::Claimed(Claim::Exhausted)),
     (
@@ -68,14 +68,14 @@ static NO_PIECES_REPLIES: [(Call, Reply); 4] = [
     (Call::Finished, Reply::Finish(Finish::Finished)),
 ];
 
-/// Whether both ledgers of that shape reply so to a call on them alone.
+/// Returns whether both ledgers of that shape have this reply to a single call.
 fn is_replied(alloc: Global, call: Call, reply: Reply) -> Result<bool, LedgerFault> {
     let (_ledger, replies) = replay(alloc, NO_PIECES, &[call])?;
     let mut staffed = Staffed::new(alloc, NO_PIECES)?;
     Ok(replies.as_slice() == [reply].as_slice() && staffed.reply_to(call) == reply)
 }
 
-/// Whether a closed ledger of that shape says that all is done, and nothing skipped.
+/// Returns whether a closed ledger of that shape is finished, with nothing skipped.
 fn is_done(alloc: Global) -> Result<bool, LedgerFault> {
     let closed = Staffed::new(alloc, NO_PIECES)?.close(alloc)?;
     Ok(closed.finished() == Finish::Finished && closed.skipped() == 0)

@@ -1,4 +1,4 @@
-//! Cases of seats that look, ask and meet.
+//! Cases of seats that look, call and meet.
 
 ghost use Rattle.std.specs.Prelude.{◌≡◌, IfOk, IfSome};
 
@@ -15,7 +15,7 @@ const EXHAUSTED: Reply = Reply::Claimed(Claim::Exhausted);
 
 const NOTHING_HELD: Reply = Reply::Refused(Refusal::NothingHeld);
 
-/// What a case does with the seats of a ledger, and what must come of it.
+/// A step of the seats of a ledger, with its result.
 #[derive(Clone, Copy, Debug)]
 enum Step {
     /// This call with the seat of this worker has this reply.
@@ -206,7 +206,7 @@ static CASES: [Case; 5] = [
     },
 ];
 
-/// Takes a step that is no meeting, and tells whether what must come of it does.
+/// Takes a step that is no meeting, and returns whether it has its result.
 fn comes_true(staffed: &mut Staffed, step: Step) -> bool
     ensures { staffed.new.shape ≡ staffed.old.shape }
 {
@@ -222,7 +222,7 @@ fn comes_true(staffed: &mut Staffed, step: Step) -> bool
     }
 }
 
-/// A ledger on which the steps of a case were taken, if all came of them that must.
+/// Returns a ledger on which the steps of a case were taken, if all had their results.
 fn ledger_after(alloc: Global, case: &Case) -> Result<Option<Staffed>, LedgerFault>
     ensures { IfOk result (λ staffed. IfSome staffed (λ it. it.shape ≡ case.now.shape)) }
 {
@@ -238,7 +238,7 @@ fn ledger_after(alloc: Global, case: &Case) -> Result<Option<Staffed>, LedgerFau
     Ok(Some(staffed))
 }
 
-/// Whether all comes of the steps of a case that must, also once the ledger is closed.
+/// Returns whether all steps of a case have their results, and the closed ledger has its states.
 fn come_true(alloc: Global, case: &Case) -> Result<bool, LedgerFault> {
     let Some(staffed) = ledger_after(alloc, case)? else {
         return Ok(false);

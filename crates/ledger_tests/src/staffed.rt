@@ -1,4 +1,4 @@
-//! A shared ledger that is called as a ledger of one owner is.
+//! A shared ledger with the calls of a sequential one.
 
 ghost use Rattle.std.specs.Prelude.{◌≡◌, All, IfOk};
 
@@ -29,7 +29,7 @@ impl Staffed {
         })
     }
 
-    /// The reply to a call. A status is asked for with the seat of worker 0.
+    /// Returns the reply to a call. A status comes by the seat of worker 0.
     pub(crate) fn reply_to(&mut self, call: Call) -> Reply
         ensures { self.new.shape ≡ self.old.shape }
     {
@@ -41,7 +41,7 @@ impl Staffed {
         }
     }
 
-    /// The reply to a call that is made with the seat of this worker.
+    /// Returns the reply to a call that is made with the seat of this worker.
     pub(crate) fn reply_with(&mut self, worker: u32, call: Call) -> Reply
         ensures { self.new.shape ≡ self.old.shape }
     {
@@ -66,7 +66,7 @@ impl Staffed {
         }
     }
 
-    /// What the seat of this worker finds at a piece that there is.
+    /// Returns the state of a piece by a look of this worker's seat, if there is such a piece.
     pub(crate) fn look(&mut self, worker: u32, class: u32, block: u32) -> Option<PieceState>
         ensures { self.new.shape ≡ self.old.shape }
     {
@@ -77,7 +77,7 @@ impl Staffed {
         Some(self.ledger.look(seat, class, block))
     }
 
-    /// The same where the seats of two workers, the only ones, have met.
+    /// Returns the ledger after the seats of two workers, the only ones, have met.
     pub(crate) fn where_two_met(self, alloc: Global) -> Result<Staffed, LedgerFault>
         ensures { IfOk result (λ staffed. staffed.shape ≡ self.shape) }
     {
@@ -122,7 +122,7 @@ fn meet(ledger: &SharedLedger, first: &mut Seat, second: &mut Seat)
     ledger.meet(first, second);
 }
 
-/// The reply to a claim that gives this piece.
+/// Returns the reply to a claim that gives this piece.
 pub(crate) fn piece(class: u32, block: u32) -> Reply {
     Reply::Claimed(Claim::Piece { class, block })
 }

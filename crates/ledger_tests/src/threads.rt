@@ -14,14 +14,14 @@ use std::sync::atomic::{AtomicU64, Ordering};
 use std::thread;
 use std::thread::Threads;
 
-/// What the workers of a run note of a piece: how often it was claimed, and how often dropped.
+/// The notes of the workers on a piece: how many times it was claimed, and how many times dropped.
 #[derive(Drop)]
 struct Note {
     claimed: AtomicU64,
     dropped: AtomicU64,
 }
 
-/// What the workers of a run share beside the ledger.
+/// The data that the workers of a run share beside the ledger.
 #[derive(Drop)]
 struct Run {
     blocks: u32,
@@ -32,8 +32,8 @@ struct Run {
 }
 
 impl Run {
-    /// A run of this many workers on these numbers of classes and blocks, whose pieces are hits in
-    /// `density` of 16 cases.
+    /// Makes a run of this many workers on these numbers of classes and blocks. Of 16 pieces about
+    /// `density` are hits.
     fn new(
         alloc: Global,
         classes: u32,
@@ -59,7 +59,7 @@ impl Run {
         })
     }
 
-    /// Stays a while, until all workers are there.
+    /// Waits a while, until all workers are there.
     fn gather(&self) {
         self.arrived.fetch_add(1, Ordering::SeqCst);
         for _ in 0..1_000_000 {
@@ -84,7 +84,7 @@ impl Run {
     }
 }
 
-/// Claims and reports until all pieces are claimed. Workers of an odd number drop where they can.
+/// Claims and reports until all pieces are claimed. Workers of an odd number drop if they can.
 fn work(ledger: &SharedLedger, run: &Run, mut seat: Seat) -> Seat
     requires { seat.place ≡ ledger.now }
     ensures { result.place ≡ ledger.now }
@@ -110,8 +110,7 @@ fn work(ledger: &SharedLedger, run: &Run, mut seat: Seat) -> Seat
     seat
 }
 
-/// Lets each worker work in a thread of its own, where one can be started, and gives the seats
-/// back.
+/// Lets each worker work in a thread of its own, if one can be started, and returns the seats.
 fn in_threads<R: Threads + Sync>(
     rt: &R,
     ledger: &SharedLedger,
@@ -131,8 +130,8 @@ fn in_threads<R: Threads + Sync>(
     )
 }
 
-/// Whether the state of a piece is what was noted of it: it was claimed once, and dropped or
-/// reported, dropped only behind a hit.
+/// Returns whether the state of a piece agrees with its notes: it was claimed once, and then
+/// reported, or dropped after a hit.
 fn is_as_noted(run: &Run, class: u32, block: u32, state: PieceState, is_hit: bool) -> bool {
     let Some(note) = run.note_of(class, block) else {
         return false;
@@ -149,7 +148,7 @@ fn is_as_noted(run: &Run, class: u32, block: u32, state: PieceState, is_hit: boo
     }
 }
 
-/// The test of a hit of a block.
+/// Returns the test of a hit of a block.
 fn test_of(state: PieceState, block: u32) -> Option<u32> {
     match state {
         PieceState::Hit(test) => Some(test.wrapping_add(block.wrapping_mul(64))),
@@ -157,7 +156,8 @@ fn test_of(state: PieceState, block: u32) -> Option<u32> {
     }
 }
 
-/// Whether a class of a closed ledger is settled at its first hit, and its pieces are as noted.
+/// Returns whether a class of a closed ledger is settled at its first hit, and its pieces are as
+/// noted.
 fn is_settled(run: &Run, closed: &Closed, class: u32) -> bool
     requires class { class < closed.now.shape.classes }
     requires blocks { block_count closed.now.shape ≡ run.now.blocks }
@@ -173,7 +173,7 @@ fn is_settled(run: &Run, closed: &Closed, class: u32) -> bool
     closed.status(class) == Status::Settled(first)
 }
 
-/// Whether all classes of a closed ledger are.
+/// Returns whether all classes of a closed ledger are settled so.
 fn are_settled(run: &Run, closed: &Closed, classes: u32) -> bool
     requires classes { closed.now.shape.classes ≡ classes }
     requires blocks { block_count closed.now.shape ≡ run.now.blocks }
@@ -186,7 +186,7 @@ fn are_settled(run: &Run, closed: &Closed, classes: u32) -> bool
     closed.finished() == Finish::Finished
 }
 
-/// The ledger of a shape on which all workers of a run have worked, closed.
+/// Returns the ledger of a shape on which all workers of a run have worked, closed.
 fn closed_after<R: Threads + Sync>(
     rt: &R,
     alloc: Global,
@@ -209,8 +209,8 @@ fn closed_after<R: Threads + Sync>(
     staffed.close(alloc)
 }
 
-/// Whether workers in threads leave a ledger of this shape as it must be, whose pieces are hits in
-/// `density` of 16 cases.
+/// Returns whether workers in threads leave each class of a ledger of this shape settled at its
+/// first hit. Of 16 pieces about `density` are hits.
 fn agree<R: Threads + Sync>(
     rt: &R,
     alloc: Global,
