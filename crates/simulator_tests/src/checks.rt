@@ -1,4 +1,4 @@
-//! What all tests of this crate do with a case.
+//! The check of a case, for all tests of this crate.
 
 use block_sim::Job;
 use fault_model::Model;
@@ -6,14 +6,14 @@ use job_loading::SimFault;
 use std::alloc::Global;
 use std::process::Abort;
 
-/// Stops the test where the case of this name does not hold.
+/// Stops the test if the case of this name does not hold.
 pub(crate) fn check(rt: &impl Abort, holds: bool, name: &str) {
     assert!(rt; holds, "{name}");
 }
 
-/// The job of a bench text and a test text under a model.
+/// Returns the job of a bench file and a test file under a model.
 ///
-/// The tests make their jobs here, so that what the call promises is gone through once.
+/// The tests make their jobs by this call, so that its contract is used only once.
 pub(crate) fn job_of(
     alloc: Global,
     model: Model,

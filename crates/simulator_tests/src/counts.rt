@@ -1,4 +1,4 @@
-//! How many tests detect each fault, on worked circuits.
+//! Counts of the tests that detect each fault, on worked circuits.
 
 ghost use Rattle.std.specs.Prelude.{◌<◌};
 
@@ -17,8 +17,8 @@ const AND: &str = "INPUT(a)\nINPUT(b)\nOUTPUT(z)\nz = AND(a, b)\n";
 /// A buffer.
 const BUFFER: &str = "INPUT(a)\nOUTPUT(z)\nz = BUFF(a)\n";
 
-/// A circuit with tests: `tests`, so many times. For each most count that is asked for, the counts
-/// of all faults of the list.
+/// A circuit with tests: `tests`, repeated. For each limit on the counts, the counts of all faults
+/// of the list.
 struct Case {
     name: &'static str,
     bench: &'static str,
@@ -67,7 +67,7 @@ static CASES: [Case; 4] = [
     },
 ];
 
-/// Whether so many workers find these counts of a job.
+/// Returns whether this number of workers finds these counts of a job.
 fn has_counts<R: Threads + Wait>(
     rt: &R,
     alloc: Global,
@@ -82,7 +82,7 @@ fn has_counts<R: Threads + Wait>(
     Ok(found.as_slice() == counts)
 }
 
-/// Whether one worker and more than there are classes find the counts of a case.
+/// Returns whether one worker, and more workers than classes, find the counts of a case.
 fn are_counts<R: Threads + Wait>(
     rt: &R,
     alloc: Global,
@@ -99,7 +99,7 @@ fn are_counts<R: Threads + Wait>(
     Ok(true)
 }
 
-/// The tests of a case.
+/// Returns the tests of a case.
 fn tests_of(alloc: Global, case: &Case) -> Result<Vec<u8>, AllocError> {
     let mut text = Vec::new(alloc);
     for _ in 0..case.times {
@@ -108,13 +108,13 @@ fn tests_of(alloc: Global, case: &Case) -> Result<Vec<u8>, AllocError> {
     Ok(text)
 }
 
-/// The job of a case.
+/// Returns the job of a case.
 fn job_of_case(alloc: Global, case: &Case) -> Result<Job, SimFault> {
     let tests = tests_of(alloc, case)?;
     job_of(alloc, case.model, case.bench.as_bytes(), tests.as_slice())
 }
 
-/// Whether the job of a case has its counts.
+/// Returns whether the job of a case has its counts.
 fn is_so<R: Threads + Wait>(rt: &R, alloc: Global, case: &Case) -> Result<bool, SimFault> {
     let job = job_of_case(alloc, case)?;
     Ok(are_counts(rt, alloc, &job, case) == Ok(true))

@@ -1,4 +1,4 @@
-//! Which tests of a block detect a class, on worked circuits.
+//! The tests of a block that detect a class, on worked circuits.
 
 use crate::checks::{check, job_of};
 use block_sim::{Job, Workspace, detecting};
@@ -6,8 +6,8 @@ use fault_model::Model;
 use job_loading::SimFault;
 use std::alloc::{AllocError, Global};
 
-/// A circuit with tests: as many rows `0` as `zeros`, and then `tests`. For each fault of the list
-/// the tests of the last block that detect it, one a bit.
+/// A circuit with tests: `zeros` rows `0`, and then `tests`. For each fault of the list the tests
+/// of the last block that detect it, one a bit.
 struct Worked {
     name: &'static str,
     bench: &'static str,
@@ -78,7 +78,7 @@ static WORKED: [Worked; 7] = [
     },
 ];
 
-/// The tests of a block that detect a class.
+/// Returns the tests of a block that detect a class.
 fn lanes_of(job: &Job, workspace: &mut Workspace, class: u32, block: u32) -> Option<u64> {
     if class < job.classes().count() && block < job.tests().blocks() && workspace.fits(job) {
         return Some(detecting(job, workspace, class, block));
@@ -86,7 +86,7 @@ fn lanes_of(job: &Job, workspace: &mut Workspace, class: u32, block: u32) -> Opt
     None
 }
 
-/// Whether these are the lanes of each fault in the last block.
+/// Returns whether these are the lanes of each fault in the last block.
 fn are_lanes(job: &Job, workspace: &mut Workspace, lanes: &[u64]) -> bool {
     let last = job.tests().blocks().saturating_sub(1);
     for fault in 0..job.faults().count() {
@@ -98,7 +98,7 @@ fn are_lanes(job: &Job, workspace: &mut Workspace, lanes: &[u64]) -> bool {
     job.faults().count() as usize == lanes.len()
 }
 
-/// The same, with a workspace of its own.
+/// Returns whether a job has these lanes, with a workspace of its own.
 fn has_lanes(alloc: Global, job: &Job, lanes: &[u64]) -> Result<bool, AllocError> {
     let mut workspace = Workspace::new(alloc, job)?;
     Ok(are_lanes(job, &mut workspace, lanes))
@@ -112,7 +112,7 @@ fn push_tests(text: &mut Vec<u8>, worked: &Worked) -> Result<(), AllocError> {
     text.extend_from_slice(worked.tests.as_bytes())
 }
 
-/// The job of a worked circuit.
+/// Returns the job of a worked circuit.
 fn job_of_worked(alloc: Global, worked: &Worked) -> Result<Job, SimFault> {
     let mut tests = Vec::new(alloc);
     push_tests(&mut tests, worked)?;
@@ -124,7 +124,7 @@ fn job_of_worked(alloc: Global, worked: &Worked) -> Result<Job, SimFault> {
     )
 }
 
-/// Whether a worked circuit has its lanes.
+/// Returns whether a worked circuit has its lanes.
 fn is_so(alloc: Global, worked: &Worked) -> Result<bool, SimFault> {
     let job = job_of_worked(alloc, worked)?;
     Ok(has_lanes(alloc, &job, worked.lanes)?)

@@ -1,4 +1,4 @@
-//! Tests of the simulator on worked circuits. That each outcome is the true one is a clause.
+//! Tests of the simulator on worked circuits. A contract states that each outcome is true.
 #![tactic(auto)]
 
 #[cfg(test)]

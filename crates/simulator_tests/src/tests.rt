@@ -17,7 +17,7 @@ static C17_ACTIVE: [u64; 22] = [
     0, 0, 6, 0, 0, 0, 0, 0, 1, 0, 4, 3, 2, 2, 0, 0, 0, 0, 0, 0, 0, 0,
 ];
 
-/// The evaluations that a class of C17 takes on block 0.
+/// Returns the evaluations that a class of C17 takes on block 0.
 fn active_by(job: &Job, workspace: &mut Workspace, class: u32) -> u64 {
     let before = workspace.gate_evaluations();
     if class < job.classes().count() && job.tests().blocks() > 0 && workspace.fits(job) {
@@ -26,7 +26,7 @@ fn active_by(job: &Job, workspace: &mut Workspace, class: u32) -> u64 {
     workspace.gate_evaluations().wrapping_sub(before)
 }
 
-/// Whether each class of C17 takes its evaluations.
+/// Returns whether each class of C17 takes its evaluations.
 fn are_active(job: &Job, workspace: &mut Workspace) -> bool {
     for class in 0..22u32 {
         let active = active_by(job, workspace, class);
@@ -37,13 +37,13 @@ fn are_active(job: &Job, workspace: &mut Workspace) -> bool {
     job.classes().count() == 22 && workspace.gate_evaluations() == 18
 }
 
-/// The same, with a workspace of its own.
+/// Returns whether each class of a job takes its evaluations, with a workspace of its own.
 fn is_active(alloc: Global, job: &Job) -> Result<bool, AllocError> {
     let mut workspace = Workspace::new(alloc, job)?;
     Ok(are_active(job, &mut workspace))
 }
 
-/// The same, of C17 under the test `11111`.
+/// Returns whether each class of C17 takes its evaluations under the test `11111`.
 fn is_c17_active(alloc: Global) -> Result<bool, SimFault> {
     let job = job_of(alloc, Model::StuckAt, C17, b"11111\n")?;
     Ok(is_active(alloc, &job)?)
@@ -62,14 +62,14 @@ struct Both {
     evaluations: u64,
 }
 
-/// Which of the two calls is asked.
+/// The call that gives an outcome.
 #[derive(Clone, Copy)]
 enum Asked {
     Simulate,
     FirstHit,
 }
 
-/// The outcome of a piece by one of the two calls.
+/// Returns the outcome of a piece by one of the two calls.
 fn outcome_by(job: &Job, workspace: &mut Workspace, asked: Asked, class: u32, block: u32) -> Outcome
     requires class { class < length job.now.classes.representative }
     requires block { block < blocks (length job.now.tests.tests) }
@@ -82,7 +82,7 @@ fn outcome_by(job: &Job, workspace: &mut Workspace, asked: Asked, class: u32, bl
     }
 }
 
-/// Puts the outcomes of a class on all blocks behind others.
+/// Appends the outcomes of a class on all blocks.
 fn push_outcomes(
     job: &Job,
     workspace: &mut Workspace,
@@ -100,7 +100,7 @@ fn push_outcomes(
     Ok(())
 }
 
-/// The outcomes of all classes and blocks by one of the two calls.
+/// Returns the outcomes of all classes and blocks by one of the two calls.
 fn outcomes_by(
     alloc: Global,
     job: &Job,
@@ -117,7 +117,7 @@ fn outcomes_by(
     Ok(outcomes)
 }
 
-/// The outcomes of a job, with this workspace.
+/// Returns the outcomes of a job, with this workspace.
 fn outcomes_in(alloc: Global, job: &Job, workspace: &mut Workspace) -> Result<Both, AllocError>
     requires { HasRoom workspace.old job.now }
 {
@@ -131,13 +131,13 @@ fn outcomes_in(alloc: Global, job: &Job, workspace: &mut Workspace) -> Result<Bo
     })
 }
 
-/// The outcomes of a job.
+/// Returns the outcomes of a job.
 fn outcomes_of(alloc: Global, job: &Job) -> Result<Both, AllocError> {
     let mut workspace = Workspace::new(alloc, job)?;
     outcomes_in(alloc, job, &mut workspace)
 }
 
-/// Adds a row so many times.
+/// Adds a row a number of times.
 fn push_times(text: &mut Vec<u8>, row: &[u8], times: u32) -> Result<(), AllocError> {
     for _ in 0..times {
         text.extend_from_slice(row)?;
@@ -145,7 +145,7 @@ fn push_times(text: &mut Vec<u8>, row: &[u8], times: u32) -> Result<(), AllocErr
     Ok(())
 }
 
-/// How many outcomes are hits.
+/// Returns the number of outcomes that are hits.
 fn hits_of(outcomes: &[Outcome]) -> usize {
     outcomes
         .iter()
@@ -153,8 +153,8 @@ fn hits_of(outcomes: &[Outcome]) -> usize {
         .count()
 }
 
-/// Whether C17 takes few evaluations on 64 blocks: at most 52 a block. On each, 8 classes have a
-/// hit.
+/// Returns whether C17 takes few evaluations on 64 blocks: at most 52 a block. On each, 8 classes
+/// have a hit.
 fn is_within_bound(alloc: Global, job: &Job) -> Result<bool, AllocError> {
     let both = outcomes_of(alloc, job)?;
     Ok(
@@ -165,14 +165,14 @@ fn is_within_bound(alloc: Global, job: &Job) -> Result<bool, AllocError> {
     )
 }
 
-/// The job of C17 with 4096 tests.
+/// Returns the job of C17 with 4096 tests.
 fn job_of_4096_tests(alloc: Global) -> Result<Job, SimFault> {
     let mut tests = Vec::new(alloc);
     push_times(&mut tests, b"11111\n", 4096)?;
     job_of(alloc, Model::StuckAt, C17, tests.as_slice())
 }
 
-/// Whether that job takes few evaluations.
+/// Returns whether C17 with 4096 tests takes few evaluations.
 fn is_c17_within_bound(alloc: Global) -> Result<bool, SimFault> {
     let job = job_of_4096_tests(alloc)?;
     Ok(is_within_bound(alloc, &job)?)
@@ -183,8 +183,8 @@ fn c17_with_4096_tests_stays_within_the_bound(rt: HostRuntime) {
     assert!(rt; is_c17_within_bound(rt.alloc()) == Ok(true));
 }
 
-/// A circuit with tests: as many rows `0` as `zeros`, and then `tests`. For each fault of the list
-/// the first test that detects it.
+/// A circuit with tests: `zeros` rows `0`, and then `tests`. For each fault of the list the first
+/// test that detects it.
 struct Worked {
     name: &'static str,
     bench: &'static str,
@@ -283,19 +283,19 @@ static WORKED: [Worked; 8] = [
     },
 ];
 
-/// Whether a workspace fits the job of C17.
+/// Returns whether a workspace fits the job of C17.
 fn fits_c17(alloc: Global, workspace: &Workspace) -> Result<bool, SimFault> {
     let job = job_of(alloc, Model::StuckAt, C17, b"")?;
     Ok(workspace.fits(&job))
 }
 
-/// Whether a workspace of a job fits that of C17.
+/// Returns whether a workspace of a job fits the job of C17.
 fn job_fits_c17(alloc: Global, job: &Job) -> Result<bool, SimFault> {
     let workspace = Workspace::new(alloc, job)?;
     fits_c17(alloc, &workspace)
 }
 
-/// Whether a workspace of the job of a circuit fits that of C17.
+/// Returns whether a workspace of the job of a circuit fits the job of C17.
 fn room_fits_c17(alloc: Global, bench: &[u8]) -> Result<bool, SimFault> {
     let job = job_of(alloc, Model::StuckAt, bench, b"")?;
     job_fits_c17(alloc, &job)
@@ -307,7 +307,7 @@ fn a_workspace_fits_jobs_of_as_many_signals(rt: HostRuntime) {
     assert!(rt; room_fits_c17(rt.alloc(), C17) == Ok(true));
 }
 
-/// The first test of a class's first hit, out of the outcomes of all classes and blocks.
+/// Returns the first test of a class's first hit, out of the outcomes of all classes and blocks.
 fn first_of(outcomes: &[Outcome], blocks: u32, class: u32) -> Option<u32> {
     for block in 0..blocks {
         let place = class.saturating_mul(blocks).saturating_add(block);
@@ -318,7 +318,7 @@ fn first_of(outcomes: &[Outcome], blocks: u32, class: u32) -> Option<u32> {
     None
 }
 
-/// Whether the outcomes of a job have these first tests of each fault.
+/// Returns whether the outcomes of a job have these first tests of each fault.
 fn are_firsts(job: &Job, outcomes: &[Outcome], firsts: &[Option<u32>]) -> bool {
     for fault in 0..job.faults().count() {
         let class = job.classes().class_of(fault);
@@ -330,7 +330,7 @@ fn are_firsts(job: &Job, outcomes: &[Outcome], firsts: &[Option<u32>]) -> bool {
     job.faults().count() as usize == firsts.len()
 }
 
-/// Whether a job has these first tests by both calls.
+/// Returns whether a job has these first tests by both calls.
 fn has_firsts(alloc: Global, job: &Job, firsts: &[Option<u32>]) -> Result<bool, AllocError> {
     let both = outcomes_of(alloc, job)?;
     Ok(
@@ -345,7 +345,7 @@ fn push_tests(text: &mut Vec<u8>, worked: &Worked) -> Result<(), AllocError> {
     text.extend_from_slice(worked.tests.as_bytes())
 }
 
-/// The job of a worked circuit.
+/// Returns the job of a worked circuit.
 fn job_of_worked(alloc: Global, worked: &Worked) -> Result<Job, SimFault> {
     let mut tests = Vec::new(alloc);
     push_tests(&mut tests, worked)?;
@@ -357,7 +357,7 @@ fn job_of_worked(alloc: Global, worked: &Worked) -> Result<Job, SimFault> {
     )
 }
 
-/// Whether a worked circuit has its first tests.
+/// Returns whether a worked circuit has its first tests.
 fn is_so(alloc: Global, worked: &Worked) -> Result<bool, SimFault> {
     let job = job_of_worked(alloc, worked)?;
     Ok(has_firsts(alloc, &job, worked.firsts)?)

@@ -9,13 +9,13 @@ use std::alloc::{AllocError, Global};
 use std::sync::Wait;
 use std::thread::Threads;
 
-/// So many inverters under so many tests are enough words for four threads. The last group of
-/// tests is short.
+/// The numbers of inverters and of tests. They make enough words for four threads, and the last
+/// group of tests is short.
 const GATES: u32 = 256;
 
 const TESTS: u32 = 65_500;
 
-/// Numbers of workers, with what they are called.
+/// Numbers of workers, with their names.
 const CREWS: [(u32, &str); 4] = [
     (0, "no worker"),
     (1, "one worker"),
@@ -39,7 +39,7 @@ fn push_gate(text: &mut Vec<u8>, read: u32) -> Result<(), AllocError> {
     text.extend_from_slice(b")\n")
 }
 
-/// The chain: its signal 0 is the input, and each other one inverts the one before.
+/// Returns the chain: its signal 0 is the input, and each other one inverts the one before.
 fn chain(alloc: Global) -> Result<Vec<u8>, AllocError> {
     let mut text = Vec::new(alloc);
     text.extend_from_slice(b"INPUT(x)\nOUTPUT(")?;
@@ -51,12 +51,12 @@ fn chain(alloc: Global) -> Result<Vec<u8>, AllocError> {
     Ok(text)
 }
 
-/// The bit of a test: 1 for every third one. Past the last test there are zeros.
+/// Returns the bit of a test: 1 for every third one. Past the last test there are zeros.
 fn bit(test: u64) -> bool {
     test < u64::from(TESTS) && test % 3 == 0
 }
 
-/// The text of the tests.
+/// Returns the test file.
 fn rows(alloc: Global) -> Result<Vec<u8>, AllocError> {
     let mut text = Vec::new(alloc);
     for test in 0..TESTS {
@@ -66,7 +66,7 @@ fn rows(alloc: Global) -> Result<Vec<u8>, AllocError> {
     Ok(text)
 }
 
-/// The word of a signal on a block: the bits of the tests, which each inverter inverts.
+/// Returns the word of a signal on a block: the bits of the tests, which each inverter inverts.
 fn expected(block: u32, signal: u32) -> u64 {
     let mut word = 0;
     for lane in 0..64u32 {
@@ -77,14 +77,14 @@ fn expected(block: u32, signal: u32) -> u64 {
     word
 }
 
-/// Whether a signal has its word on a block.
+/// Returns whether a signal has its word on a block.
 fn has_word(job: &Job, block: u32, signal: u32) -> bool {
     block < job.tests().blocks()
         && signal < job.circuit().signals()
         && job.word(block, signal) == expected(block, signal)
 }
 
-/// Whether the input, the first gate and the last have their words on each block.
+/// Returns whether the input, the first gate and the last have their words on each block.
 fn is_right(job: &Job) -> bool {
     for block in 0..job.tests().blocks() {
         if !(has_word(job, block, 0) && has_word(job, block, 1) && has_word(job, block, GATES)) {
@@ -94,7 +94,7 @@ fn is_right(job: &Job) -> bool {
     job.tests().blocks() == TESTS.div_ceil(64) && job.circuit().signals() == GATES + 1
 }
 
-/// Whether a job that so many workers make has its words, and one that they give its tests.
+/// Returns whether a job has its words if this number of workers makes it, or gives it its tests.
 fn is_right_by<R: Threads + Wait>(rt: &R, alloc: Global, workers: u32) -> Result<bool, SimFault> {
     let bench = chain(alloc)?;
     let tests = rows(alloc)?;
