@@ -1,4 +1,4 @@
-//! Jobs, and what is expected of their verdicts.
+//! Jobs, and their expected verdicts.
 
 use block_sim::Job;
 use fault_model::Model;
@@ -8,7 +8,7 @@ use std::process::Abort;
 use worked_circuits::C17_TEXT;
 use workers::Verdicts;
 
-/// A job: a circuit, and rows of tests, each with how often it stands there.
+/// A job: a circuit, and rows of tests, each with its number of times.
 pub(crate) struct JobText {
     pub(crate) model: Model,
     pub(crate) bench: &'static str,
@@ -22,7 +22,7 @@ pub(crate) const C17: JobText = JobText {
     rows: &[("11111", 1)],
 };
 
-/// The first tests of C17 where the one test is all ones.
+/// The first tests of C17 under the test of ones.
 pub(crate) static C17_FIRSTS: [Option<u32>; 34] = [
     Some(0),
     None,
@@ -60,20 +60,21 @@ pub(crate) static C17_FIRSTS: [Option<u32>; 34] = [
     Some(0),
 ];
 
-/// A buffer: its faults are a/0, a/1, z/0 and z/1, and its classes those of z/0 and z/1.
+/// A buffer. Its faults are a/0, a/1, z/0 and z/1, and the representatives of its classes z/0 and
+/// z/1.
 pub(crate) const BUFFER: &str = "INPUT(a)\nOUTPUT(z)\nz = BUFF(a)\n";
 
 /// One wire: its faults a/0 and a/1 are a class each.
 pub(crate) const WIRE: &str = "INPUT(a)\nOUTPUT(a)\n";
 
-/// The job of this text.
+/// Returns the job of these texts.
 pub(crate) fn job_of(alloc: Global, job: &JobText) -> Result<Job, SimFault> {
     let mut tests = Vec::new(alloc);
     push_all_rows(&mut tests, job.rows)?;
     job_loading::job_of(alloc, job.model, job.bench.as_bytes(), tests.as_slice())
 }
 
-/// Adds rows of tests, each as often as it is to stand there.
+/// Adds rows of tests, each as many times as given.
 fn push_all_rows(text: &mut Vec<u8>, rows: &[(&str, u32)]) -> Result<(), AllocError> {
     for (row, count) in rows {
         push_rows(text, row.as_bytes(), *count)?;
@@ -81,7 +82,7 @@ fn push_all_rows(text: &mut Vec<u8>, rows: &[(&str, u32)]) -> Result<(), AllocEr
     Ok(())
 }
 
-/// Adds a row of a test so many times.
+/// Adds a row of a test a number of times.
 fn push_rows(text: &mut Vec<u8>, row: &[u8], count: u32) -> Result<(), AllocError> {
     for _ in 0..count {
         text.extend_from_slice(row)?;
@@ -90,7 +91,7 @@ fn push_rows(text: &mut Vec<u8>, row: &[u8], count: u32) -> Result<(), AllocErro
     Ok(())
 }
 
-/// Whether these are the verdicts of all faults.
+/// Returns whether these are the verdicts of all faults.
 pub(crate) fn has_firsts(verdicts: &Verdicts, firsts: &[Option<u32>]) -> bool {
     for fault in 0..verdicts.total() {
         if firsts.get(fault as usize) != Some(&verdicts.first(fault)) {
@@ -101,7 +102,7 @@ pub(crate) fn has_firsts(verdicts: &Verdicts, firsts: &[Option<u32>]) -> bool {
     verdicts.total() as usize == firsts.len() && verdicts.detected() as usize == detected
 }
 
-/// Stops the test where the case of this name does not hold.
+/// Stops the test if the case of this name does not hold.
 pub(crate) fn check(rt: &impl Abort, holds: bool, name: &str) {
     assert!(rt; holds, "{name}");
 }

@@ -9,7 +9,7 @@ use std::thread;
 use std::time::{Clock, Duration};
 use workers::Gate;
 
-/// How many turns of 1 ms a gate holds a piece.
+/// The number of turns of 1 ms for which a gate holds a piece.
 const TURNS: u32 = 10_000;
 
 /// A gate that lets nothing pass.
@@ -89,8 +89,9 @@ impl Gate for Counter {
     }
 }
 
-/// A gate that holds the worker of one piece until a second piece has arrived, and where both are
-/// held that of the second until the first has. It gives up after some turns of 1 ms.
+/// A gate that holds the worker of one piece until a second piece has arrived, and, if both are
+/// held, also the worker of the second until the first has arrived. It gives up after 10,000 turns
+/// of 1 ms.
 #[derive(Drop)]
 pub(crate) struct Meeting<'a, C> {
     clock: &'a C,
@@ -214,8 +215,8 @@ impl Gate for ShutForWorker {
     }
 }
 
-/// A gate that holds the worker that comes first until the other one has asked so often. It gives
-/// up as a meeting does.
+/// A gate that holds the worker that comes first until the other one has called it a number of
+/// times. It gives up as a meeting does.
 #[derive(Drop)]
 pub(crate) struct Holding<'a, C> {
     clock: &'a C,
@@ -257,7 +258,7 @@ impl<C: Clock> Gate for Holding<'_, C> {
     }
 }
 
-/// Waits until a word is at least so large, and says whether it is.
+/// Waits until a word is at least `wanted`, and returns whether it is.
 fn has_reached<C: Clock>(clock: &C, word: &AtomicU64, wanted: u64) -> bool {
     for _ in 0..TURNS {
         if word.load(Ordering::SeqCst) >= wanted {
@@ -268,7 +269,7 @@ fn has_reached<C: Clock>(clock: &C, word: &AtomicU64, wanted: u64) -> bool {
     false
 }
 
-/// Waits until two more have been counted than so many, and says whether they have.
+/// Waits until two more than `before` have been counted, and returns whether they have.
 fn both_came<C: Clock>(clock: &C, count: &AtomicU64, before: u64) -> bool {
     for _ in 0..TURNS {
         if count.load(Ordering::SeqCst).wrapping_sub(before) >= 2 {
@@ -279,7 +280,7 @@ fn both_came<C: Clock>(clock: &C, count: &AtomicU64, before: u64) -> bool {
     false
 }
 
-/// Waits until a word has the value that it is to have, and says whether it has.
+/// Waits until a word is `wanted`, and returns whether it is.
 fn came<C: Clock>(clock: &C, word: &AtomicU64, wanted: u64) -> bool {
     for _ in 0..TURNS {
         if word.load(Ordering::SeqCst) == wanted {

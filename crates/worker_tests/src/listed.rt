@@ -30,7 +30,7 @@ struct List {
     firsts: &'static [Option<u32>],
 }
 
-/// Lists that one runner runs one after another. No test detects class 0, that of G1 sa1.
+/// Lists that one runner runs one after another. No test detects class 0, the class of G1 sa1.
 static LISTS: [List; 6] = [
     List {
         name: "classes_in_no_order",
@@ -64,14 +64,14 @@ static LISTS: [List; 6] = [
     },
 ];
 
-/// Whether all are below the number of classes.
+/// Returns whether all are below the number of classes.
 fn are_classes(classes: &[u32], count: u32) -> bool
     ensures { IsTrue result ↔ All (λ class. class < count) classes.now }
 {
     classes.iter().all(|class| *class < count)
 }
 
-/// Whether a runner finds these first tests of classes of a job.
+/// Returns whether a runner finds these first tests of classes of a job.
 fn tells(
     runner: &mut ListRunner,
     alloc: Global,
@@ -89,7 +89,7 @@ fn tells(
     Ok(told.as_slice() == firsts)
 }
 
-/// The first of the lists of which a runner finds other first tests, if there is one.
+/// Returns the first of the lists for which a runner finds other first tests, if there is one.
 fn first_wrong(
     runner: &mut ListRunner,
     alloc: Global,
@@ -106,9 +106,9 @@ fn first_wrong(
     Ok(None)
 }
 
-/// Whether a runner that has run lists has the verdicts on all faults: those of class 1 are G2 sa1,
-/// of class 7 G7 sa1, and of class 19 G10 sa0, pin 2 of G22 sa0 and G22 sa1. Skipped are the second
-/// pieces of the eight classes that ones detect.
+/// Returns whether a runner that has run lists has the verdicts on all faults. Class 1 has the
+/// fault G2 sa1, class 7 the fault G7 sa1, and class 19 the faults G10 sa0, pin 2 of G22 sa0 and
+/// G22 sa1. The second pieces of the eight classes that ones detect are skipped.
 fn has_verdicts(runner: &mut ListRunner, alloc: Global, job: &Job) -> Result<bool, AllocError>
     requires { ServesLists runner.old job.now }
 {
@@ -122,8 +122,9 @@ fn has_verdicts(runner: &mut ListRunner, alloc: Global, job: &Job) -> Result<boo
     Ok(has_firsts(&verdicts, &firsts) && verdicts.skipped() == 8)
 }
 
-/// Whether a runner goes on where a gate stopped a run. The last class of the list in which one
-/// part runs all classes is 21, so all others have passed block 0, and class 0 waits for block 1.
+/// Returns whether a runner goes on after a gate stopped a run. The last class of the list in which
+/// one part runs all classes is 21, so all others have passed block 0, and class 0 waits for block
+/// 1.
 fn goes_on<R: Threads + Wait>(rt: &R, alloc: Global, job: &Job) -> Result<bool, AllocError> {
     let gate = ShutFor {
         class: 21,
@@ -135,7 +136,7 @@ fn goes_on<R: Threads + Wait>(rt: &R, alloc: Global, job: &Job) -> Result<bool, 
     Ok(told && stopped == Some(RunFault::Unfinished { class: 0, block: 1 }))
 }
 
-/// The case that doesn't hold, if there is one.
+/// Returns the case that doesn't hold, if there is one.
 fn wrong_case<R: Threads + Wait>(rt: &R, alloc: Global) -> Result<Option<&'static str>, SimFault> {
     let job = job_of(alloc, &TWO_BLOCKS)?;
     let mut runner = ListRunner::new(alloc, &job)?;

@@ -13,19 +13,18 @@ use std::thread::Threads;
 use worked_circuits::C17_TEXT;
 use workers::{OpenGate, PartVerdict, RunFault, part_of, run_in_parts, run_part};
 
-/// The number of the stem of each fault of C17, that is of its class's region. The signals are G1,
-/// G2, G3, G6, G7, G10, G11, G16, G19, G22 and G23, from 0, of which G3, G11, G16, G22 and G23 are
-/// stems.
+/// The number of the stem of each fault of C17: of its class's region. The signals are G1, G2, G3,
+/// G6, G7, G10, G11, G16, G19, G22 and G23, from 0. Of these G3, G11, G16, G22 and G23 are stems.
 static C17_STEMS: [u32; 34] = [
     9, 9, 7, 7, 2, 2, 9, 9, 6, 6, 6, 6, 10, 10, 9, 9, 6, 6, 7, 7, 10, 10, 7, 7, 9, 9, 10, 10, 10,
     10, 9, 9, 10, 10,
 ];
 
-/// Into how many parts the 22 classes of C17 are cut. Five signals are stems, so from 22 parts on
-/// most parts have no class.
+/// The numbers of parts into which the 22 classes of C17 are cut. Five signals are stems, so from
+/// 22 parts on most parts have no class.
 static NUMBERS_OF_PARTS: [u32; 6] = [1, 2, 3, 22, 23, 64];
 
-/// Whether all parts together have these first tests.
+/// Returns whether all parts together have these first tests.
 fn are_together<R: Threads + Wait>(
     rt: &R,
     alloc: Global,
@@ -39,7 +38,7 @@ fn are_together<R: Threads + Wait>(
     Ok(has_firsts(&verdicts, firsts))
 }
 
-/// Whether a part of C17 has these verdicts: those of its own faults.
+/// Returns whether a part of C17 has these verdicts, and only on its own faults.
 fn are_of_part(verdicts: &[PartVerdict], firsts: &[Option<u32>], part: u32, parts: u32) -> bool
     requires { part < parts }
 {
@@ -59,7 +58,7 @@ fn are_of_part(verdicts: &[PartVerdict], firsts: &[Option<u32>], part: u32, part
     verdicts.len() == firsts.len()
 }
 
-/// Whether a part of C17 alone has its first tests.
+/// Returns whether a part of C17 by itself has its first tests.
 fn is_alone<R: Threads + Wait>(
     rt: &R,
     alloc: Global,
@@ -74,7 +73,7 @@ fn is_alone<R: Threads + Wait>(
     Ok(are_of_part(verdicts.as_slice(), firsts, part, parts))
 }
 
-/// Whether each part of C17 alone has its first tests.
+/// Returns whether each part of C17 by itself has its first tests.
 fn are_alone<R: Threads + Wait>(
     rt: &R,
     alloc: Global,
@@ -90,8 +89,8 @@ fn are_alone<R: Threads + Wait>(
     Ok(true)
 }
 
-/// Whether a job of C17 has these first tests in several numbers of parts: all parts together, and
-/// each alone.
+/// Returns whether a job of C17 has these first tests in several numbers of parts: all parts
+/// together, and each by itself.
 fn is_in_parts<R: Threads + Wait>(
     rt: &R,
     alloc: Global,
@@ -118,7 +117,7 @@ static C17_CLASS_STEMS: [u32; 22] = [
     9, 7, 2, 2, 9, 6, 6, 10, 9, 6, 6, 7, 10, 7, 7, 9, 10, 10, 9, 9, 10, 10,
 ];
 
-/// Whether each class of C17 is in its part.
+/// Returns whether each class of C17 is in its part.
 fn are_by_stem(job: &Job) -> bool {
     for class in 0..job.classes().count() {
         let stem = C17_CLASS_STEMS.get(class as usize).copied();
@@ -132,20 +131,20 @@ fn are_by_stem(job: &Job) -> bool {
 }
 
 /// The gate that is shut for one piece, which is the last of its part for each number of parts, so
-/// that all others are settled. The class is that of G23 sa1, the last of the region that is
-/// visited last: G22 and what it reads go before G23.
+/// that all others are settled. Its class is the class of G23 sa1, the last of the region that is
+/// visited last: G22 and its fan-in go before G23.
 static LAST: ShutFor = ShutFor {
     class: 21,
     block: 0,
 };
 
-/// What a run is refused with that waits for that piece.
+/// The error of a run that waits for that piece.
 static WAITING: RunFault = RunFault::Unfinished {
     class: 21,
     block: 0,
 };
 
-/// Whether that gate stops the run of the part alone that has the class.
+/// Returns whether that gate stops the run of only the part with the class.
 fn is_stopped_alone<R: Threads + Wait>(rt: &R, alloc: Global, job: &Job, parts: u32) -> bool {
     for part in 0..parts {
         let stopped = run_part(rt, alloc, job, part, parts, 2, &LAST).err();
@@ -156,14 +155,14 @@ fn is_stopped_alone<R: Threads + Wait>(rt: &R, alloc: Global, job: &Job, parts: 
     true
 }
 
-/// Whether that gate stops a run in this number of parts.
+/// Returns whether that gate stops a run in this number of parts.
 fn is_stopped_together<R: Threads + Wait>(rt: &R, alloc: Global, job: &Job, parts: u32) -> bool
     requires { 0 < parts }
 {
     run_in_parts(rt, alloc, job, parts, 3, &LAST).err() == Some(WAITING)
 }
 
-/// Whether that is so for several numbers of parts.
+/// Returns whether that gate stops runs in several numbers of parts.
 fn is_stopped<R: Threads + Wait>(rt: &R, alloc: Global, job: &Job) -> bool {
     for parts in &NUMBERS_OF_PARTS {
         let parts = *parts;
@@ -177,7 +176,7 @@ fn is_stopped<R: Threads + Wait>(rt: &R, alloc: Global, job: &Job) -> bool {
     true
 }
 
-/// Whether a part of three, all of whose gates are shut, names this class of the job.
+/// Returns whether a part of three, all of whose gates are shut, names this class of the job.
 fn names<R: Threads + Wait>(rt: &R, alloc: Global, job: &Job, part: u32, class: u32) -> bool
     requires { part < 3 }
 {
@@ -185,13 +184,13 @@ fn names<R: Threads + Wait>(rt: &R, alloc: Global, job: &Job, part: u32, class: 
     stopped == Some(RunFault::Unfinished { class, block: 0 })
 }
 
-/// How a run in three parts by so many workers with a shut gate is refused.
+/// Returns the error of a run in three parts by this number of workers with a shut gate.
 fn refusal<R: Threads + Wait>(rt: &R, alloc: Global, job: &Job, workers: u32) -> Option<RunFault> {
     run_in_parts(rt, alloc, job, 3, workers, &Shut).err()
 }
 
-/// Whether runs in parts are refused as they are to be. With all gates shut no class is settled, so
-/// each part of three names its lowest: classes 0, 1 and 2 have the stems 9, 7 and 2.
+/// Returns whether runs in parts have their errors. With all gates shut no class is settled, so
+/// each of three parts names its lowest class: classes 0, 1 and 2 have the stems 9, 7 and 2.
 fn is_refused<R: Threads + Wait>(rt: &R, alloc: Global, job: &Job) -> bool {
     names(rt, alloc, job, 0, 0)
         && names(rt, alloc, job, 1, 1)
@@ -200,7 +199,7 @@ fn is_refused<R: Threads + Wait>(rt: &R, alloc: Global, job: &Job) -> bool {
         && run_in_parts(rt, alloc, job, 3, 0, &OpenGate).err() == Some(RunFault::NoWorkers)
 }
 
-/// What is asked of a job of C17.
+/// A question about a job of C17.
 #[derive(Clone, Copy)]
 enum Question {
     IsCutByRegion,
@@ -210,7 +209,7 @@ enum Question {
     NamesTheClass,
 }
 
-/// What is asked, and of which job.
+/// A question and its job.
 struct Case {
     name: &'static str,
     job: JobText,
@@ -249,7 +248,7 @@ static CASES: [Case; 5] = [
     },
 ];
 
-/// Whether it is so of a job.
+/// Returns whether a job has the property.
 fn is_so<R: Threads + Wait>(
     rt: &R,
     alloc: Global,
@@ -265,7 +264,7 @@ fn is_so<R: Threads + Wait>(
     }
 }
 
-/// Whether the case holds.
+/// Returns whether the case holds.
 fn holds<R: Threads + Wait>(rt: &R, alloc: Global, case: &Case) -> Result<bool, SimFault> {
     let job = job_of(alloc, &case.job)?;
     Ok(is_so(rt, alloc, &job, case.question)?)

@@ -7,7 +7,7 @@ use job_loading::SimFault;
 use std::alloc::{AllocError, Global};
 use workers::{RunFault, run_schedule};
 
-/// The number of pieces that a run of a job by moves skips, where it has these verdicts.
+/// Returns the number of pieces that a run of a job by moves skips, if it has these verdicts.
 fn skipped_by(
     alloc: Global,
     job: &Job,
@@ -19,11 +19,11 @@ fn skipped_by(
     Ok(has_firsts(&verdicts, firsts).then_some(verdicts.skipped()))
 }
 
-/// Moves of four workers by which block 1 of the buffer is reported before block 0, and by which it
-/// is dropped, and the number of pieces that are skipped.
+/// Moves of four workers by which block 1 of the buffer is reported before block 0, moves by which
+/// it is dropped, and the number of skipped pieces.
 static ORDERS: [(&[u32], u64); 2] = [(&[0, 1, 2, 3, 2, 3, 1, 0], 0), (&[], 2)];
 
-/// Whether that is so of a job.
+/// Returns whether a job skips these numbers of pieces.
 fn are_skipped(alloc: Global, job: &Job) -> Result<bool, RunFault> {
     for (moves, skipped) in &ORDERS {
         let found = skipped_by(
@@ -40,13 +40,13 @@ fn are_skipped(alloc: Global, job: &Job) -> Result<bool, RunFault> {
     Ok(true)
 }
 
-/// Whether the last of 65 tests launches the transitions of the buffer.
+/// Returns whether the last of 65 tests launches the transitions of the buffer.
 fn is_launched(alloc: Global, job: &Job) -> Result<bool, RunFault> {
     let firsts = [Some(64), None, Some(64), None];
     Ok(skipped_by(alloc, job, 3, &[2, 2, 0], &firsts)?.is_some())
 }
 
-/// Numbers of workers and moves, and in which order they are refused.
+/// Numbers of workers and moves, each with its error.
 static REFUSED: [(u32, &[u32], RunFault); 5] = [
     (4, &[0, 9, 4], RunFault::NoSuchMove(1)),
     (4, &[4], RunFault::NoSuchMove(0)),
@@ -55,7 +55,7 @@ static REFUSED: [(u32, &[u32], RunFault); 5] = [
     (65, &[70], RunFault::TooManyWorkers),
 ];
 
-/// Whether they are refused so.
+/// Returns whether runs have these errors.
 fn are_refused(alloc: Global, job: &Job) -> bool {
     for (workers, moves, fault) in &REFUSED {
         if run_schedule(alloc, job, *workers, moves).err() != Some(*fault) {
@@ -76,7 +76,7 @@ fn random_moves(seed: &mut u32) -> [u32; 60] {
     moves
 }
 
-/// Whether C17 has its verdicts in a hundred orders of moves.
+/// Returns whether C17 has its verdicts in 100 orders of moves.
 fn has_one_answer(alloc: Global, job: &Job) -> Result<bool, RunFault> {
     let mut seed: u32 = 1;
     for _ in 0..100 {
@@ -88,7 +88,7 @@ fn has_one_answer(alloc: Global, job: &Job) -> Result<bool, RunFault> {
     Ok(true)
 }
 
-/// What is asked of a job.
+/// A question about a job.
 #[derive(Clone, Copy)]
 enum Question {
     AreSkipped,
@@ -97,7 +97,7 @@ enum Question {
     HasOneAnswer,
 }
 
-/// What is asked, and of which job.
+/// A question and its job.
 struct Case {
     name: &'static str,
     job: JobText,
@@ -139,7 +139,7 @@ static CASES: [Case; 4] = [
     },
 ];
 
-/// Whether it is so of a job.
+/// Returns whether a job has the property.
 fn is_so(alloc: Global, job: &Job, question: Question) -> Result<bool, RunFault> {
     match question {
         Question::AreSkipped => are_skipped(alloc, job),
@@ -149,7 +149,7 @@ fn is_so(alloc: Global, job: &Job, question: Question) -> Result<bool, RunFault>
     }
 }
 
-/// Whether the case holds.
+/// Returns whether the case holds.
 fn holds(alloc: Global, case: &Case) -> Result<bool, SimFault> {
     let job = job_of(alloc, &case.job)?;
     Ok(is_so(alloc, &job, case.question)?)
@@ -162,7 +162,7 @@ fn runs_by_moves(rt: HostRuntime) {
     }
 }
 
-/// Each kind of fault, and its words.
+/// Each kind of error, and its words.
 static WORDS: [(RunFault, &str); 7] = [
     (RunFault::NoWorkers, "no workers"),
     (RunFault::TooManyWorkers, "more than 64 workers"),
@@ -176,7 +176,7 @@ static WORDS: [(RunFault, &str); 7] = [
     ),
 ];
 
-/// Whether a fault is written in these words.
+/// Returns whether an error is written in these words.
 fn is_said(alloc: Global, fault: RunFault, words: &str) -> Result<bool, AllocError> {
     let said = format!(in alloc; "{fault}")?;
     Ok(said.as_str() == words)

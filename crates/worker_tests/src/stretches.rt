@@ -11,11 +11,11 @@ use std::thread::Threads;
 use std::time::Clock;
 use workers::{Gate, OpenGate, RunFault, run_in_parts, run_over_ledger};
 
-/// Into how many parts C17 is cut: seven of three classes and one of the last class, which is 21,
-/// that of G23 sa1. Class 2, that of G3 sa0, is of another part.
+/// The number of parts into which C17 is cut: seven of three classes and one of only the last
+/// class, 21, the class of G23 sa1. Class 2, the class of G3 sa0, is in another part.
 const PARTS: u32 = 8;
 
-/// Whether a run of C17 in these parts has its verdicts.
+/// Returns whether a run of C17 in these parts has its verdicts.
 fn is_run<R: Threads + Wait, G: Gate + Sync>(
     rt: &R,
     alloc: Global,
@@ -27,7 +27,7 @@ fn is_run<R: Threads + Wait, G: Gate + Sync>(
     Ok(has_firsts(&verdicts, &C17_FIRSTS))
 }
 
-/// A run of two workers, each of which waits in a part of its own until the other has come.
+/// Makes a run of two workers, each of which waits in a part of its own until the other has come.
 fn is_run_by_meeting<R: Threads + Wait + Clock + Sync>(
     rt: &R,
     alloc: Global,
@@ -36,8 +36,8 @@ fn is_run_by_meeting<R: Threads + Wait + Clock + Sync>(
     is_run(rt, alloc, job, 2, &Meeting::new(rt, (2, 0), (21, 0), true))
 }
 
-/// A run whose four workers wait for each other: each has a thread of its own, and is asked for by
-/// its own number.
+/// Makes a run whose four workers wait for each other: each has a thread of its own, and its gate
+/// is called with its own number.
 fn is_run_by_roll<R: Threads + Wait + Clock + Sync>(
     rt: &R,
     alloc: Global,
@@ -46,8 +46,8 @@ fn is_run_by_roll<R: Threads + Wait + Clock + Sync>(
     is_run(rt, alloc, job, 4, &Roll::new(rt))
 }
 
-/// A run of two workers, of which the one that comes first is held in its first part until the
-/// other has passed all classes of the other seven, at least 19.
+/// Makes a run of two workers. The worker that comes first is held in its first part until the
+/// other has passed all classes of the other seven parts, at least 19.
 fn is_run_by_holding<R: Threads + Wait + Clock + Sync>(
     rt: &R,
     alloc: Global,
@@ -56,9 +56,9 @@ fn is_run_by_holding<R: Threads + Wait + Clock + Sync>(
     is_run(rt, alloc, job, 2, &Holding::new(rt, 19))
 }
 
-/// A run of two workers, of which worker 0 is stopped at once. It keeps its part, if it claims one
-/// before worker 1 has claimed all; then that part's lowest class is named, which waits for block
-/// 0.
+/// Makes a run of two workers, of which worker 0 is stopped at once. It keeps its part, if it
+/// claims one before worker 1 has claimed all. The error then names that part's lowest class, which
+/// waits for block 0.
 fn leaves_the_seat<R: Threads + Wait>(rt: &R, alloc: Global, job: &Job) -> Result<bool, RunFault> {
     match run_in_parts(rt, alloc, job, PARTS, 2, &ShutForWorker { worker: 0 }) {
         Ok(verdicts) => Ok(has_firsts(&verdicts, &C17_FIRSTS)),
@@ -67,7 +67,7 @@ fn leaves_the_seat<R: Threads + Wait>(rt: &R, alloc: Global, job: &Job) -> Resul
     }
 }
 
-/// A run of two workers whose ledger has eight parts, each of them settled.
+/// Makes a run of two workers whose ledger has eight parts, each of them settled.
 fn closes_the_ledger<R: Threads + Wait>(
     rt: &R,
     alloc: Global,
@@ -81,7 +81,7 @@ fn closes_the_ledger<R: Threads + Wait>(
     )
 }
 
-/// What is asked of the runs of C17.
+/// A question about the runs of C17.
 #[derive(Clone, Copy)]
 enum Question {
     Meets,
@@ -99,7 +99,7 @@ static CASES: [(&str, Question); 5] = [
     ("the_ledger_of_the_parts", Question::ClosesTheLedger),
 ];
 
-/// Whether it is so.
+/// Returns whether the runs have the property.
 fn is_so<R: Threads + Wait + Clock + Sync>(
     rt: &R,
     alloc: Global,
@@ -115,7 +115,7 @@ fn is_so<R: Threads + Wait + Clock + Sync>(
     }
 }
 
-/// Whether the case holds.
+/// Returns whether the case holds.
 fn holds<R: Threads + Wait + Clock + Sync>(
     rt: &R,
     alloc: Global,

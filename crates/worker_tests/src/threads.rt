@@ -16,7 +16,7 @@ use std::thread::Threads;
 use std::time::Clock;
 use workers::{Gate, OpenGate, RunFault, run, work};
 
-/// Whether a run of a job by workers in threads has these verdicts.
+/// Returns whether a run of a job by workers in threads has these verdicts.
 fn is_run<R: Threads + Wait, G: Gate + Sync>(
     rt: &R,
     alloc: Global,
@@ -29,7 +29,7 @@ fn is_run<R: Threads + Wait, G: Gate + Sync>(
     Ok(has_firsts(&verdicts, firsts))
 }
 
-/// How a run of a job by workers in threads is refused.
+/// Returns the error of a run of a job by workers in threads.
 fn refusal<R: Threads + Wait, G: Gate + Sync>(
     rt: &R,
     alloc: Global,
@@ -40,7 +40,7 @@ fn refusal<R: Threads + Wait, G: Gate + Sync>(
     run(rt, alloc, job, workers, gate).err()
 }
 
-/// Whether a run of a job stops with a piece open.
+/// Returns whether a run of a job stops with a piece open.
 fn stops_at<R: Threads + Wait, G: Gate + Sync>(
     rt: &R,
     alloc: Global,
@@ -56,16 +56,16 @@ fn stops_at<R: Threads + Wait, G: Gate + Sync>(
 /// The first tests of the buffer under 64 tests of 0 and one of 1.
 static BUFFER_FIRSTS: [Option<u32>; 4] = [Some(64), Some(0), Some(64), Some(0)];
 
-/// Numbers of workers that C17 is run by.
+/// Numbers of workers that run C17.
 static NUMBERS: [u32; 4] = [1, 2, 3, 64];
 
-/// Numbers of workers that are refused.
+/// Numbers of workers that are out of range.
 static REFUSED_NUMBERS: [(u32, RunFault); 2] = [
     (0, RunFault::NoWorkers),
     (65, RunFault::TooManyWorkers),
 ];
 
-/// Whether numbers of workers are refused.
+/// Returns whether runs by these numbers of workers fail.
 fn are_refused<R: Threads + Wait>(rt: &R, alloc: Global, job: &Job) -> bool {
     for (workers, fault) in &REFUSED_NUMBERS {
         if refusal(rt, alloc, job, *workers, &OpenGate) != Some(*fault) {
@@ -75,7 +75,7 @@ fn are_refused<R: Threads + Wait>(rt: &R, alloc: Global, job: &Job) -> bool {
     true
 }
 
-/// Whether C17 has its verdicts by several numbers of workers.
+/// Returns whether C17 has its verdicts by several numbers of workers.
 fn is_run_by_all<R: Threads + Wait>(rt: &R, alloc: Global, job: &Job) -> Result<bool, RunFault> {
     for workers in &NUMBERS {
         if !is_run(rt, alloc, job, *workers, &OpenGate, &C17_FIRSTS)? {
@@ -85,10 +85,10 @@ fn is_run_by_all<R: Threads + Wait>(rt: &R, alloc: Global, job: &Job) -> Result<
     Ok(true)
 }
 
-/// Pieces of the buffer that a gate is shut for.
+/// Pieces of the buffer for which a gate is shut.
 static SHUT_PIECES: [(u32, u32); 3] = [(0, 0), (1, 0), (0, 1)];
 
-/// Whether a run whose gate is shut for one piece leaves that piece open.
+/// Returns whether a run whose gate is shut for one piece leaves that piece open.
 fn is_left_open<R: Threads + Wait>(rt: &R, alloc: Global, job: &Job) -> bool {
     for (class, block) in &SHUT_PIECES {
         let (class, block) = (*class, *block);
@@ -99,11 +99,11 @@ fn is_left_open<R: Threads + Wait>(rt: &R, alloc: Global, job: &Job) -> bool {
     true
 }
 
-/// Gates that leave two pieces open, and the piece that an unfinished run of the buffer names where
-/// all its tests are 1. Class 0, that of `z` stuck at 0, is settled by block 0, and class 1 by all
-/// blocks.
+/// Gates that leave two pieces open, and the piece that an unfinished run of the buffer names if
+/// all its tests are 1. Class 0, the class of `z` stuck at 0, is settled by block 0, and class 1 by
+/// all blocks.
 static OPEN_PAIRS: [(ShutForTwo, u32, u32); 2] = [
-    // Class 0 is settled and block 0 of class 1 is clear: of blocks 1 and 2 the lower is named.
+    // Class 0 is settled and block 0 of class 1 is clear: the lower of blocks 1 and 2 is named.
     (
         ShutForTwo {
             first: (1, 1),
@@ -123,7 +123,7 @@ static OPEN_PAIRS: [(ShutForTwo, u32, u32); 2] = [
     ),
 ];
 
-/// Whether a run of two workers, each of which leaves a piece open, names the lower one.
+/// Returns whether a run of two workers, each of which leaves a piece open, names the lower one.
 fn is_lowest_named<R: Threads + Wait>(rt: &R, alloc: Global, job: &Job) -> bool {
     for (gate, class, block) in &OPEN_PAIRS {
         if !stops_at(rt, alloc, job, 2, gate, (*class, *block)) {
@@ -133,8 +133,8 @@ fn is_lowest_named<R: Threads + Wait>(rt: &R, alloc: Global, job: &Job) -> bool 
     true
 }
 
-/// Whether a run ends well whose gate is shut for a piece behind a hit, and then one of the same
-/// job whose gate is open.
+/// Returns whether a run ends well whose gate is shut for a piece after a hit, and then a run of
+/// the same job whose gate is open.
 fn may_stay_open<R: Threads + Wait>(rt: &R, alloc: Global, job: &Job) -> Result<bool, RunFault> {
     let gate = ShutFor { class: 1, block: 1 };
     Ok(
@@ -143,8 +143,8 @@ fn may_stay_open<R: Threads + Wait>(rt: &R, alloc: Global, job: &Job) -> Result<
     )
 }
 
-/// Runs of two workers whose gate holds pieces until others have been claimed: the first two until
-/// both have been, or the first until the last has been.
+/// Makes runs of two workers whose gate holds pieces until others have been claimed: the first two
+/// until both have been, or the first until the last has been.
 fn is_run_by_meeting<R: Threads + Wait + Clock + Sync>(
     rt: &R,
     alloc: Global,
@@ -157,8 +157,8 @@ fn is_run_by_meeting<R: Threads + Wait + Clock + Sync>(
     is_run(rt, alloc, job, 2, &gate, firsts)
 }
 
-/// A run whose gate holds the four workers until all have come: each has a thread of its own, and
-/// is asked for by its own number.
+/// Makes a run whose gate holds the four workers until all have come: each has a thread of its own,
+/// and its gate is called with its own number.
 fn is_run_by_roll<R: Threads + Wait + Clock + Sync>(
     rt: &R,
     alloc: Global,
@@ -167,11 +167,11 @@ fn is_run_by_roll<R: Threads + Wait + Clock + Sync>(
     is_run(rt, alloc, job, 4, &Roll::new(rt), &BUFFER_FIRSTS)
 }
 
-/// A run in which worker 1 surely rests.
+/// Makes a run in which worker 1 surely rests.
 ///
-/// The workers hold pieces two by two, so of two claims of a worker one at most comes right after
-/// the other, and nearly all pieces take no evaluation: class 0 is dropped behind its hit, and
-/// class 1 takes two. In 200 rounds worker 1 owes far more than what makes it rest.
+/// The workers hold pieces two by two, so at most one of two claims of a worker comes right after
+/// the other. Nearly all pieces take no evaluation: class 0 is dropped after its hit, and class 1
+/// takes two. In 200 rounds worker 1 owes far more than the debt that makes it rest.
 fn is_run_by_resting<R: Threads + Wait + Clock + Sync>(
     rt: &R,
     alloc: Global,
@@ -181,17 +181,17 @@ fn is_run_by_resting<R: Threads + Wait + Clock + Sync>(
     is_run(rt, alloc, job, 2, &gate, &[Some(0), None, Some(0), None])
 }
 
-/// Whether a run of one worker skips one piece.
+/// Returns whether a run of one worker skips one piece.
 ///
 /// The worker claims class 0, of `z` stuck at 0, and class 1 on block 0 and then both on block 1.
 /// Each test is 1, so it reports a hit of class 0 and class 1 as clear. On block 1 it drops class
-/// 0, behind that hit, and reports class 1 as clear: one piece of four is skipped.
+/// 0, after that hit, and reports class 1 as clear: one piece of four is skipped.
 fn is_one_skipped<R: Threads + Wait>(rt: &R, alloc: Global, job: &Job) -> Result<bool, RunFault> {
     let verdicts = run(rt, alloc, job, 1, &OpenGate)?;
     Ok(has_firsts(&verdicts, &[Some(0), None, Some(0), None]) && verdicts.skipped() == 1)
 }
 
-/// Whether a run of one worker ends after the pieces of the first block.
+/// Returns whether a run of one worker ends after the pieces of the first block.
 fn ends_after_two<R: Threads + Wait>(rt: &R, alloc: Global, job: &Job) -> Result<bool, RunFault> {
     let gate = Counter::new();
     let is_so = is_run(
@@ -205,7 +205,7 @@ fn ends_after_two<R: Threads + Wait>(rt: &R, alloc: Global, job: &Job) -> Result
     Ok(is_so && gate.pieces() == 2)
 }
 
-/// The work of one seat, with a workspace of its own.
+/// Does the work of one seat, with a workspace of its own.
 fn work_alone<G: Gate>(
     alloc: Global,
     job: &Job,
@@ -226,7 +226,7 @@ fn work_alone<G: Gate>(
     seat
 }
 
-/// Lets each seat work in a thread of its own, and gives the seats back.
+/// Lets each seat work in a thread of its own, and returns the seats.
 fn in_threads<G: Gate + Sync, R: Threads + Sync>(
     rt: &R,
     alloc: Global,
@@ -250,8 +250,8 @@ fn in_threads<G: Gate + Sync, R: Threads + Sync>(
     )
 }
 
-/// Whether two seats that come back close their ledger of two classes with class 0 settled at test
-/// 64, and class 1 at test 0.
+/// Returns whether two seats that come back close their ledger of two classes with class 0 settled
+/// at test 64, and class 1 at test 0.
 fn is_settled(alloc: Global, ledger: SharedLedger, seats: Vec<Seat>) -> Result<bool, LedgerFault>
     requires classes { ledger.shape.classes ≡ 2 }
     requires places { All (λ seat. seat.place ≡ ledger) seats.items }
@@ -267,8 +267,9 @@ fn is_settled(alloc: Global, ledger: SharedLedger, seats: Vec<Seat>) -> Result<b
     )
 }
 
-/// Lets two threads of the caller's work at one ledger of the buffer, and says whether they settle
-/// its classes: that of a/0 and z/0, and that of a/1 and z/1. So all four faults are detected.
+/// Lets two threads of the caller's work at one ledger of the buffer, and returns whether they
+/// settle its classes: the class of a/0 and z/0, and the class of a/1 and z/1. So all four faults
+/// are detected.
 ///
 /// The first piece is held until the last has been claimed.
 fn is_shared<R: Threads + Sync + Clock>(
@@ -286,7 +287,7 @@ fn is_shared<R: Threads + Sync + Clock>(
     is_settled(alloc, ledger, seats)
 }
 
-/// What is asked of a job.
+/// A question about a job.
 #[derive(Clone, Copy)]
 enum Question {
     IsRunByAll,
@@ -306,7 +307,7 @@ enum Question {
     IsShared,
 }
 
-/// What is asked, and of which job.
+/// A question and its job.
 struct Case {
     name: &'static str,
     job: JobText,
@@ -443,7 +444,7 @@ static CASES: [Case; 14] = [
     },
 ];
 
-/// Whether it is so of a job.
+/// Returns whether a job has the property.
 fn is_so<R: Threads + Wait + Clock + Sync>(
     rt: &R,
     alloc: Global,
@@ -468,7 +469,7 @@ fn is_so<R: Threads + Wait + Clock + Sync>(
     }
 }
 
-/// Whether the case holds.
+/// Returns whether the case holds.
 fn holds<R: Threads + Wait + Clock + Sync>(
     rt: &R,
     alloc: Global,

@@ -1,4 +1,4 @@
-//! What a run tells the gate that watches it.
+//! The calls of a run to the gate that watches it.
 
 ghost use Rattle.workers.specs.Stops.{no_stop};
 
@@ -13,14 +13,14 @@ use std::thread::Threads;
 use worked_circuits::C17_TEXT;
 use workers::Gate;
 
-/// C17, whose faults are of 22 classes, with 65 tests, which are two blocks.
+/// C17, whose faults are in 22 classes, with 65 tests, which are two blocks.
 const TWO_BLOCKS: JobText = JobText {
     model: Model::StuckAt,
     bench: C17_TEXT,
     rows: &[("11111", 65)],
 };
 
-/// A gate that lets all pass, and writes down what it is told of the run.
+/// A gate that lets all pass, and records its calls.
 #[derive(Drop)]
 struct Record {
     starts: AtomicU64,
@@ -31,8 +31,8 @@ struct Record {
     passed_at_end: AtomicU64,
 }
 
-/// What a gate was told: how often a run began, with how many classes and blocks, how often one
-/// ended, and whether workers had passed before that.
+/// The record of a gate: how many times a run began, with which numbers of classes and blocks, how
+/// many times it ended, and whether workers had passed before that.
 #[derive(Clone, Copy, Debug, PartialEq, Eq)]
 struct Told {
     starts: u64,
@@ -90,16 +90,15 @@ impl Watch for Record {
     }
 }
 
-/// What the gate of a run of a job in three parts is told, by so many workers.
+/// Returns the record of the gate of a run in three parts, by this number of workers.
 fn told_of<R: Threads + Wait>(rt: &R, alloc: Global, job: &Job, workers: u32) -> Told {
     let record = Record::new();
     let _verdicts = run_watched(rt, alloc, job, 3, workers, &record);
     record.told()
 }
 
-/// Whether the gate of a run is told once that it begins, with 22 classes on 2 blocks, and once
-/// that it ends, when workers have passed; and that of a run that is refused is told that it begins
-/// alone.
+/// Returns whether the gate of a run records one begin, with 22 classes on 2 blocks, and one end,
+/// after workers have passed. The gate of a run that fails records only the begin.
 fn is_told_of_c17<R: Threads + Wait>(rt: &R, alloc: Global) -> Result<bool, SimFault> {
     let job = job_of(alloc, &TWO_BLOCKS)?;
     let done = Told {
