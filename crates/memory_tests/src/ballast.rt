@@ -1,19 +1,19 @@
-//! Memory that a test takes, so that there is none for the calls that it tries.
+//! Memory that a test takes, so that none is left for the calls that it tries.
 
 use std::alloc::{AllocError, Global};
 
 /// The most blocks of a ballast.
 pub(crate) const ROOM: usize = 200_000;
 
-/// Blocks of memory that nothing is written to, the largest first.
+/// Blocks of memory, the largest first, to which nothing is written.
 #[derive(Drop)]
 pub(crate) struct Ballast {
     blocks: Vec<Vec<u8>>,
 }
 
 impl Ballast {
-    /// Takes all memory that the process can have: no allocation of up to a kilobyte succeeds
-    /// until a block is released, and no larger one either.
+    /// Takes all memory that the process can have: no allocation of up to a kilobyte, nor a larger
+    /// one, succeeds until a block is released.
     pub(crate) fn all(alloc: Global) -> Result<Ballast, AllocError> {
         let mut ballast = Ballast::large(alloc, 17)?;
         ballast.take(alloc, 64);
@@ -34,7 +34,7 @@ impl Ballast {
         Ok(ballast)
     }
 
-    /// Takes blocks of this many bytes until one is refused.
+    /// Takes blocks of this many bytes until an allocation fails.
     fn take(&mut self, alloc: Global, bytes: usize) {
         for _ in 0..ROOM {
             let Ok(block) = Vec::with_capacity(alloc, bytes) else {
@@ -46,7 +46,7 @@ impl Ballast {
         }
     }
 
-    /// Gives back the block that was taken last.
+    /// Frees the block that was taken last.
     pub(crate) fn release(&mut self) {
         self.blocks.pop();
     }

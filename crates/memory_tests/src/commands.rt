@@ -1,4 +1,4 @@
-//! Command lines for which memory is refused: they say so, and write nothing else.
+//! Command lines that run out of memory: they report it, and write nothing else.
 
 use crate::merges::{FIRST, REPORT, SECOND};
 use crate::sweep::{Outcome, Trial, answered, refused, sweep};
@@ -11,7 +11,7 @@ use std::sync::Wait;
 use std::thread::Threads;
 use worked_circuits::C17;
 
-/// The files `bench`, which is C17, and `tests`, which has one test, and the part texts `first` and
+/// The files `bench`, which is C17, `tests`, which has one test, and the part files `first` and
 /// `second`, each read into new memory.
 #[derive(Clone, Copy)]
 struct Files;
@@ -29,7 +29,7 @@ impl Source for Files {
     }
 }
 
-/// What a command line writes, and how it is refused.
+/// The output of a command line, and its error without memory.
 #[derive(Drop)]
 struct Commanded<'a, R> {
     rt: &'a R,
@@ -70,7 +70,7 @@ fn command_lines_say_that_memory_is_out(rt: HostRuntime) {
     sweep_listing(&rt, rt.alloc());
 }
 
-/// Tries a merge of two part texts with no memory and then with more and more.
+/// Tries a merge of two part files with no memory and then with more and more.
 fn sweep_merge<R: Threads + Wait + Abort>(rt: &R, alloc: Global) {
     let merged = Commanded {
         rt,

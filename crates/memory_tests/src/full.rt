@@ -1,4 +1,4 @@
-//! Calls that take no memory, where none is left, and threads that find no room for a stack.
+//! Calls that take no memory, if none is left, and threads that find no room for a stack.
 
 ghost use Rattle.std.specs.Prelude.{◌≡◌};
 ghost use Rattle.block_sim.specs.Parts.{HasRoom};
@@ -17,7 +17,7 @@ use std::sync::Wait;
 use std::thread::Threads;
 use workers::{End, OpenGate, Verdicts, run, run_schedule, work};
 
-/// Whether the report of a job of C17 is written so.
+/// Returns whether the report of a job of C17 has the expected bytes.
 fn is_reported(job: &Job, verdicts: &Verdicts) -> bool {
     if verdicts.total() != job.faults().count() {
         return false;
@@ -27,14 +27,14 @@ fn is_reported(job: &Job, verdicts: &Verdicts) -> bool {
     written.is_ok() && screen.text() == REPORT
 }
 
-/// Whether the listing of a job of C17 is written so.
+/// Returns whether the listing of a job of C17 has the expected bytes.
 fn is_listed(job: &Job) -> bool {
     let mut screen = Screen::new();
     let written = write_listing(job.circuit(), job.faults(), job.classes(), &mut screen);
     written.is_ok() && screen.text() == LISTING
 }
 
-/// Whether both are, with no memory left.
+/// Returns whether both are written so, with no memory left.
 fn are_written(alloc: Global, job: &Job, verdicts: &Verdicts) -> Result<bool, AllocError> {
     let ballast = Ballast::all(alloc)?;
     let are_written = is_reported(job, verdicts) && is_listed(job);
@@ -42,7 +42,7 @@ fn are_written(alloc: Global, job: &Job, verdicts: &Verdicts) -> Result<bool, Al
     Ok(are_written)
 }
 
-/// Whether both texts of C17 under its 65 tests are written so.
+/// Returns whether both texts of C17 under its 65 tests are written so.
 fn writes_both(alloc: Global) -> Result<bool, SimFault> {
     let job = c17_job(alloc)?;
     let verdicts = run_schedule(alloc, &job, 2, &[])?;
@@ -54,7 +54,8 @@ fn reports_are_written(rt: HostRuntime) {
     assert!(rt; writes_both(rt.alloc()) == Ok(true));
 }
 
-/// Claims a piece, and drops it, else simulates it twice and reports. Says whether all went well.
+/// Claims a piece, and drops it, else simulates it twice and reports. Returns whether all went
+/// well.
 fn step(job: &Job, ledger: &mut Ledger, workspace: &mut Workspace) -> bool {
     let Ok(Claim::Piece { class, block }) = ledger.claim(0) else {
         return false;
@@ -70,7 +71,7 @@ fn step(job: &Job, ledger: &mut Ledger, workspace: &mut Workspace) -> bool {
     whole == early && ledger.report(0, early).is_ok()
 }
 
-/// Simulates all 44 pieces of a job. Says whether all went well.
+/// Simulates all 44 pieces of a job. Returns whether all went well.
 fn simulates(job: &Job, ledger: &mut Ledger, workspace: &mut Workspace) -> bool {
     for _piece in 0..44 {
         if !step(job, ledger, workspace) {
@@ -80,7 +81,7 @@ fn simulates(job: &Job, ledger: &mut Ledger, workspace: &mut Workspace) -> bool 
     ledger.finished() == Finish::Finished && workspace.gate_evaluations() > 0
 }
 
-/// The same in a new workspace, with no memory left.
+/// Simulates all pieces in a new workspace, with no memory left.
 fn simulates_without_memory(
     alloc: Global,
     job: &Job,
@@ -93,13 +94,13 @@ fn simulates_without_memory(
     Ok(is_well)
 }
 
-/// The same with a new ledger.
+/// Simulates all pieces with a new ledger.
 fn simulates_all(alloc: Global, job: &Job) -> Result<bool, LedgerFault> {
     let mut ledger = Ledger::new(alloc, 22, 65, 1)?;
     Ok(simulates_without_memory(alloc, job, &mut ledger)?)
 }
 
-/// Whether the pieces of C17 under its 65 tests are simulated, and a worker works on them.
+/// Returns whether the pieces of C17 under its 65 tests are simulated, and a worker works on them.
 fn is_simulated(alloc: Global) -> Result<(bool, bool), SimFault> {
     let job = c17_job(alloc)?;
     let is_worked = works(alloc, &job) == Ok(true);
@@ -111,7 +112,7 @@ fn pieces_are_simulated(rt: HostRuntime) {
     assert!(rt; is_simulated(rt.alloc()) == Ok((true, true)));
 }
 
-/// Lets the worker of a seat work with no memory left. Says whether all went well.
+/// Lets the worker of a seat work with no memory left. Returns whether all went well.
 fn works_without_memory(
     alloc: Global,
     job: &Job,
@@ -157,9 +158,9 @@ fn works(alloc: Global, job: &Job) -> Result<bool, LedgerFault> {
     Ok(works_at(alloc, job, &ledger, &mut seat)?)
 }
 
-/// Whether 64 workers cannot start where few find room for a stack.
+/// Returns whether 64 workers cannot start if few find room for a stack.
 fn is_refused<R: Threads + Wait>(rt: &R, alloc: Global, job: &Job) -> Result<bool, AllocError> {
-    // No stack of a thread finds room, 8 MB, but for those that are kept from threads that ended.
+    // No stack of a thread, 8 MB, finds room, except for stacks that are kept from ended threads.
     // Up to 4 MB do, so that small blocks are there though the heap may have no room to grow.
     let ballast = Ballast::large(alloc, 22)?;
     let refused = run(rt, alloc, job, 64, &OpenGate).err();
@@ -167,7 +168,7 @@ fn is_refused<R: Threads + Wait>(rt: &R, alloc: Global, job: &Job) -> Result<boo
     Ok(refused == Some(RunFault::Threads))
 }
 
-/// Whether 64 workers start where all do.
+/// Returns whether 64 workers start if all find room.
 fn is_run<R: Threads + Wait>(rt: &R, alloc: Global, job: &Job) -> bool {
     match run(rt, alloc, job, 64, &OpenGate) {
         Ok(verdicts) => is_right(&verdicts),
@@ -175,7 +176,7 @@ fn is_run<R: Threads + Wait>(rt: &R, alloc: Global, job: &Job) -> bool {
     }
 }
 
-/// Whether both is so of the job of C17.
+/// Returns whether both hold for the job of C17.
 fn starts<R: Threads + Wait>(rt: &R, alloc: Global) -> Result<bool, SimFault> {
     let job = c17_job(alloc)?;
     Ok(is_refused(rt, alloc, &job)? && is_run(rt, alloc, &job))

@@ -1,5 +1,4 @@
-//! Tests of calls for which memory or threads are refused, and of calls that go on where none is
-//! left.
+//! Tests of calls that run out of memory or threads, and of calls that go on if none is left.
 #![tactic(auto)]
 
 #[cfg(test)]

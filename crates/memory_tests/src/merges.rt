@@ -1,11 +1,11 @@
-//! Part texts that are merged.
+//! Merges of part files.
 
 use crate::sweep::{Outcome, Trial, answered, refused, sweep};
 use crate::texts::Screen;
 use report::{Lines, Merge, MergeFault, Merged, PartFault, write_merged};
 use std::alloc::Global;
 
-/// The part texts of two faults.
+/// The part files of two faults.
 pub(crate) const FIRST: &[u8] = b"\
     part 1 of 2 model stuck rule region bench b tests t\n\
     stem a sa0 7\n\
@@ -23,14 +23,14 @@ pub(crate) const SECOND: &[u8] = b"\
 /// The report of both.
 pub(crate) const REPORT: &[u8] = b"stem a sa0 7\nstem a sa1 none\n1 of 2 (50.00%)\n";
 
-/// What both part texts say together.
+/// Returns the merge of both part files.
 fn merged(alloc: Global) -> Result<Merged<'static>, MergeFault> {
     let first = Merge::of(alloc, FIRST)?;
     let both = first.add(alloc, SECOND)?;
     both.end(alloc)
 }
 
-/// A merge of two part texts, and its report.
+/// A merge of two part files, and its report.
 #[derive(Clone, Copy)]
 struct Merging;
 

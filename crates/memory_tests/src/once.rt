@@ -1,5 +1,5 @@
-//! Each call once. The test passes with ample memory, and also where one allocation of its process,
-//! or the start of one thread, is refused: `bench/refusals.py` runs it so, with one after another.
+//! Each call once. The test passes with ample memory, and also if one allocation of its process, or
+//! the start of one thread, fails: `bench/refusals.py` runs it so, with one failure after another.
 
 use crate::parts::{MEANS, Making, PARTS, Setting, tests_of_c17};
 use crate::runs::{Scheduled, Threaded};
@@ -14,28 +14,28 @@ use std::sync::Wait;
 use std::thread::Threads;
 use worked_circuits::C17;
 
-/// The parts of a job.
+/// Makes the parts of a job.
 fn make_parts<R: Abort>(rt: &R, alloc: Global, job: &Job, tests: &[u8]) {
     for part in PARTS {
         once(rt, alloc, &Making { part, job, tests });
     }
 }
 
-/// What a run stands on.
+/// Makes the means of a run.
 fn make_means<R: Abort>(rt: &R, alloc: Global, job: &Job) {
     for means in MEANS {
         once(rt, alloc, &Setting { means, job });
     }
 }
 
-/// The text calls.
+/// Makes the text calls.
 fn write_texts<R: Threads + Wait + Abort>(rt: &R, alloc: Global, tests: &[u8]) {
     for call in CALLS {
         once(rt, alloc, &Written { rt, call, tests });
     }
 }
 
-/// The runs of a job.
+/// Makes the runs of a job.
 fn make_runs<R: Threads + Wait + Abort>(rt: &R, alloc: Global, job: &Job) {
     once(rt, alloc, &Scheduled { job });
     once(rt, alloc, &Threaded { rt, job });

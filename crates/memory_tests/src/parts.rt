@@ -1,4 +1,4 @@
-//! The calls that make the parts of a job, and what a run of it stands on.
+//! The calls that make the parts of a job, and the means of its run.
 
 use crate::sweep::{Outcome, Trial, answered, refused, sweep};
 use bench_net::{BenchFault, read_bench};
@@ -31,13 +31,13 @@ pub(crate) fn tests_of_c17(alloc: Global) -> Result<Vec<u8>, AllocError> {
     Ok(text)
 }
 
-/// The job of C17 under its 65 tests.
+/// Returns the job of C17 under its 65 tests.
 pub(crate) fn c17_job(alloc: Global) -> Result<Job, SimFault> {
     let tests = tests_of_c17(alloc)?;
     job_of(alloc, Model::StuckAt, C17, tests.as_slice())
 }
 
-/// Whether a call was refused for want of memory.
+/// Returns whether a call ran out of memory.
 pub(crate) fn is_want(fault: SimFault) -> bool {
     match fault {
         SimFault::Memory => true,
@@ -103,7 +103,7 @@ impl Trial for Making<'_> {
     }
 }
 
-/// What comes of reading C17.
+/// Tries to read C17.
 fn make_circuit(alloc: Global) -> Outcome {
     match read_bench(alloc, C17) {
         Ok(circuit) => answered(circuit.signals() == 11),
@@ -111,7 +111,7 @@ fn make_circuit(alloc: Global) -> Outcome {
     }
 }
 
-/// What comes of listing the faults of C17.
+/// Tries to list the faults of C17.
 fn make_faults(alloc: Global, job: &Job) -> Outcome {
     match list_faults(alloc, job.circuit()) {
         Ok(faults) => answered(faults.count() == 34),
@@ -119,7 +119,7 @@ fn make_faults(alloc: Global, job: &Job) -> Outcome {
     }
 }
 
-/// What comes of collapsing the faults of C17.
+/// Tries to collapse the faults of C17.
 fn make_classes(alloc: Global, job: &Job) -> Outcome {
     match collapse(alloc, job.circuit(), job.faults()) {
         Ok(classes) => answered(classes.count() == 22),
@@ -127,7 +127,7 @@ fn make_classes(alloc: Global, job: &Job) -> Outcome {
     }
 }
 
-/// What comes of reading 65 tests.
+/// Tries to read 65 tests.
 fn make_tests(alloc: Global, text: &[u8]) -> Outcome {
     match read_tests(alloc, text, 5) {
         Ok(tests) => answered(tests.count() == 65),
@@ -135,7 +135,7 @@ fn make_tests(alloc: Global, text: &[u8]) -> Outcome {
     }
 }
 
-/// What comes of making the job of C17 under the tests of a text.
+/// Tries to make the job of C17 under the tests of a file.
 fn make_job(alloc: Global, text: &[u8]) -> Outcome {
     match job_of(alloc, Model::StuckAt, C17, text) {
         Ok(job) => answered(job.classes().count() == 22),
@@ -143,7 +143,7 @@ fn make_job(alloc: Global, text: &[u8]) -> Outcome {
     }
 }
 
-/// What comes of making the job of C17 without tests, and of giving it the tests of a text.
+/// Tries to make the job of C17 without tests, and then to give it the tests of a file.
 fn make_new_tests(alloc: Global, text: &[u8]) -> Outcome {
     match job_of(alloc, Model::StuckAt, C17, b"") {
         Ok(mut job) => try_tests(alloc, &mut job, text),
@@ -151,13 +151,13 @@ fn make_new_tests(alloc: Global, text: &[u8]) -> Outcome {
     }
 }
 
-/// Gives a job the tests of a text.
+/// Gives a job the tests of a file.
 fn take_tests(alloc: Global, job: &mut Job, text: &[u8]) -> Result<(), SimFault> {
     let tests = read_tests(alloc, text, job.circuit().sources())?;
     Ok(job.set_tests(alloc, tests)?)
 }
 
-/// What comes of giving a job without tests the 65 tests of a text: it has them, or none as before.
+/// Tries to give a job without tests the 65 tests of a file: it has them, or none as before.
 fn try_tests(alloc: Global, job: &mut Job, text: &[u8]) -> Outcome {
     match take_tests(alloc, job, text) {
         Ok(()) => answered(job.tests().count() == 65),
@@ -165,7 +165,7 @@ fn try_tests(alloc: Global, job: &mut Job, text: &[u8]) -> Outcome {
     }
 }
 
-/// What a run stands on, beside its job.
+/// The means of a run, beside its job.
 #[derive(Clone, Copy, Debug)]
 pub(crate) enum Means {
     Order,
@@ -175,7 +175,7 @@ pub(crate) enum Means {
     SharedLedger,
 }
 
-/// What a run stands on.
+/// All means of a run.
 pub(crate) const MEANS: [Means; 5] = [
     Means::Order,
     Means::Workspace,
@@ -227,7 +227,7 @@ impl Trial for Setting<'_> {
     }
 }
 
-/// A shared ledger that is made and closed again.
+/// Tries to make a shared ledger and to close it again.
 fn share(alloc: Global) -> Outcome {
     match SharedLedger::new(alloc, 22, 65, 2) {
         Ok((ledger, seats)) => {
@@ -263,7 +263,7 @@ fn parts_of_a_job(rt: HostRuntime) {
     assert!(rt; sweep_parts_of_c17(&rt, rt.alloc()).is_ok());
 }
 
-/// Tries to make what a run of the job of C17 stands on.
+/// Tries to make the means of a run of the job of C17.
 fn sweep_means<R: Abort>(rt: &R, alloc: Global) -> Result<(), SimFault> {
     let job = c17_job(alloc)?;
     for means in MEANS {

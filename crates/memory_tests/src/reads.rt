@@ -1,5 +1,5 @@
-//! Calls that only read, and seats that look and meet: they answer where no memory is left as they
-//! do where there is some.
+//! Calls that only read, and seats that look and meet: they have the same results with and without
+//! memory.
 
 ghost use Rattle.std.specs.Prelude.{◌≡◌, ◌<◌, IfOk, length};
 ghost use Rattle.bench_net.specs.Scan.{names};
@@ -18,7 +18,7 @@ use report::{RunFault, SimFault};
 use std::alloc::{AllocError, Global};
 use workers::{Verdicts, run_schedule};
 
-/// A sum of answers, in which their order counts.
+/// A sum of results, in which their order counts.
 #[derive(Clone, Copy, Debug, PartialEq, Eq)]
 struct Sum(u64);
 
@@ -28,7 +28,7 @@ impl Sum {
     }
 }
 
-/// What the calls of a circuit answer for a signal.
+/// Adds the results of a circuit's calls for a signal.
 fn add_signal(sum: &mut Sum, circuit: &Circuit, signal: u32)
     requires { signal < length (names circuit.now) }
 {
@@ -39,7 +39,7 @@ fn add_signal(sum: &mut Sum, circuit: &Circuit, signal: u32)
     sum.add(circuit.sinks_of(signal).len() as u64);
 }
 
-/// What the calls of a circuit answer.
+/// Adds the results of a circuit's calls.
 fn add_circuit(sum: &mut Sum, circuit: &Circuit) {
     sum.add(u64::from(circuit.sources()));
     sum.add(u64::from(circuit.depth()));
@@ -52,7 +52,7 @@ fn add_circuit(sum: &mut Sum, circuit: &Circuit) {
     }
 }
 
-/// What the calls of a fault list answer.
+/// Adds the results of a fault list's calls.
 fn add_faults(sum: &mut Sum, faults: &Faults) {
     sum.add((faults.model() == Model::StuckAt) as u64);
     for fault in 0..faults.count() {
@@ -63,7 +63,7 @@ fn add_faults(sum: &mut Sum, faults: &Faults) {
     }
 }
 
-/// What a fault list answers for the stem of a signal.
+/// Adds the results of a fault list for the stem of a signal.
 fn add_stem(sum: &mut Sum, job: &Job, signal: u32)
     requires { signal < length (names job.now.circuit) }
 {
@@ -72,14 +72,14 @@ fn add_stem(sum: &mut Sum, job: &Job, signal: u32)
     sum.add(u64::from(faults.stem_fault(signal, true)));
 }
 
-/// What a fault list answers for the stems of a circuit.
+/// Adds the results of a fault list for the stems of a circuit.
 fn add_stems(sum: &mut Sum, job: &Job) {
     for signal in 0..job.circuit().signals() {
         add_stem(sum, job, signal);
     }
 }
 
-/// What the calls of the classes answer.
+/// Adds the results of the classes' calls.
 fn add_classes(sum: &mut Sum, job: &Job) {
     let classes = job.classes();
     for class in 0..classes.count() {
@@ -90,7 +90,7 @@ fn add_classes(sum: &mut Sum, job: &Job) {
     }
 }
 
-/// The bits of the tests at a source.
+/// Adds the bits of the tests at a source.
 fn add_bits(sum: &mut Sum, tests: &Tests, source: u32)
     requires { source < tests.now.width }
 {
@@ -99,14 +99,14 @@ fn add_bits(sum: &mut Sum, tests: &Tests, source: u32)
     }
 }
 
-/// The bits of the tests.
+/// Adds the bits of the tests.
 fn add_all_bits(sum: &mut Sum, tests: &Tests) {
     for source in 0..tests.width() {
         add_bits(sum, tests, source);
     }
 }
 
-/// What the calls of the tests answer.
+/// Adds the results of the tests' calls.
 fn add_tests(sum: &mut Sum, tests: &Tests) {
     sum.add(u64::from(tests.count()));
     for block in 0..tests.blocks() {
@@ -117,7 +117,7 @@ fn add_tests(sum: &mut Sum, tests: &Tests) {
     }
 }
 
-/// What the calls of the verdicts answer.
+/// Adds the results of the verdicts' calls.
 fn add_verdicts(sum: &mut Sum, verdicts: &Verdicts) {
     sum.add(u64::from(verdicts.detected()));
     sum.add(verdicts.skipped());
@@ -126,7 +126,7 @@ fn add_verdicts(sum: &mut Sum, verdicts: &Verdicts) {
     }
 }
 
-/// What all calls answer that only read.
+/// Returns the sum of the results of all calls that only read.
 fn sum_of(job: &Job, verdicts: &Verdicts) -> Sum {
     let mut sum = Sum(0);
     add_circuit(&mut sum, job.circuit());
@@ -139,7 +139,7 @@ fn sum_of(job: &Job, verdicts: &Verdicts) -> Sum {
     sum
 }
 
-/// What these calls answer where no memory is left.
+/// Returns this sum with no memory left.
 fn sum_without_memory(alloc: Global, job: &Job, verdicts: &Verdicts) -> Result<Sum, AllocError> {
     let ballast = Ballast::all(alloc)?;
     let sum = sum_of(job, verdicts);
@@ -147,14 +147,15 @@ fn sum_without_memory(alloc: Global, job: &Job, verdicts: &Verdicts) -> Result<S
     Ok(sum)
 }
 
-/// Whether the calls on a job and its verdicts answer the same without memory and with it.
+/// Returns whether the calls on a job and its verdicts have the same results with and without
+/// memory.
 fn is_sum_the_same(alloc: Global, job: &Job) -> Result<bool, RunFault> {
     let verdicts = run_schedule(alloc, job, 2, &[])?;
     let without = sum_without_memory(alloc, job, &verdicts)?;
     Ok(without == sum_of(job, &verdicts))
 }
 
-/// Whether that is so of the job of C17.
+/// Returns whether this holds for the job of C17.
 fn are_read(alloc: Global) -> Result<bool, SimFault> {
     let job = c17_job(alloc)?;
     Ok(is_sum_the_same(alloc, &job)?)
@@ -165,8 +166,8 @@ fn calls_that_read(rt: HostRuntime) {
     assert!(rt; are_read(rt.alloc()) == Ok(true));
 }
 
-/// Whether two seats of a ledger of one class and two blocks find what is right, where the first
-/// reports a hit at the first block and the second drops the other.
+/// Returns whether two seats of a ledger of one class and two blocks have the right results, if the
+/// first reports a hit at the first block and the second drops the other.
 fn seats_answer(ledger: &SharedLedger, first: &mut Seat, second: &mut Seat) -> bool
     requires shape { (ledger.now.shape.classes ≡ 1) × (ledger.now.shape.tests ≡ 65) }
     requires seats { (first.old.place ≡ ledger.now) × (second.old.place ≡ ledger.now) }
@@ -183,7 +184,7 @@ fn seats_answer(ledger: &SharedLedger, first: &mut Seat, second: &mut Seat) -> b
     claimed && reported && dropped && seen && status && finished && seated
 }
 
-/// Whether they do where no memory is left.
+/// Returns whether two seats have the right results with no memory left.
 fn seats_answer_without_memory(
     alloc: Global,
     ledger: &SharedLedger,
@@ -199,7 +200,7 @@ fn seats_answer_without_memory(
     Ok(answered)
 }
 
-/// Whether the two seats of a new ledger do.
+/// Returns whether the two seats of a new ledger have them.
 fn new_seats_answer(alloc: Global) -> Result<bool, LedgerFault> {
     let (ledger, mut seats) = SharedLedger::new(alloc, 1, 65, 2)?;
     let (Some(mut second), Some(mut first)) = (seats.pop(), seats.pop()) else {
@@ -220,8 +221,8 @@ const SHAPE: Shape = Shape {
     workers: 1,
 };
 
-/// Whether a ledger of this shape finds what is right, where the first piece is reported a hit and
-/// the second is held, and then dropped.
+/// Returns whether a ledger of this shape has the right results, if the first piece is reported as
+/// a hit and the second is held, and then dropped.
 fn ledger_answers(ledger: &mut Ledger) -> bool
     requires { ledger.old.shape ≡ shape_of 1 65 1 }
 {
@@ -235,7 +236,7 @@ fn ledger_answers(ledger: &mut Ledger) -> bool
     claimed && waits && reported && held && dropped && status && finished && ledger.shape() == SHAPE
 }
 
-/// Whether a new one does where no memory is left.
+/// Returns whether a new ledger has them with no memory left.
 fn new_ledger_answers(alloc: Global) -> Result<bool, LedgerFault> {
     let mut ledger = Ledger::new(alloc, 1, 65, 1)?;
     let ballast = Ballast::all(alloc)?;
@@ -258,7 +259,8 @@ fn hit_and_drop(ledger: &SharedLedger, seat: &mut Seat)
     let _dropped = ledger.claim(seat).is_ok() && ledger.drop_piece(seat).is_ok();
 }
 
-/// A closed ledger of that shape, where the first piece was reported a hit and the second dropped.
+/// Returns a closed ledger of that shape. Its first piece was reported as a hit, and the second
+/// dropped.
 fn closed_ledger(alloc: Global) -> Result<Closed, LedgerFault>
     ensures { IfOk result (λ closed. closed.shape ≡ shape_of 1 65 1) }
 {
@@ -271,7 +273,7 @@ fn closed_ledger(alloc: Global) -> Result<Closed, LedgerFault>
     ledger.close(alloc, seats)
 }
 
-/// Whether a closed ledger of that shape finds what is right.
+/// Returns whether a closed ledger of that shape has the right results.
 fn closed_answers(closed: &Closed) -> bool
     requires { closed.now.shape ≡ shape_of 1 65 1 }
 {
@@ -282,7 +284,7 @@ fn closed_answers(closed: &Closed) -> bool
     first && second && status && finished && closed.skipped() == 1
 }
 
-/// Whether one does where no memory is left.
+/// Returns whether a closed ledger has them with no memory left.
 fn closed_ledger_answers(alloc: Global) -> Result<bool, LedgerFault> {
     let closed = closed_ledger(alloc)?;
     let ballast = Ballast::all(alloc)?;

@@ -10,7 +10,7 @@ use std::sync::Wait;
 use std::thread::Threads;
 use workers::{OpenGate, Verdicts, run, run_schedule};
 
-/// Whether these are the verdicts of C17, of whose faults two tests detect 19.
+/// Returns whether these are the verdicts of C17. Two tests detect 19 of its faults.
 pub(crate) fn is_right(verdicts: &Verdicts) -> bool {
     verdicts.detected() == 19 && verdicts.total() == 34
 }

@@ -4,18 +4,18 @@ use crate::ballast::{Ballast, ROOM};
 use std::alloc::{AllocError, Global};
 use std::process::Abort;
 
-/// What a call came to.
+/// The outcome of a call.
 #[derive(Clone, Copy, Debug, PartialEq, Eq)]
 pub(crate) enum Outcome {
-    /// The answer that it gives where there is memory.
+    /// The result that it has with memory.
     Right,
-    /// Memory or a thread was refused, and it says so.
+    /// It ran out of memory or threads, and reports so.
     Refused,
     /// Anything else.
     Wrong,
 }
 
-/// The outcome of a call that was not refused.
+/// Returns the outcome of a call that did not fail.
 pub(crate) fn answered(is_right: bool) -> Outcome {
     if is_right {
         Outcome::Right
@@ -24,7 +24,7 @@ pub(crate) fn answered(is_right: bool) -> Outcome {
     }
 }
 
-/// The outcome of a call that was refused.
+/// Returns the outcome of a call that failed.
 pub(crate) fn refused(is_memory: bool) -> Outcome {
     if is_memory {
         Outcome::Refused
@@ -35,14 +35,14 @@ pub(crate) fn refused(is_memory: bool) -> Outcome {
 
 /// A call that can be tried again.
 pub(crate) trait Trial {
-    /// The name of the call.
+    /// Returns the name of the call.
     fn name(&self) -> &str;
 
     /// Makes the call.
     fn attempt(&self, alloc: Global) -> Outcome;
 }
 
-/// Whether a call succeeds, once more where it was refused.
+/// Returns whether a call succeeds, at the second try if the first failed.
 fn succeeds<T: Trial>(alloc: Global, trial: &T) -> bool {
     match trial.attempt(alloc) {
         Outcome::Right => true,
@@ -51,13 +51,13 @@ fn succeeds<T: Trial>(alloc: Global, trial: &T) -> bool {
     }
 }
 
-/// Makes a call, and once more where it was refused. It must succeed then, since what is refused
-/// here is one allocation or the start of one thread alone.
+/// Makes a call, and once more if it failed. It must then succeed, because only one allocation or
+/// the start of one thread fails here.
 pub(crate) fn once<T: Trial, R: Abort>(rt: &R, alloc: Global, trial: &T) {
     check(rt, succeeds(alloc, trial), trial.name());
 }
 
-/// Whether a call is refused with one block of memory more each time, until it succeeds.
+/// Returns whether a call fails with one block of memory more each time, until it succeeds.
 fn recovers<T: Trial>(alloc: Global, trial: &T, ballast: &mut Ballast) -> bool {
     for _step in 0..ROOM {
         ballast.release();
@@ -70,14 +70,14 @@ fn recovers<T: Trial>(alloc: Global, trial: &T, ballast: &mut Ballast) -> bool {
     false
 }
 
-/// Whether a call is refused with no memory, and then until it succeeds.
+/// Returns whether a call fails with no memory, and then until it succeeds.
 fn is_refused_until<T: Trial>(alloc: Global, trial: &T) -> Result<bool, AllocError> {
     let mut ballast = Ballast::all(alloc)?;
     Ok(trial.attempt(alloc) == Outcome::Refused && recovers(alloc, trial, &mut ballast))
 }
 
 /// Tries a call with ample memory, then with none, and then with one block more each time until it
-/// succeeds. It must be refused at first, and never be wrong.
+/// succeeds. It must fail at first, and never be wrong.
 pub(crate) fn sweep<T: Trial, R: Abort>(rt: &R, alloc: Global, trial: &T) {
     let is_right = trial.attempt(alloc) == Outcome::Right;
     check(
@@ -87,7 +87,7 @@ pub(crate) fn sweep<T: Trial, R: Abort>(rt: &R, alloc: Global, trial: &T) {
     );
 }
 
-/// Stops the test where the call of this name isn't right.
+/// Stops the test if the call of this name isn't right.
 fn check<R: Abort>(rt: &R, holds: bool, name: &str) {
     assert!(rt; holds, "{name}");
 }

@@ -1,4 +1,4 @@
-//! The text calls: where they are refused, nothing is written.
+//! The text calls: if they fail, nothing is written.
 
 ghost use Rattle.std.specs.Prelude.{◌≤◌};
 
@@ -71,7 +71,7 @@ pub(crate) enum TextCall {
     Responses,
 }
 
-/// All of them.
+/// All text calls.
 pub(crate) const CALLS: [TextCall; 8] = [
     TextCall::Simulate,
     TextCall::InParts,
@@ -87,13 +87,13 @@ pub(crate) const CALLS: [TextCall; 8] = [
 /// Ones detect 14 of the 34 faults, and zeros 5 more.
 const CURVE: &[u8] = b"0 14 41.17\n64 19 55.88\n19 of 34 (55.88%)\n";
 
-/// How many faults two of these tests detect.
+/// The number of faults that two of these tests detect.
 const TWICE_DETECTED: &[u8] = b"14 of 34 (41.17%)\n";
 
 /// The tests that are kept.
 const COMPACTED: &[u8] = b"11111\n00000\n";
 
-/// What C17 answers to these tests.
+/// The responses of C17 to these tests.
 const RESPONSES: &[u8] = b"\
     10\n10\n10\n10\n10\n10\n10\n10\n10\n10\n10\n10\n10\n10\n10\n10\n\
     10\n10\n10\n10\n10\n10\n10\n10\n10\n10\n10\n10\n10\n10\n10\n10\n\
@@ -101,7 +101,7 @@ const RESPONSES: &[u8] = b"\
     10\n10\n10\n10\n10\n10\n10\n10\n10\n10\n10\n10\n10\n10\n10\n10\n\
     00\n";
 
-/// What a text call on C17 writes.
+/// Returns the text that a call on C17 writes.
 fn text_of(call: TextCall) -> &'static [u8] {
     match call {
         TextCall::Simulate | TextCall::InParts | TextCall::Schedule => REPORT,
@@ -141,8 +141,7 @@ impl<R: Threads + Wait> Written<'_, R> {
         }
     }
 
-    /// Whether the call may be refused so: for want of memory, and of a thread where it starts
-    /// some.
+    /// Returns whether the call may fail so: for memory, and for a thread if it starts one.
     fn is_want(&self, fault: SimFault) -> bool {
         match self.call {
             TextCall::Schedule | TextCall::Faults | TextCall::Responses => is_want(fault),

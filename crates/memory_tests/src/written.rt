@@ -1,5 +1,5 @@
-//! What is written of C17, from the table of its faults and a plain simulator of one fault and one
-//! test at a time, which has nothing of this one.
+//! The expected texts on C17, made from the table of its faults by a plain simulator of one fault
+//! and one test at a time. It shares nothing with this simulator.
 
 /// The report of C17, with a line for each fault, under 64 tests of ones and then one of zeros.
 /// Ones detect 14 of the 34 faults, and zeros 5 more.
