@@ -1,8 +1,8 @@
-//! What all tests of this crate do with a case.
+//! The check of a case, for all tests of this crate.
 
 use std::process::Abort;
 
-/// Stops the test where the case of this name does not hold.
+/// Stops the test if the case of this name does not hold.
 pub(crate) fn check(rt: &impl Abort, holds: bool, name: &str) {
     assert!(rt; holds, "{name}");
 }

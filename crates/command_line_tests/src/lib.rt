@@ -1,5 +1,5 @@
-//! Tests of the command line that the built program can't show, and of the text calls. All others
-//! are cases that it is run on.
+//! Tests of the command line that the built program can't show, and of the text calls. All other
+//! tests are cases that the program runs.
 #![tactic(auto)]
 
 #[cfg(test)]

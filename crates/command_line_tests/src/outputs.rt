@@ -10,7 +10,7 @@ use std::sync::Wait;
 use std::thread::Threads;
 use worked_circuits::C17;
 
-/// C17, a test for it, and part texts of two faults.
+/// C17, a test for it, and part files of two faults.
 #[derive(Clone, Copy)]
 struct Files;
 
@@ -42,10 +42,10 @@ const SECOND: &[u8] = b"\
     part 2 of 2: 0 of 1\n\
     ";
 
-/// What a run of C17 writes.
+/// The output of a run of C17.
 const COVERAGE: &str = "14 of 34 (41.17%)\n";
 
-/// Command lines, and what each writes.
+/// Command lines, each with its output.
 static WRITTEN: [(&str, &str); 2] = [
     ("faultsim run --bench bench --tests tests", COVERAGE),
     (
@@ -56,18 +56,19 @@ static WRITTEN: [(&str, &str); 2] = [
 
 const CANNOT_WRITE: &str = "faultsim: cannot write\n";
 
-/// How many of so many bytes an output takes with this limit, which takes so many a call.
+/// Returns the number of bytes, of `count`, that an output takes with this limit and this many a
+/// call.
 fn taken_of(count: usize, limit: usize, step: usize) -> usize {
     if step == 0 { 0 } else { limit.min(count) }
 }
 
-/// What a command line says on standard error, and its status, where all is written or not.
+/// Returns the standard error of a command line, and its status, if all is written or not.
 fn said_of(is_all: bool) -> (&'static str, u8) {
     if is_all { ("", 0) } else { (CANNOT_WRITE, 3) }
 }
 
-/// Whether words write this to an output that takes so many bytes, and so many a call, and say on
-/// standard error whether that was all.
+/// Returns whether words write this to an output with a limit of bytes, and of bytes a call, and
+/// report on standard error if that was not all.
 fn write_so<R: AllocGlobal + Threads + Wait>(
     rt: &R,
     words: &[&str],
@@ -84,7 +85,7 @@ fn write_so<R: AllocGlobal + Threads + Wait>(
     is_beginning && err.text() == said.as_bytes() && status == wanted
 }
 
-/// Whether a command line does.
+/// Returns whether a command line writes this so.
 fn writes<R: AllocGlobal + Threads + Wait>(
     rt: &R,
     line: &str,
@@ -96,7 +97,7 @@ fn writes<R: AllocGlobal + Threads + Wait>(
     Ok(write_so(rt, &words, written, limit, step))
 }
 
-/// Whether a command line writes a beginning of this to each output that takes fewer bytes.
+/// Returns whether a command line writes a beginning of this to each output that takes fewer bytes.
 fn writes_beginnings<R: AllocGlobal + Threads + Wait>(
     rt: &R,
     line: &str,
@@ -117,7 +118,7 @@ fn failing_output_has_a_beginning(rt: HostRuntime) {
     }
 }
 
-/// Whether a command line writes this to outputs that take no byte, one and seven a call.
+/// Returns whether a command line writes this to outputs that take no byte, one and seven a call.
 fn writes_slowly<R: AllocGlobal + Threads + Wait>(
     rt: &R,
     line: &str,
@@ -171,13 +172,14 @@ fn simulate_slowly<R: AllocGlobal + Threads + Wait>(
     simulate_text(rt, rt.alloc(), C17, b"11111\n", 1, false, out)
 }
 
-/// A slow writer with no bytes, as an output.
+/// Returns a slow writer with no bytes, as an output.
 fn slow_output(alloc: Global, limit: usize, step: usize) -> Plain<Slow> {
     let bytes = Vec::new(alloc);
     Plain::new(Slow { bytes, limit, step })
 }
 
-/// Limits of slow writers, how many bytes they take a call, and how many of the report.
+/// Limits of slow writers, the bytes that they take a call, and the bytes of the report that they
+/// take.
 static TAKEN: [(usize, usize, usize); 7] = [
     (18, 1, 18),
     (18, 7, 18),
@@ -188,7 +190,8 @@ static TAKEN: [(usize, usize, usize); 7] = [
     (18, 0, 0),
 ];
 
-/// Whether a slow writer takes so many bytes of the report, and it is told whether that was all.
+/// Returns whether a slow writer takes this many bytes of the report, and the call returns whether
+/// that was all.
 fn is_taken<R: AllocGlobal + Threads + Wait>(
     rt: &R,
     limit: usize,

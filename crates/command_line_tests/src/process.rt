@@ -1,5 +1,4 @@
-//! Runs on the arguments of a process: files that can't be had, and an output that refuses its
-//! flush.
+//! Runs on the arguments of a process: files that can't be read, and an output that fails to flush.
 
 use crate::checks::check;
 use crate::screen::Screen;
@@ -13,7 +12,7 @@ use std::sync::Wait;
 use std::thread::Threads;
 use std::time::Duration;
 
-/// A process with the words of a line as its arguments, in which each call on files is refused.
+/// A process with the words of a line as its arguments, in which each call on files fails.
 #[derive(Drop)]
 struct Process<'a, R> {
     rt: &'a R,
@@ -110,7 +109,7 @@ impl<R> Clock for Process<'_, R> {
     }
 }
 
-/// A writer that takes all bytes, and is flushed or not.
+/// A writer that takes all bytes, and that flushes or fails to.
 #[derive(Clone, Copy)]
 struct Tube {
     flushes: bool,
@@ -130,8 +129,8 @@ impl Write for Tube {
     }
 }
 
-/// The arguments of a process, its output and why it has no files, and what it must tell on
-/// standard error. The status is 3.
+/// The arguments of a process, its output, the error of its files, and its standard error. The
+/// status is 3.
 #[derive(Clone, Copy)]
 struct Case {
     line: &'static str,
@@ -161,7 +160,7 @@ static CASES: [Case; 3] = [
     },
 ];
 
-/// Whether a process ends as a case wants.
+/// Returns whether a process ends as a case wants.
 fn ends_right<R: AllocGlobal + Files + Threads + Wait>(rt: &R, case: &Case) -> bool {
     let process = Process {
         rt,

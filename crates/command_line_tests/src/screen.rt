@@ -1,4 +1,4 @@
-//! An output that takes a part of what it is given.
+//! An output that takes a part of its bytes.
 
 use report::{Out, OutFailed};
 use std::alloc::Global;
@@ -13,7 +13,7 @@ pub struct Screen {
 }
 
 impl Screen {
-    /// An output with a limit of bytes, and of bytes a call.
+    /// Returns an output with a limit of bytes, and of bytes a call.
     pub fn cut(alloc: Global, limit: usize, step: usize) -> Screen {
         Screen {
             bytes: Vec::new(alloc),
@@ -23,12 +23,12 @@ impl Screen {
         }
     }
 
-    /// An output that takes 4,096 bytes.
+    /// Returns an output that takes 4,096 bytes.
     pub fn new(alloc: Global) -> Screen {
         Screen::cut(alloc, 4096, 4096)
     }
 
-    /// What it has taken.
+    /// Returns the bytes that it has taken.
     pub fn text(&self) -> &[u8] {
         self.bytes.as_slice()
     }

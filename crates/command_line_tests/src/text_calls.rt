@@ -1,4 +1,4 @@
-//! The text calls: the bytes that they give, and the words and statuses of their faults.
+//! The text calls: the bytes that they return, and the words and statuses of their errors.
 
 use crate::checks::check;
 use bench_net::BenchFault;
@@ -16,7 +16,7 @@ use std::thread::Threads;
 /// A buffer.
 const BUFFER: &str = "INPUT(a)\nOUTPUT(z)\nz = BUFF(a)\n";
 
-/// The words of a command, its texts, and what its text call writes, or none where it is refused.
+/// The words of a command, its texts, and the output of its text call, or none if it fails.
 #[derive(Clone, Copy)]
 struct Case {
     line: &'static str,
@@ -26,7 +26,7 @@ struct Case {
     written: Option<&'static str>,
 }
 
-/// What the text call of a case's command writes, for 4 workers.
+/// Returns the output of the text call of a case's command, with 4 workers.
 fn bytes_of<R: AllocGlobal + Threads + Wait>(rt: &R, case: &Case) -> Result<Vec<u8>, SimFault> {
     let model = if case.line.contains("transition") {
         Model::Transition
@@ -52,7 +52,7 @@ fn bytes_of<R: AllocGlobal + Threads + Wait>(rt: &R, case: &Case) -> Result<Vec<
 const SLOW_BUFFER: &str =
     "stem a str 1\nstem a stf 2\nstem z str 1\nstem z stf 2\n4 of 4 (100.00%)\n";
 
-/// One case of each text call, and a refused text.
+/// One case of each text call, and a file with an error.
 static TEXT_CASES: [Case; 4] = [
     Case {
         line: "faultsim run --model transition --list",
@@ -92,7 +92,7 @@ static TEXT_CASES: [Case; 4] = [
     },
 ];
 
-/// Whether the text call of a case's command gives what the case wants.
+/// Returns whether the text call of a case's command has the case's output.
 fn comes_as_bytes<R: AllocGlobal + Threads + Wait>(rt: &R, case: &Case) -> bool {
     match bytes_of(rt, case) {
         Ok(bytes) => case
@@ -109,7 +109,7 @@ fn texts_come_as_bytes(rt: HostRuntime) {
     }
 }
 
-/// Each fault of a text call, its words and its status.
+/// Each error of a text call, its words and its status.
 static FAULTS: [(SimFault, &str, u8); 17] = [
     (SimFault::Bench(BenchFault::Memory), "out of memory", 3),
     (SimFault::Tests(TestFault::Memory), "out of memory", 3),
@@ -158,7 +158,7 @@ static FAULTS: [(SimFault, &str, u8); 17] = [
     ),
 ];
 
-/// Whether a fault is written in these words.
+/// Returns whether an error is written in these words.
 fn is_said(alloc: Global, fault: &SimFault, words: &str) -> Result<bool, AllocError> {
     let said = format!(in alloc; "{fault}")?;
     Ok(said.as_str() == words)

@@ -1,4 +1,4 @@
-//! A report under a gate of the caller's: each worker has a thread, and comes to the gate.
+//! A report under a gate of the caller's: each worker has a thread, and calls the gate.
 
 ghost use Rattle.workers.specs.Stops.{any_stop};
 
@@ -14,7 +14,7 @@ use std::time::{Clock, Duration};
 use worked_circuits::C17_TEXT;
 use workers::Gate;
 
-/// For how many milliseconds a gate waits before it gives up.
+/// The number of milliseconds for which a gate waits before it gives up.
 const TURNS: u32 = 10_000;
 
 /// A gate that holds every worker until workers 0 to 3 have come, each with its own number.
@@ -57,7 +57,7 @@ impl<C: Clock> Watch for Roll<'_, C> {
     fn ends(&self) {}
 }
 
-/// Whether C17 with one test is reported by four workers that wait for each other.
+/// Returns whether C17 with one test is reported by four workers that wait for each other.
 fn is_met<R: Threads + Wait + Clock + Sync>(rt: &R, alloc: Global) -> Result<bool, SimFault> {
     let gate = Roll::new(rt);
     let contents = Contents::of(Lines::Omitted);
