@@ -1,4 +1,4 @@
-//! Tests that are made of words and of bits, the tests of a block that are kept, and their text.
+//! Tests made from words and from bits, the kept tests of a block, and their file.
 
 ghost use Rattle.std.specs.Prelude.{◌≡◌, ◌<◌, ◌≤◌, IfOk, length};
 ghost use Rattle.bench_net.specs.Scan.{names, sources};
@@ -14,8 +14,8 @@ use std::process::Abort;
 use std::test::Fail;
 use worked_circuits::C17;
 
-/// The lanes of a block whose tests are kept: of each class that no kept test detects, the first
-/// test that does.
+/// Returns the lanes of the kept tests of a block: of each class that no kept test detects, the
+/// first test that does.
 fn kept_lanes(job: &Job, workspace: &mut Workspace, block: u32) -> u64
     requires block { block < blocks (length job.now.tests.tests) }
     requires fits { HasRoom workspace.old job.now }
@@ -30,7 +30,7 @@ fn kept_lanes(job: &Job, workspace: &mut Workspace, block: u32) -> u64
     kept
 }
 
-/// The text of the tests of a block that are kept.
+/// Returns the test file of the kept tests of a block.
 fn kept_text(alloc: Global, tests: &Tests, block: u32, kept: u64) -> Result<Vec<u8>, AllocError>
     requires list { IsTestList tests.now }
     requires block { block < blocks (length tests.now.tests) }
@@ -44,7 +44,7 @@ fn kept_text(alloc: Global, tests: &Tests, block: u32, kept: u64) -> Result<Vec<
     Ok(text)
 }
 
-/// The tests that are kept of the first block of a job, as a text.
+/// Returns the kept tests of the first block of a job, as a test file.
 fn compacted(alloc: Global, job: &Job) -> Result<Vec<u8>, AllocError> {
     let mut workspace = Workspace::new(alloc, job)?;
     if job.tests().blocks() == 0 {
@@ -76,7 +76,7 @@ fn tests_are_made_of_words(rt: HostRuntime) -> Result<(), Fail> {
     Ok(())
 }
 
-/// The last of some tests, as bits.
+/// Returns the last of some tests, as bits.
 fn last_test(alloc: Global, tests: &Tests) -> Result<Vec<bool>, AllocError> {
     let mut bits = Vec::new(alloc);
     if tests.count() > 0 {
@@ -87,7 +87,8 @@ fn last_test(alloc: Global, tests: &Tests) -> Result<Vec<bool>, AllocError> {
     Ok(bits)
 }
 
-/// The last of a job's own tests and one more behind it: the two are the pair over the edge.
+/// Returns the last of a job's own tests and one more after it: the two are a pair across the
+/// lists.
 fn with_last(alloc: Global, job: &Job, row: &[bool]) -> Result<Tests, PushFault>
     ensures list { IfOk result (λ tests. IsTestList tests) }
     ensures width { IfOk result (λ tests. tests.width ≡ length (sources job.now.circuit)) }
@@ -119,7 +120,7 @@ fn the_pair_over_the_edge_is_kept(rt: HostRuntime) -> Result<(), Fail> {
     check_edge(&rt, &mut job)
 }
 
-/// How many tests of a block give a signal the bit 1.
+/// Returns the number of tests of a block that give a signal the bit 1.
 fn ones(job: &Job, block: u32, signal: u32) -> u32
     requires block { block < blocks (length job.now.tests.tests) }
     requires signal { signal < length (names job.now.circuit) }
@@ -128,7 +129,7 @@ fn ones(job: &Job, block: u32, signal: u32) -> u32
     (job.word(block, signal) << idle).count_ones()
 }
 
-/// Checks under how many of three tests of C17 its first gate is 1.
+/// Checks the number of three tests of C17 under which its first gate is 1.
 fn check_ones<R: Abort>(rt: &R, job: &Job) {
     assert!(rt; job.tests().blocks() == 1 && job.circuit().signals() > 5);
     assert_eq!(rt; ones(job, 0, 5), 2);

@@ -1,4 +1,4 @@
-//! What the author of a test generator calls, from texts to verdicts.
+//! The calls of a test generator, from files to verdicts.
 
 ghost use Rattle.std.specs.Prelude.{◌<◌, length};
 ghost use Rattle.block_sim.specs.Parts.{HasRoom};
@@ -17,7 +17,8 @@ use std::thread::Threads;
 use worked_circuits::C17;
 use workers::{OpenGate, RunFault, Verdicts, run};
 
-/// The job of a bench text and a test text: circuit, stuck-at faults, their classes and the tests.
+/// Returns the job of a bench file and a test file: circuit, stuck-at faults, their classes and the
+/// tests.
 fn read_job(alloc: Global, bench: &[u8], tests: &[u8]) -> Result<Job, SimFault> {
     let circuit = read_bench(alloc, bench)?;
     let faults = list_faults(alloc, &circuit)?;
@@ -26,7 +27,7 @@ fn read_job(alloc: Global, bench: &[u8], tests: &[u8]) -> Result<Job, SimFault> 
     Ok(Job::new(alloc, circuit, faults, classes, tests)?)
 }
 
-/// Whether some test of the run before detects a class.
+/// Returns whether a test of the run before detects a class.
 fn was_found(job: &Job, before: &Verdicts, class: u32) -> bool
     requires { class < length job.now.classes.representative }
 {
@@ -34,8 +35,8 @@ fn was_found(job: &Job, before: &Verdicts, class: u32) -> bool
     fault < before.total() && before.first(fault).is_some()
 }
 
-/// What a block of new tests adds to a run before: each class that it detects for the first time,
-/// with the number of the test that does, from 0.
+/// Returns the classes that a block of new tests adds to a run before: each with the number of the
+/// first test that detects it, from 0.
 fn news(
     alloc: Global,
     job: &Job,
@@ -71,7 +72,7 @@ fn faults_are_found_in_threads(rt: HostRuntime) -> Result<(), Fail> {
     Ok(check_run(&rt, &job)?)
 }
 
-/// What the first block of a job of new tests adds to a run before.
+/// Returns the classes that the first block of a job of new tests adds to a run before.
 fn news_of(alloc: Global, job: &Job, before: &Verdicts) -> Result<Vec<(u32, u32)>, AllocError> {
     let mut workspace = Workspace::new(alloc, job)?;
     if job.tests().blocks() == 0 {
@@ -80,7 +81,8 @@ fn news_of(alloc: Global, job: &Job, before: &Verdicts) -> Result<Vec<(u32, u32)
     news(alloc, job, &mut workspace, 0, before)
 }
 
-/// What three new tests of C17 add to a run before. The job takes them in place of its own.
+/// Returns the classes that three new tests of C17 add to a run before. They replace the job's
+/// tests.
 fn news_of_three(
     alloc: Global,
     job: &mut Job,
@@ -91,7 +93,7 @@ fn news_of_three(
     Ok(news_of(alloc, job, before)?)
 }
 
-/// Checks how many classes three new tests detect that the test of a job of C17 does not.
+/// Checks the number of classes that three new tests detect and the test of a job of C17 doesn't.
 fn check_news<R: AllocGlobal + Threads + Wait + Abort>(
     rt: &R,
     job: &mut Job,
@@ -108,7 +110,7 @@ fn new_tests_find_more_classes(rt: HostRuntime) -> Result<(), Fail> {
     Ok(check_news(&rt, &mut job)?)
 }
 
-/// How many gates are evaluated for all classes on a block.
+/// Returns the number of gates that are evaluated for all classes on a block.
 fn evaluations(job: &Job, workspace: &mut Workspace, block: u32) -> u64
     requires block { block < blocks (length job.now.tests.tests) }
     requires fits { HasRoom workspace.old job.now }
