@@ -1,7 +1,7 @@
 //! Worked circuits that tests and examples of several crates share.
 #![tactic(auto)]
 
-/// C17, the smallest of the ISCAS-85 benchmarks (Brglez and Fujiwara, 1985), as a bench text: six
+/// C17, the smallest of the ISCAS-85 benchmarks (Brglez and Fujiwara, 1985), as a bench file: six
 /// NAND gates, five inputs and two outputs. It has 34 stuck-at faults in 22 classes.
 pub const C17: &[u8] = b"\
     INPUT(G1)\n\
@@ -18,7 +18,7 @@ pub const C17: &[u8] = b"\
     G22 = NAND(G10, G16)\n\
     G23 = NAND(G16, G19)\n";
 
-/// The same text as a `str`, for tables of texts: a constant can't be made of another by a call.
+/// C17 as a `str`, for tables of texts: a constant can't be made from another by a call.
 pub const C17_TEXT: &str = "\
     INPUT(G1)\n\
     INPUT(G2)\n\
