@@ -5,7 +5,8 @@ ghost use Rattle.bench_net.specs.Refusal.{IsAccepted};
 ghost use Rattle.bench_net.specs.Statement.{Statement};
 ghost use Rattle.fault_model.specs.Fault.{faults};
 ghost use Rattle.report.specs.Merging.{MergedRun};
-ghost use Rattle.report.specs.WholeMerge.{IsMergeOf, IsSomePartOf, IsSomePartToldFrom, PartedRun};
+ghost use Rattle.report.specs.WholeMerge.{IsMergeOf, IsSomePartDistinguished, IsSomePartOf};
+ghost use Rattle.report.specs.WholeMerge.{PartedRun};
 ghost use Rattle.report.specs.declared.contents.Lines.{Lines};
 ghost use Rattle.tables.specs.declared.table.Format.{Format};
 ghost use Rattle.tables.specs.Tables.{IsFirstTableOf, first_column, table_text};
@@ -17,7 +18,7 @@ use report::merged_firsts;
 pub fn merged_table()
     ensures { (run : PartedRun) (first : List ℕ) (others : List (List ℕ)) (merged : MergedRun)
         (lines : Lines) (format : Format) (c : List Statement) → IsSomePartOf run first
-        → All (IsSomePartToldFrom run) others → IsMergeOf first others merged
+        → All (IsSomePartDistinguished run) others → IsMergeOf first others merged
         → IsAccepted run.bench c
         → IsFirstTableOf run.model run.bench run.tests lines format
         (table_text format c (faults run.model c) (first_column merged.firsts lines)) }
