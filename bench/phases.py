@@ -46,7 +46,7 @@ PHASES = {
     "classes of the job": r"block_sim::(region_classes|origin)::",
     "cut": r"workers::(class_order|counting_sort|stretches)::",
     "verdicts": r"workers::(parts|verdicts|stretch_run::lowest)",
-    "report": r"report::|byte_output::|itoa::",
+    "report": r"report::|part_files::|byte_output::|itoa::",
 }
 WAITS = "waits"
 BEGIN = "start"

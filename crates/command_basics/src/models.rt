@@ -1,7 +1,7 @@
 //! The fault models by their names.
 
 ghost use Rattle.std.specs.Prelude.{◌≡◌, Some, IfSome};
-ghost use Rattle.report.specs.PartText.{model_name};
+ghost use Rattle.report.specs.RunIdentity.{model_name};
 
 use fault_model::Model;
 

@@ -13,9 +13,10 @@ use crate::threshold::{Threshold, check_threshold, read_threshold};
 use clap::ArgMatches;
 use command_basics::Source;
 use fault_model::Model;
+use part_files::part_text_watched;
 use report::{
     Contents, Lines, Out, ReasonCounts, RunCounts, SimFault, Split, Watch, curve_text_watched,
-    part_text_watched, reasons_text_watched, simulate_text_watched,
+    reasons_text_watched, simulate_text_watched,
 };
 use std::alloc::Global;
 use std::sync::Wait;

@@ -8,10 +8,10 @@ use bench_net::{Circuit, read_bench};
 use clap::ArgMatches;
 use command_basics::{Source, model_named};
 use fault_model::{Classes, Model, collapse, list_faults_in};
-use report::{
-    Lines, Merge, MergeFault, Merged, Out, PartHeader, ReportFault, SimFault, read_part, sum_of,
-    write_merged, write_merged_with_classes,
+use part_files::{
+    Merge, MergeFault, Merged, PartHeader, read_part, write_merged, write_merged_with_classes,
 };
+use report::{Lines, Out, ReportFault, SimFault, sum_of};
 use std::alloc::{AllocError, Global};
 use std::str::from_utf8;
 use tables::{Format, write_merged_table};

@@ -4,7 +4,8 @@ ghost use Rattle.std.specs.Prelude.{◌<◌, ◌≤◌};
 
 use command_basics::{FAILED, MISUSED, REFUSED, status_of};
 use input_check::Excess;
-use report::{Formatted, MergeFault, Out, PartFault, ReportFault, SimFault};
+use part_files::{MergeFault, PartFault};
+use report::{Formatted, Out, ReportFault, SimFault};
 use std::fmt::Write;
 
 /// The status of a coverage that is below the threshold.

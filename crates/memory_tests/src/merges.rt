@@ -2,7 +2,8 @@
 
 use crate::sweep::{Outcome, Trial, answered, refused, sweep};
 use crate::texts::Screen;
-use report::{Lines, Merge, MergeFault, Merged, PartFault, write_merged};
+use part_files::{Merge, MergeFault, Merged, PartFault, write_merged};
+use report::Lines;
 use std::alloc::Global;
 
 /// The part files of two faults.

@@ -14,7 +14,7 @@ use Rattle.block_sim.specs.Parts.{Parts, piece_count}
 use Rattle.workers.specs.declared.RunFault.TheVariants as run_fault
 use Rattle.workers.specs.declared.RunFault.{RunFault}
 use Rattle.workers.specs.Part.{parts_for}
-use Rattle.workers.specs.Refused.{ArePartsWithin, IsPartFault, IsPartsFault, IsRunFault}
+use Rattle.workers.specs.Refused.{ArePartsWithin, IsPartsFault, IsRunFault}
 use Rattle.workers.specs.Refused.{IsScheduleFault}
 use Rattle.workers.specs.Stops.{Stops, no_stop}
 use Rattle.workers.specs.Verdict.{AreFirsts}
@@ -93,14 +93,10 @@ abbrev pub HasPartsWithin : Model → List ℕ → List ℕ → ℕ → Type 0
 HasPartsWithin m bench text parts =
     (job : Parts) × IsJobOf m bench text job × ArePartsWithin job parts
 
--- when the report of a run in so many parts is refused, and the text of one part
+-- when the report of a run in so many parts is refused
 abbrev pub IsPartsReportFault : Model → List ℕ → List ℕ → ℕ → ℕ → SimFault → Type 0
 IsPartsReportFault m bench text parts workers f =
     IsTextFault m bench text workers (λ job. IsPartsFault job parts workers ⊤ no_stop) f
-
-abbrev pub IsPartReportFault : Model → List ℕ → List ℕ → ℕ → ℕ → ℕ → SimFault → Type 0
-IsPartReportFault m bench text part parts workers f =
-    IsTextFault m bench text workers (λ job. IsPartFault job parts part workers ⊤ no_stop) f
 
 -- what a run that was done says of the pieces: those of the whole are within the limit, or those of
 -- each part where a number of parts is given

@@ -121,11 +121,6 @@ abbrev pub whole_report : Model → List Statement → Collapsed → List (Optio
 whole_report m c classes firsts contents = report m c firsts contents.lines
     ++ (if contents.classes then class_coverage_line classes firsts else [])
 
--- the same of faults that are given as texts
-abbrev pub report_text : List (List ℕ) → List (Option ℕ) → Lines → List ℕ
-report_text names firsts lines = flat_map (wanted_name lines) (zip names firsts)
-    ++ coverage_line (detected_count firsts) (length firsts)
-
 -- a line of the listing: `FAULT class N`
 abbrev pub class_line : List Statement → Fault × ℕ → List ℕ
 class_line c at = fault_text c at.0 ++ (codes " class " ++ decimal at.1 ++ codes "\n")

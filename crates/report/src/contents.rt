@@ -15,8 +15,9 @@ pub enum Lines {
 }
 
 impl Lines {
-    /// Returns whether a fault with this first test has a line.
-    pub(crate) fn has(self, first: Option<u32>) -> bool
+    /// Returns whether a fault has a line, given its first test. It is for the crates above, which
+    /// write reports of faults of their own.
+    pub fn has(self, first: Option<u32>) -> bool
         ensures { result ≡ has_line self first }
     {
         match self {

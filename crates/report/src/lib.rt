@@ -4,28 +4,22 @@
 //! [`simulate_text`] writes the first test of a list that detects each fault of a circuit, and the
 //! fault coverage, by workers in threads. [`schedule_text`] writes the same in one thread, which
 //! makes the moves of an order file. [`faults_text`] lists the faults with their classes. All write
-//! to an [`Out`], and their contracts define the bytes.
+//! to an [`Out`], and their contracts define the bytes. Part files are in `part_files`, which puts
+//! lines by [`put_fault_line`] and [`put_coverage`], too.
 #![tactic(auto)]
 
 mod compacted;
 mod contents;
 mod counts;
 mod curve;
-mod cut;
 mod detected;
-mod ending;
 mod histogram;
-mod joining;
 mod launched;
 mod laws;
-mod merge;
-mod merged;
-mod merged_classes;
-mod part;
-mod part_reader;
 mod reasoned;
 mod report;
 mod responses;
+mod run_identity;
 mod text;
 mod watched;
 mod whole;
@@ -36,25 +30,19 @@ pub use contents::{Contents, Lines};
 pub use counts::{RunCounts, count_run};
 pub use curve::{CurvePoint, curve_of, curve_text_in, curve_text_watched, write_curve};
 pub use detected::{detections_text_in, detections_text_of_any_size, write_detections};
-pub use ending::write_merged;
 pub use histogram::{histogram_of, histogram_text_in};
 pub use job_loading::{
     ReasonCounts, ReportFault, SimFault, Split, Watch, job_of, job_of_in_threads,
 };
-pub use joining::MergeFault;
 pub use launched::pairs_text_in;
-pub use laws::{
-    class_firsts_are, merged_class_report, merged_firsts, merged_report, no_refusal_of_merge,
-    no_refusal_of_part_text, one_part_text, one_report, part_text_is_read,
-};
-pub use merge::Merge;
-pub use merged::Merged;
-pub use merged_classes::write_merged_with_classes;
-pub use part::{model_name, part_text_in, part_text_watched, sum_of};
-pub use part_reader::{PartFault, PartHeader, PartText, read_part};
+pub use laws::class_firsts_are;
 pub use reasoned::{reason_counts, reasons_text_watched, write_reasons};
-pub use report::{detected_classes, write_fault, write_listing, write_report, write_report_with};
+pub use report::{
+    detected_classes, first_text, put_coverage, put_fault_line, write_fault, write_listing,
+    write_report, write_report_with,
+};
 pub use responses::responses_text_in;
+pub use run_identity::{model_name, sum_of};
 pub use text::{
     faults_text, faults_text_in, listing_bytes, report_bytes, schedule_text, schedule_text_in,
     schedule_text_with, simulate_text, simulate_text_in, simulate_text_in_parts,

@@ -54,8 +54,13 @@ pub(crate) fn hundredths(part: u32, whole: u32) -> u64
 }
 
 /// Writes a coverage line, `D of T` and the name of what is counted, ` (P.PP%)`: the percentage is
-/// cut off after two decimals.
-pub(crate) fn put_coverage<'a, W: Out>(
+/// cut off after two decimals. It takes no memory. It is for the crates above, which put lines of
+/// reports into texts of their own.
+///
+/// # Errors
+///
+/// [`OutFailed`] if the output takes nothing more. It has a beginning of the line.
+pub fn put_coverage<'a, W: Out>(
     detected: u32,
     total: u32,
     counted: &'a str,
@@ -139,8 +144,14 @@ fn put_fault<W: Out>(
     }
 }
 
-/// Writes a line of the report or of the list of classes: a fault, a word and a value.
-pub(crate) fn put_fault_line<'a, W: Out>(
+/// Writes a line of the report or of the list of classes: a fault, given by its number from 0, a
+/// word and a value. The word ends in a space, or is empty. It takes no memory. It is for the
+/// crates above, as [`put_coverage`] is.
+///
+/// # Errors
+///
+/// [`OutFailed`] if the output takes nothing more. It has a beginning of the line.
+pub fn put_fault_line<'a, W: Out>(
     circuit: &Circuit,
     list: &Faults,
     fault: u32,
@@ -158,8 +169,9 @@ pub(crate) fn put_fault_line<'a, W: Out>(
     put_pieces(&[" ", word, said, "\n"], out)
 }
 
-/// Returns the text of a fault's first test: its number, or `none`.
-pub(crate) fn first_text(first: Option<u32>, number: &mut Buffer) -> &str
+/// Returns the text of a fault's first test: its number, from 0, or `none`. The digits are in the
+/// buffer. It is for the crates above, as [`put_coverage`] is.
+pub fn first_text(first: Option<u32>, number: &mut Buffer) -> &str
     ensures { result.now ≡ first_text first }
 {
     match first {

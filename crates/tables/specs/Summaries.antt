@@ -3,7 +3,7 @@ use Rattle.std.specs.Prelude.{ℕ, ◌+◌, ◌-◌, ◌/◌, ◌%◌, max, Bool
 use Rattle.std.specs.Prelude.{Option, Some, None, codes, decimal}
 use Rattle.job_loading.specs.declared.watch.ReasonCounts.{ReasonCounts}
 use Rattle.report.specs.declared.counts.RunCounts.{RunCounts}
-use Rattle.report.specs.PartText.{model_name, sum_text}
+use Rattle.report.specs.RunIdentity.{model_name, sum_text}
 use Rattle.report.specs.Report.{percentage}
 use Rattle.tables.specs.declared.summary.Summary.{Summary}
 

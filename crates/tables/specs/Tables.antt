@@ -15,7 +15,7 @@ use Rattle.block_sim.specs.Parts.{Parts}
 use Rattle.workers.specs.Verdict.{AreFirsts, detected_count}
 use Rattle.report.specs.declared.contents.Lines.{Lines}
 use Rattle.report.specs.declared.contents.Lines.TheVariants.{All, Omitted, Undetected}
-use Rattle.report.specs.Merging.{run_of}
+use Rattle.part_files.specs.Merging.{run_of}
 use Rattle.report.specs.Report.{percentage}
 use Rattle.tables.specs.declared.column.Column.{Column}
 use Rattle.tables.specs.declared.column.Column.TheVariants as column

@@ -4,7 +4,8 @@ ghost use Rattle.std.specs.Prelude.{◌≡◌, ◌<◌, Some, length, slice_get}
 ghost use Rattle.tables.specs.Tables.{column_in, has_row};
 
 use fault_model::Classes;
-use report::{Lines, Merged};
+use part_files::Merged;
+use report::Lines;
 use workers::Verdicts;
 
 /// The value of each fault.

@@ -4,17 +4,17 @@ ghost use Rattle.std.specs.Prelude.{All, List, ℕ};
 ghost use Rattle.bench_net.specs.Refusal.{IsAccepted};
 ghost use Rattle.bench_net.specs.Statement.{Statement};
 ghost use Rattle.fault_model.specs.Fault.{faults};
-ghost use Rattle.report.specs.Merging.{MergedRun};
-ghost use Rattle.report.specs.WholeMerge.{IsMergeOf, IsSomePartDistinguished, IsSomePartOf};
-ghost use Rattle.report.specs.WholeMerge.{PartedRun};
+ghost use Rattle.part_files.specs.Merging.{MergedRun};
+ghost use Rattle.part_files.specs.WholeMerge.{IsMergeOf, IsSomePartOf, IsSomePartDistinguished};
+ghost use Rattle.part_files.specs.WholeMerge.{PartedRun};
 ghost use Rattle.report.specs.declared.contents.Lines.{Lines};
 ghost use Rattle.tables.specs.declared.table.Format.{Format};
 ghost use Rattle.tables.specs.Tables.{IsFirstTableOf, first_column, table_text};
 
-use report::merged_firsts;
+use part_files::merged_firsts;
 
 /// A merge of the part files of a run gives the table of the run, over the faults of its circuit.
-/// The conditions are those of [`report::merged_report`].
+/// The conditions are those of [`part_files::merged_report`].
 pub fn merged_table()
     ensures { (run : PartedRun) (first : List ℕ) (others : List (List ℕ)) (merged : MergedRun)
         (lines : Lines) (format : Format) (c : List Statement) → IsSomePartOf run first

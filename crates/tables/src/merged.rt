@@ -3,7 +3,7 @@
 ghost use Rattle.std.specs.Prelude.{◌≡◌, IfErr, length};
 ghost use Rattle.fault_model.specs.Fault.{faults};
 ghost use Rattle.report.specs.EndToEnd.{WritesOneOf};
-ghost use Rattle.report.specs.Merging.{run_of};
+ghost use Rattle.part_files.specs.Merging.{run_of};
 ghost use Rattle.tables.specs.Refusals.{IsTableFault};
 ghost use Rattle.tables.specs.Tables.{IsTable, first_column};
 
@@ -11,7 +11,8 @@ use crate::column::Column;
 use crate::table::{Format, write_table};
 use bench_net::Circuit;
 use fault_model::Faults;
-use report::{Lines, Merged, Out, SimFault};
+use part_files::Merged;
+use report::{Lines, Out, SimFault};
 use std::alloc::Global;
 
 /// Writes the table of a merged run. `circuit` and `list` are the run's circuit and its faults.

@@ -11,14 +11,14 @@ pub returns-in_err-put_count : goal.returns-in_err-put_count
 returns-in_err-put_count g c =
     let p = err_from_is_err_and c.from_residual.result c.from_residual.ensures.1 in
     let lt : c.loop-count.count < length c.args.faults.now =
-      omega (arith, c.loop-count-test.true) in
+    omega (arith, c.loop-count-test.true) in
     rw (p.1) (count_stopped c.args.faults.now c.loop-count.count _ _ _ lt c.loop-count.invariant
     c.in_err-put_count.ensures)
 
 pub loop-count-preserved : goal.loop-count-preserved
 loop-count-preserved g c =
     let lt : c.loop-count.count < length c.args.faults.now =
-      omega (arith, c.loop-count-test.true) in
+    omega (arith, c.loop-count-test.true) in
     count_taken c.args.faults.now c.loop-count.count _ _ _ lt c.loop-count.invariant
     c.in_ok-put_count.ensures
 

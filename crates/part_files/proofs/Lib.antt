@@ -1,0 +1,15 @@
+mod PartPieces
+mod CutTexts
+mod PartWords
+mod PartHeads
+mod PartLines
+mod PartReadings
+mod OnePartText
+mod PartRefusals
+mod JoinedParts
+mod MergeEnds
+mod FaultNames
+mod WrittenParts
+mod MergedReport
+mod FaultParts
+mod MergeRefusals

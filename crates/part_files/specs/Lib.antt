@@ -1,0 +1,5 @@
+pub mod PartText
+pub mod Cut
+pub mod PartReading
+pub mod Merging
+pub mod WholeMerge

@@ -1,6 +1,0 @@
-use Rattle.report.specs.Merging.{HasParts}
-use Rattle.report.proofs.ending.missing_part.Given as goal
-
--- the parts so far are there
-abbrev pub invariant-loop-part : goal.invariant-loop-part
-invariant-loop-part l = HasParts l.seen l.part-counter

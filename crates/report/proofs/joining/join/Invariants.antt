@@ -1,5 +1,0 @@
-use Rattle.report.proofs.JoinedParts.{AreJoinedTo}
-use Rattle.report.proofs.joining.join.Given as goal
-
-abbrev pub invariant-loop-place : goal.invariant-loop-place
-invariant-loop-place l = AreJoinedTo l.fn.verdicts l.others l.verdicts l.place

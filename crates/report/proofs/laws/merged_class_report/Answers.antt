@@ -1,5 +1,0 @@
-use Rattle.report.proofs.MergedReport.{class_report_of_merge}
-use Rattle.report.proofs.laws.merged_class_report.Goals as goal
-
-pub returns : goal.returns
-returns c = class_report_of_merge c.one_answer.ensures.one_circuit

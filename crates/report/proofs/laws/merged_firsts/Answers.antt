@@ -1,5 +1,0 @@
-use Rattle.report.proofs.MergedReport.{firsts_of_merge}
-use Rattle.report.proofs.laws.merged_firsts.Goals as goal
-
-pub returns : goal.returns
-returns c = firsts_of_merge c.one_answer.ensures.one_circuit

@@ -1,5 +1,0 @@
-use Rattle.report.proofs.MergedReport.{report_of_merge}
-use Rattle.report.proofs.laws.merged_report.Goals as goal
-
-pub returns : goal.returns
-returns c = report_of_merge c.one_answer.ensures.one_circuit

@@ -1,5 +1,0 @@
-use Rattle.report.proofs.PartPieces.{report_of_texts}
-use Rattle.report.proofs.laws.one_report.Goals as goal
-
-pub returns : goal.returns
-returns c = report_of_texts

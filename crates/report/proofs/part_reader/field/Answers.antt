@@ -1,5 +1,0 @@
-use Rattle.report.proofs.PartWords.{field_read}
-use Rattle.report.proofs.part_reader.field.Goals as goal
-
-pub returns : goal.returns
-returns c = field_read _ _ _ c.in_ok-rest.ensures _ c.cut_first.ensures
