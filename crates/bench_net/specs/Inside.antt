@@ -1,4 +1,4 @@
--- What a circuit holds: a statement list with tables that answer as its calls do.
+-- The contents of a circuit: a statement list, and tables that agree with it.
 use Rattle.std.specs.Prelude.{◌≡◌, ◌≢◌, ℕ, ◌+◌, ◌<◌, ◌^◌, List, length, map, filter, All, Contains}
 use Rattle.std.specs.Prelude.{Option, Some, None, IfSome, IfNone, slice_get, slice_index}
 use Rattle.std.specs.Prelude.{slice_index_or}
@@ -16,11 +16,11 @@ use Rattle.bench_net.specs.Tables.{source_signals, ArePlaces, definition_places,
 use Rattle.bench_net.specs.Tables.{line_gate, gate_pins, all_readers, AreSinkRows, HasRow, row_of}
 use Rattle.bench_net.specs.Marks.{IsGraph, AreLevelsOf}
 
--- how many signals lines define
+-- the number of signals that lines define
 abbrev pub signals_in : List NumberedLine → ℕ
 signals_in lines = length (definition_places lines)
 
--- lines few enough to be numbered, which name no other signals than those that they define
+-- lines few enough to be numbered, which name no other signals than the ones that they define
 pub record AreTableLines (lines : List NumberedLine) : Type 0 where
   pub few_lines : length lines < 2 ^ 31
   pub few_sources : length (source_signals lines) < 2 ^ 31
@@ -48,12 +48,12 @@ pub record AreTables (lines : List NumberedLine) (tables : Tables) : Type 0 wher
       starts tables.levels.order.items
   pub depth_is : tables.levels.depth ≡ greatest tables.levels.levels.items
 
--- the place of a signal in a test row, or none
+-- the place of a signal in a test, or none
 abbrev pub IsPlace : List Statement → ℕ → Option ℕ → Type 0
 IsPlace c s place = IfSome place (λ i. slice_get (sources c) i ≡ name_of c s)
     × IfNone place ((i : ℕ) → slice_get (sources c) i ≢ name_of c s)
 
--- the names are those of a circuit, and the tables are its tables
+-- the names are the names of a circuit, and the tables are its tables
 pub record IsInside (c : List Statement) (ns : List Name) (lines : List NumberedLine)
     (tables : Tables) : Type 0 where
   pub circuit : IsCircuit c

@@ -46,7 +46,7 @@ HaveLevelsBelow pins s = (lower : ℕ) → lower < s → (k : ℕ) × HaveLevels
 abbrev pub IsLowestStuck : (ℕ → List ℕ) → ℕ → ℕ → Type 0
 IsLowestStuck pins signals s = (s < signals) × IsStuckAt pins s × HaveLevelsBelow pins s
 
--- a cycle is the answer only at such a signal, by the number of its line
+-- the error is a cycle only at such a signal, by the number of its line
 abbrev pub IsLevelFault : (ℕ → List ℕ) → ℕ → List ℕ → BenchFault → Type 0
 IsLevelFault pins signals at Memory = Unit {0}
 IsLevelFault pins signals at (Cycle number) =
@@ -57,11 +57,11 @@ abbrev pub is_unknown : Mark → Bool
 is_unknown Unknown = true
 is_unknown _ = false
 
--- how many signals wait for a level, where a path leads through the open ones
+-- the number of signals that wait for a level, if a path leads through the open ones
 abbrev pub waiting_in : List Mark → List OpenGate → ℕ
 waiting_in marks path = count_by is_unknown marks + length path
 
--- how many steps are left at most
+-- the greatest number of steps that are left
 abbrev pub pins_left : (ℕ → List ℕ) → OpenGate → ℕ
 pins_left pins gate = 1 + (length (pins gate.signal) - gate.pin)
 
@@ -76,26 +76,26 @@ abbrev pub IsRead : (ℕ → List ℕ) → ℕ → ℕ → List ℕ → Type 0
 IsRead pins begun s [] = s + 1 ≡ begun
 IsRead pins begun s (g ∷ gates) = Among s (pins g)
 
--- signals each of which is read by the one behind it
+-- signals each of which the next one reads
 abbrev pub IsPath : (ℕ → List ℕ) → ℕ → List ℕ → Type 0
 IsPath pins begun [] = Unit {0}
 IsPath pins begun (g ∷ gates) = IsRead pins begun g gates × IsPath pins begun gates
 
--- what a mark says of a signal, where so many were begun, so many wait, and some are open
+-- the meaning of a signal's mark, by the numbers of begun and of waiting signals and the open ones
 abbrev pub IsMark : (ℕ → List ℕ) → ℕ → ℕ → ℕ → List ℕ → ℕ → Mark → Type 0
 IsMark pins signals begun waits gates s Unknown = begun ≤ s
 IsMark pins signals begun waits gates s Open = Among s gates
 IsMark pins signals begun waits gates s (Level k) =
     HaveLevels pins (pins s) k × (k + waits < signals)
 
--- what a gate on the path says of its signal, where so many of all have no level
+-- the meaning of a gate on the path, by the numbers of all signals and of signals without a level
 abbrev pub IsOpen : (ℕ → List ℕ) → ℕ → ℕ → OpenGate → Type 0
 IsOpen pins signals waits gate = (gate.signal < signals)
     × HaveLevels pins (take gate.pin (pins gate.signal)) gate.level
     × (gate.level + waits ≤ signals)
 
--- A search for levels at so many signals from the first: the open ones are a path from the last
--- that was met to the last that was begun, and the others that were begun have levels.
+-- A search for levels that has begun the first `begun` signals. The open ones are a path from the
+-- last one that it met to the last one that it began, and the others that it began have levels.
 pub record IsSearch (pins : ℕ → List ℕ) (signals begun : ℕ) (marks : List Mark)
     (path : List OpenGate) : Type 0 where
   pub count : length marks ≡ signals

@@ -77,7 +77,7 @@ pin_readers gate pins = readers_from (Pin gate) 0 pins
 abbrev pub output_readers : List ℕ → List Reader
 output_readers outputs = readers_from Out 0 outputs
 
--- the gate pins and data pins of lines, in order, where the first cell has this number
+-- the gate pins and data pins of lines, in order, if the first cell has this number
 abbrev pub line_readers : ℕ → List NumberedLine → List Reader
 line_readers cell [] = []
 line_readers cell (line.Input s ∷ lines) = line_readers cell lines
@@ -123,7 +123,7 @@ abbrev pub PinsFit : NumberedLine → Type 0
 PinsFit (line.Gate s gate) = length gate.pins.items < 2 ^ 32
 PinsFit _ = Unit {0}
 
--- the signals of the inputs, and then those of the cells' outputs
+-- the signals of the inputs, and then the signals of the cells' outputs
 abbrev pub source_signals : List NumberedLine → List ℕ
 source_signals lines =
     filter_map input_number lines ++ map (λ cell. cell.q) (filter_map cell_numbers lines)

@@ -28,7 +28,7 @@ entry_of line = (line.number, stands_for line.statement)
 abbrev pub entries_of : List StatedLine → List Entry
 entries_of lines = map entry_of lines
 
--- the entries of what lines state, where the first has this number
+-- the entries of the stated lines, if the first line has this number
 abbrev pub numbered_from : ℕ → List (Option Statement) → List Entry
 numbered_from line [] = []
 numbered_from line (None ∷ stated) = numbered_from (suc line) stated
@@ -46,7 +46,7 @@ pub record AreWithin (text : List ℕ) (lines : List StatedLine) : Type 0 where
   pub within : IsWithin text stated
   pub same : entries_of lines ≡ numbered_from 1 stated
 
--- a fault is that of the text, or memory is wanting
+-- an error is the file's, or memory ran out
 abbrev pub MayBe : List ℕ → BenchFault → Type 0
 MayBe text fault = (fault ≡ Memory) ⊎ IsRefused text fault
 
@@ -62,14 +62,14 @@ is_in ns n = list_any (bytes_eq n) ns
 abbrev pub statements_in : List StatedLine → List Statement
 statements_in lines = map (λ line. stands_for line.statement) lines
 
--- the names that a line defines, and those that it reads
+-- the names that a line defines, and the names that it reads
 abbrev pub defined_of : StatedLine → List Name
 defined_of line = defined (stands_for line.statement)
 
 abbrev pub read_of : StatedLine → List Name
 read_of line = read (stands_for line.statement)
 
--- the names that lines define in order, and those that they read
+-- the names that lines define, in order, and the names that they read
 abbrev pub names_in : List StatedLine → List Name
 names_in lines = flat_map defined_of lines
 
@@ -85,7 +85,7 @@ ArePast names reads Bytes = ⊥
 ArePast names reads Signals = max_signals < length names
 ArePast names reads Sinks = (length names ≤ max_signals) × (max_sinks < length reads)
 
--- the number is that of the name that the statement defines, if it defines one
+-- the number is the number of the name that the statement defines, if it defines one
 abbrev pub IsNextFor : List Name → ℕ → Statement → Type 0
 IsNextFor ns next s = map (λ n. name_at ns next) (defined s) ≡ defined s
 

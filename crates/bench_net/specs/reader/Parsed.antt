@@ -1,5 +1,5 @@
--- The tokens and the statement of a line, computed from its front, and what the functions that
--- read lines answer.
+-- The tokens and the statement of a line, computed from its front, and the results of the functions
+-- that read lines.
 use Rattle.std.specs.Prelude.{◌≡◌, ◌⊎◌, ◌<◌, ℕ, Bool, true, false, ◌==◌, nat_le, List, [], ◌∷◌}
 use Rattle.std.specs.Prelude.{◌++◌, length, map, Option, Some, None, if◌then◌else◌, option_map}
 use Rattle.std.specs.Prelude.{option_and_then, codes, Result, Ok, Err}
@@ -22,12 +22,12 @@ use Rattle.bench_net.specs.Reading.{names_kind}
 abbrev pub mark_of : ℕ → Token
 mark_of b = if b == 40 then Open else if b == 41 then Close else if b == 44 then Comma else Equals
 
--- the word that was read so far, if it has a byte, before the tokens behind it
+-- the word that was read so far, if it has a byte, and then the tokens after it
 abbrev pub behind_word : List ℕ → Option (List Token) → Option (List Token)
 behind_word [] tokens = tokens
 behind_word (b ∷ w) tokens = option_map (λ ts. Word (b ∷ w) ∷ ts) tokens
 
--- the tokens from a byte that is no word byte on, by those behind it
+-- the tokens from a byte on that no word has, given the tokens after it
 abbrev pub from_byte : ℕ → Option (List Token) → Option (List Token)
 from_byte b tokens =
     if begins_comment b then Some []
@@ -35,7 +35,7 @@ from_byte b tokens =
     else if is_mark b then option_map (λ ts. mark_of b ∷ ts) tokens
     else None
 
--- the tokens of a line behind the word that was read so far, or None where the line has a byte that
+-- the tokens of a line after the word that was read so far, or None if the line has a byte that
 -- isn't allowed
 abbrev pub tokens_behind : List ℕ → List ℕ → Option (List Token)
 tokens_behind w [] = behind_word w (Some [])
@@ -91,7 +91,7 @@ read_tokens (Word n ∷ Equals ∷ Word w ∷ Open ∷ tokens) =
     option_and_then (driven_by n w) (args_of tokens)
 read_tokens _ = None
 
--- what the line states: None where it is at fault
+-- the statement of the line, if any: None if the line has an error
 abbrev pub stated_by : List Token → Option (Option Statement)
 stated_by [] = Some None
 stated_by (token ∷ tokens) = option_map Some (read_tokens (token ∷ tokens))
@@ -99,12 +99,12 @@ stated_by (token ∷ tokens) = option_map Some (read_tokens (token ∷ tokens))
 abbrev pub stated_of : List ℕ → Option (Option Statement)
 stated_of line = option_and_then stated_by (tokens_of line)
 
--- a token stands at the front of a line, and what stands behind it is shorter than the line
+-- a token is the front of a line, and the rest of the line is shorter
 pub record Leads (line : List ℕ) (token : Token) (rest : List ℕ) : Type 0 where
   pub tokens : tokens_of line ≡ option_map (λ ts. token ∷ ts) (tokens_of rest)
   pub shorter : length rest < length line
 
--- what stands at the front of a line, and the bytes behind it
+-- the front of a line, and the bytes after it
 abbrev pub IsFront : List ℕ → Front × Bor (List ℕ) → Type 0
 IsFront line (front.Open, rest) = Leads line Open rest.now
 IsFront line (front.Close, rest) = Leads line Close rest.now
@@ -129,11 +129,11 @@ stands_for (stated.Dff q d) = Dff q.now d.now
 abbrev pub args_in : List ℕ → Option (List Name)
 args_in bytes = option_and_then args_of (tokens_of bytes)
 
--- memory is wanting, or the refusal comes where it should
+-- memory ran out, or the error comes at the right time
 abbrev pub FailsBy : BenchFault → Type 0 → BenchFault → Type 0
 FailsBy refusal Gone fault = (fault ≡ Memory) ⊎ ((fault ≡ refusal) × Gone)
 
--- what was read stands for what is found, and a refusal says that nothing is
+-- the result stands for what is found, and an error means that nothing is found
 abbrev pub IsReadAs : {T S : Type 0} → BenchFault → (T → S) → Option S → Result T BenchFault
     → Type 0
 IsReadAs refusal stands found (Ok s) = found ≡ Some (stands s)
