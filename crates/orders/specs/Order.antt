@@ -1,4 +1,4 @@
--- Order texts: the worker numbers of a text, or the refusal of its first row at fault.
+-- Order files: the worker numbers of a file, or the error of its first row with an error.
 use Rattle.std.specs.Prelude.{◌≡◌, ℕ, ◌+◌, ◌*◌, ◌-◌, Bool, not, ◌&&◌, nat_lt, nat_le, List, [], ◌∷◌}
 use Rattle.std.specs.Prelude.{map, fold, filter_map, length, Option, Some, None, if◌then◌else◌}
 use Rattle.std.specs.List.{list_all, enumerate_from}
@@ -19,7 +19,7 @@ is_number bytes = nat_le (length bytes) 9 && list_all is_ascii_digit bytes
 abbrev pub number : List ℕ → ℕ
 number digits = fold (λ n digit. 10 * n + (digit - 48)) 0 digits
 
--- the fault of a row, given with its place among the rows: a row past the limit; a row that is no
+-- the error of a row, given with its place among the rows: a row past the limit; a row that is no
 -- number; a worker out of range
 abbrev pub order_fault : ℕ → ℕ × Row → Option OrderFault
 order_fault workers at =
@@ -28,16 +28,16 @@ order_fault workers at =
     else if not (nat_lt (number at.1.bytes) workers) then Some (NoSuchWorker at.1.line)
     else None
 
--- the faults of the rows, from the top
+-- the errors of the rows, from the top
 abbrev pub order_faults : List ℕ → ℕ → List OrderFault
 order_faults text workers = filter_map (order_fault workers) (enumerate_from 0 (rows text))
 
--- the text spells these worker numbers: no row is at fault, and each row is one
+-- the file spells these worker numbers: no row has an error, and each row is one
 abbrev pub HasMoves : List ℕ → ℕ → List ℕ → Type 0
 HasMoves text workers moves = (order_faults text workers ≡ [])
     × (moves ≡ map (λ row. number row.bytes) (rows text))
 
--- the text is refused with the fault of its first row at fault
+-- the file has the error of its first row with an error
 abbrev pub IsOrderRefusal : List ℕ → ℕ → OrderFault → Type 0
 IsOrderRefusal text workers Memory = ⊥
 IsOrderRefusal text workers fault = (more : List OrderFault)
