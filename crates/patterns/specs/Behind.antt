@@ -1,4 +1,4 @@
--- The tests of rows that stand behind those of some tests.
+-- The tests of rows that follow the rows of earlier tests.
 use Rattle.std.specs.Prelude.{◌≡◌, ◌==◌, Bool, List, [], ◌∷◌, ◌++◌, map, filter_map, length}
 use Rattle.std.specs.List.{enumerate_from}
 use Rattle.text_lines.specs.Rows.{Row}
@@ -6,11 +6,11 @@ use Rattle.patterns.specs.declared.TestFault.{TestFault}
 use Rattle.patterns.specs.declared.TestFault.TheVariants.{Memory}
 use Rattle.patterns.specs.Tests.{TestList, test_fault}
 
--- with more tests behind the others
+-- with more tests after the others
 abbrev pub with_tests : TestList → List (List Bool) → TestList
 with_tests t more = record { width = t.width; tests = t.tests ++ more }
 
--- the faults of rows that stand behind those of some tests, from the top
+-- the errors of rows that follow earlier tests, from the top
 abbrev pub faults_behind : TestList → List Row → List TestFault
 faults_behind before rows =
     filter_map (test_fault before.width) (enumerate_from (length before.tests) rows)
@@ -19,12 +19,12 @@ faults_behind before rows =
 abbrev pub tests_of_rows : List Row → List (List Bool)
 tests_of_rows rows = map (λ row. map (λ b. b == 49) row.bytes) rows
 
--- these are some tests and those of rows behind them, of which none is at fault
+-- these are earlier tests and then the tests of rows, none of which has an error
 abbrev pub HasTestsBehind : TestList → List Row → TestList → Type 0
 HasTestsBehind before rows t =
     (faults_behind before rows ≡ []) × (t ≡ with_tests before (tests_of_rows rows))
 
--- the first row at fault behind some tests has this fault
+-- the first row with an error after earlier tests has this error
 abbrev pub IsRefusalBehind : TestList → List Row → TestFault → Type 0
 IsRefusalBehind before rows Memory = ⊥
 IsRefusalBehind before rows fault =

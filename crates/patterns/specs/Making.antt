@@ -1,4 +1,4 @@
--- Tests that are made of words or of bits, and why some are not; the text of tests.
+-- Tests that are made of words or of bits, the errors of either, and the text of tests.
 use Rattle.std.specs.Prelude.{◌≡◌, ◌≢◌, ℕ, ◌+◌, ◌*◌, ◌^◌, ◌<◌, ◌≤◌, Bool, List, [], ◌∷◌, ◌++◌, map}
 use Rattle.std.specs.Prelude.{length, slice_index, if◌then◌else◌}
 use Rattle.std.specs.List.{flat_map}
@@ -12,7 +12,7 @@ use Rattle.patterns.specs.declared.PushFault.TheVariants as push_fault
 abbrev pub word_of : ℕ → List ℕ → ℕ → ℕ → ℕ
 word_of width words block source = slice_index words (width * block + source)
 
--- the tests are so many of this width, and the words are theirs: for each block one a source
+-- this number of tests of this width, with these words: for each block one a source
 pub record IsMadeOf (width count : ℕ) (words : List ℕ) (t : TestList) : Type 0 where
   pub same_width : t.width ≡ width
   pub same_count : length t.tests ≡ count
@@ -31,8 +31,8 @@ abbrev pub IsFirstIdle : ℕ → ℕ → List ℕ → ℕ → Type 0
 IsFirstIdle width count words source = (source < width) × HasIdleBit width count words source
     × ((lower : ℕ) → lower < source → ¬ HasIdleBit width count words lower)
 
--- The words are refused: as too many tests; else for their number; else for the first source with
--- a bit past the last test.
+-- The error of the words: too many tests; else their number; else the first source with a bit past
+-- the last test.
 abbrev pub IsWordsRefusal : ℕ → ℕ → List ℕ → WordsFault → Type 0
 IsWordsRefusal width count words words_fault.TooMany = max_tests < count
 IsWordsRefusal width count words words_fault.BadCount =
@@ -42,13 +42,13 @@ IsWordsRefusal width count words (words_fault.IdleBits source) =
     × IsFirstIdle width count words source
 IsWordsRefusal width count words words_fault.Memory = ⊥
 
--- One more test is refused: where there is no room for one, else for its number of bits.
+-- The error of one more test: no room for it, else its number of bits.
 abbrev pub IsPushRefusal : TestList → List Bool → PushFault → Type 0
 IsPushRefusal t row push_fault.TooMany = max_tests ≤ length t.tests
 IsPushRefusal t row push_fault.BadWidth = (length t.tests < max_tests) × (length row ≢ t.width)
 IsPushRefusal t row push_fault.Memory = ⊥
 
--- with one more test behind the others
+-- with one more test after the others
 abbrev pub with_test : TestList → List Bool → TestList
 with_test t row = record { width = t.width; tests = t.tests ++ row ∷ [] }
 

@@ -1,15 +1,15 @@
--- How the tests of an octet lie: a byte for each source, in which bit k is that of test k.
+-- The layout of an octet's tests: a byte for each source, in which bit k is the bit of test k.
 use Rattle.std.specs.Prelude.{◌≡◌, ℕ, ◌≤◌, ◌==◌, Bool, List, map, length, slice_index}
 use Rattle.std.specs.Int.{bit_at}
 use Rattle.patterns.specs.Least.{below}
 
--- the tests that bytes hold, one byte for each source: bit k of a byte is that of test k
+-- the tests in bytes, one byte for each source: bit k of a byte is the bit of test k
 unfoldable pub tests_in_bytes : ℕ → ℕ → List ℕ → List (List Bool)
 tests_in_bytes width count bytes =
     map (λ test. map (λ source. bit_at (slice_index bytes source) test == 1) (below width))
     (below count)
 
--- the bytes are those of at most eight tests of this width, and the bits past the last test are 0
+-- the bytes of at most eight tests of this width, with 0 for each bit past the last test
 pub record AreBytes (width count : ℕ) (bytes : List ℕ) : Type 0 where
   pub few : count ≤ 8
   pub each : length bytes ≡ width

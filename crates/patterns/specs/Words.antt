@@ -1,5 +1,5 @@
--- How the words of a list of tests lie: for each block of 64 tests a word for each source, in which
--- bit k is that of the block's test k.
+-- The layout of the words of tests: for each block of 64 tests a word for each source, in which bit
+-- k is the bit of the block's test k.
 use Rattle.std.specs.Prelude.{◌≡◌, ℕ, ◌+◌, ◌*◌, ◌/◌, ◌%◌, ◌<◌, ◌≤◌, All, Bool, ◌==◌, List, [], map}
 use Rattle.std.specs.Prelude.{length, slice_index, slice_index_or}
 use Rattle.std.specs.Int.{bit_at}
@@ -19,8 +19,8 @@ unfoldable pub tests_of : ℕ → ℕ → List (List ℕ) → List (List Bool)
 tests_of width count words = map (λ test. map (λ source. bit_of words test source) (below width))
     (below count)
 
--- the words are those of this number of tests of this width, within the limit, and the bits past
--- the last test are 0
+-- the words of this number of tests of this width, within the limit, with 0 for each bit past the
+-- last test
 pub record AreWords (width count : ℕ) (words : List (List ℕ)) : Type 0 where
   pub limit : count ≤ max_tests
   pub block_count : length words ≡ blocks count
@@ -28,7 +28,7 @@ pub record AreWords (width count : ℕ) (words : List (List ℕ)) : Type 0 where
   pub idle : (block source k : ℕ) → count ≤ 64 * block + k → k < 64
       → bit_at (word_at words block source) k ≡ 0
 
--- the words after room was made for one more test: a block of zeros more, where the last was full
+-- the words with room for one more test: a block of zeros more, if the last was full
 pub record HaveRoom (width count : ℕ) (old words : List (List ℕ)) : Type 0 where
   pub block_count : length words ≡ blocks (count + 1)
   pub each : All (λ block. length block ≡ width) words
