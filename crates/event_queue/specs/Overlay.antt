@@ -2,8 +2,8 @@
 use Rattle.std.specs.Prelude.{◌≡◌, ◌≢◌, ℕ, ◌+◌, ◌<◌, List, length, slice_index_or}
 use Rattle.event_queue.specs.Zeros.{zeros}
 
--- The first entries of the list, as many as the count, name the words that are not 0. The count and
--- the words that are 0 are as many as the words.
+-- The first `count` entries of the list name the words that are not 0. The count and the number of
+-- zeros add up to the number of words.
 pub record IsOverlay (words changed : List ℕ) (count : ℕ) : Type 0 where
   pub room : length changed ≡ length words
   pub counted : count + zeros words ≡ length words
