@@ -17,7 +17,7 @@ abbrev pub only_gate : List Sink → Option ℕ
 only_gate (sink.Pin gate pin ∷ []) = Some gate
 only_gate _ = None
 
--- a stem is that of a signal
+-- a stem is a signal's
 abbrev pub IsInCircuit : List Statement → Line → Type 0
 IsInCircuit c (line.Stem s) = s < length (names c)
 IsInCircuit c _ = Unit {0}
@@ -42,12 +42,12 @@ abbrev pub HasStems : Model → List Statement → List ℕ → Type 0
 HasStems m c class_of = (i s : ℕ) (b : Bool) → slice_get (faults m c) i ≡ Some
     (record { model = m; line = line.Stem s; stuck = b }) → HasClassAt m c class_of i
 
--- a table has the kind of the gate that drives each of the first so many signals
+-- a table has the kind of the gate that drives each of the first n signals
 pub record HaveKinds (c : List Statement) (n : ℕ) (kinds : List (Option Kind)) : Type 0 where
   pub count : length kinds ≡ n
   pub each : (i : ℕ) → i < n → slice_index_or kinds i None ≡ kind_of c i
 
--- a table has the number of the next fault of each of the first so many faults
+-- a table has the number of the next fault of each of the first n faults
 pub record HaveNexts (m : Model) (c : List Statement) (n : ℕ) (nexts : List (Option ℕ)) : Type 0
   where
     pub count : length nexts ≡ n

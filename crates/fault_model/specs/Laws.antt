@@ -35,13 +35,13 @@ HasClasses c = (m : Model) (f : Fault) → Contains (faults m c) f → (k : ℕ)
 abbrev pub ClassesDetectSame : List Statement → Type 0
 ClassesDetectSame c = (f g : Fault) (t : Test) → AreEquivalent c f g → Detects c t f ↔ Detects c t g
 
--- a test detects a fault exactly where it detects the representative of the fault's class
+-- a test detects a fault exactly if it detects the representative of the fault's class
 abbrev pub RepresentativesDetectSame : List Statement → Type 0
 RepresentativesDetectSame c = (m : Model) (f r : Fault) (class : ℕ) (t : Test)
     → IsClassOf m c f class → slice_get (representatives m c) class ≡ Some r
     → Detects c t f ↔ Detects c t r
 
--- whichever valuations solve, a fault is detected exactly where these two show different bits to
+-- for any valuations that solve, a test detects a fault exactly if these two show different bits to
 -- some observer
 abbrev pub DetectionIsOfAnySolution : List Statement → Type 0
 DetectionIsOfAnySolution c = (f : Fault) (t : Test) (v w : Name → Bool) → Solves c t None v
@@ -55,7 +55,7 @@ HavePairsClassOfTransitions c = (l : Line) (b : Bool) (class : ℕ)
     → IsClassOf Transition c (record { model = Transition; line = l; stuck = b }) class
     ↔ IsClassOf TransitionPairs c (record { model = TransitionPairs; line = l; stuck = b }) class
 
--- and what contracts see of the classes is the same of both
+-- and contracts see the same classes of both
 abbrev pub HavePairsClassesOfTransitions : List Statement → Type 0
 HavePairsClassesOfTransitions c = (classes : Collapsed)
     → AreClassesOf Transition c classes ↔ AreClassesOf TransitionPairs c classes

@@ -64,8 +64,8 @@ moved_sink c d (sink.Pin gate pin) = sink.Pin (place c d gate) pin
 moved_sink c d (sink.Data cell) = sink.Data cell
 moved_sink c d (sink.Out output) = sink.Out output
 
--- Each name has the same sinks, be it in another order; a line that a gate's pin alone reads is one
--- in both lists, and a fault of one list is a fault of the other.
+-- Each name has the same sinks, maybe in another order. If only a gate's pin reads a line in one
+-- list, so it is in the other, and a fault of one list is a fault of the other.
 pub record HasSameSinks (c d : List Statement) : Type 0 where
   pub count : (n : Name) → length (sinks d n) ≡ length (sinks c n)
   pub to : (n : Name) (k : Sink) → Contains (sinks c n) k → Contains (sinks d n) (moved_sink c d k)
@@ -101,7 +101,7 @@ in_order c order = filter (λ s. not (defines s)) c ++ filter_map (definition c)
 abbrev pub IsSourceAt : List Statement → ℕ → Type 0
 IsSourceAt c s = (n : Name) × (name_of c s ≡ Some n) × Contains (sources c) n
 
--- the numbers of all signals, in which those of sources ascend
+-- the numbers of all signals, in which the sources' numbers ascend
 pub record IsSignalOrder (c : List Statement) (order : List ℕ) : Type 0 where
   pub all : (s : ℕ) → s < length (names c) → Contains order s
   pub count : length order ≡ length (names c)
