@@ -9,7 +9,7 @@ use Rattle.fault_ledger.specs.History.{block_count, piece_at, piece_count}
 abbrev pub state_in : Shape → List PieceState → ℕ → ℕ → PieceState
 state_in shape states class block = slice_index_or states (piece_at shape class block) state.Open
 
--- so many first blocks of a class are Clear, and no more
+-- exactly the first `blocks` blocks of a class are Clear
 pub record IsHead (shape : Shape) (states : List PieceState) (class blocks : ℕ) : Type 0 where
   pub most : blocks ≤ block_count shape
   pub clear : (earlier : ℕ) → earlier < blocks → state_in shape states class earlier ≡ state.Clear

@@ -1,4 +1,4 @@
--- Where the first hit of each class stands.
+-- The first hit of each class.
 use Rattle.std.specs.Prelude.{◌≡◌, ℕ, ◌<◌, ◌≤◌, Bool, nat_lt, min, List, length, slice_index}
 use Rattle.std.specs.Prelude.{slice_index_or}
 use Rattle.std.specs.List.{list_any}
@@ -16,7 +16,7 @@ hit_below shape states class n =
     (below n)
 
 -- For each class that has a piece a number: one of the first n blocks of the class is Hit exactly
--- where the number is below n.
+-- if the number is below n.
 pub record AreLowestHits (shape : Shape) (states : List PieceState) (hits : List ℕ) : Type 0 where
   pub long : length hits ≡ min shape.classes (piece_count shape)
   pub each : (class n : ℕ) → class < shape.classes → n ≤ block_count shape

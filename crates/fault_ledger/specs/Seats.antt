@@ -24,7 +24,7 @@ pub record Place : Type 0 where
   pub table : TableId
   pub shape : Shape
 
--- a seat: its ledger, its worker, whether it was told that all pieces are claimed, and the history
+-- a seat: its ledger, its worker, whether it has got that all pieces are claimed, and the history
 -- that it has seen
 pub record Sitter : Type 0 where
   pub place : Place
@@ -32,8 +32,8 @@ pub record Sitter : Type 0 where
   pub told : Bool
   pub seen : History
 
--- What every seat is: its worker is one of the ledger's, what it has seen is legal, and where it
--- was told that all pieces are claimed they were, and it holds none.
+-- What every seat is: its worker is one of the ledger's, and the history that it has seen is legal.
+-- If it has got that all pieces are claimed, they are, and it holds none.
 pub record IsSitter (a : Sitter) : Type 0 where
   pub limits : shape_fault a.place.shape ≡ None
   pub among : a.worker < a.place.shape.workers
@@ -41,8 +41,8 @@ pub record IsSitter (a : Sitter) : Type 0 where
   pub ended : a.told ≡ true
       → (held_by a.worker a.seen ≡ None) × (claims a.seen ≡ piece_count a.place.shape)
 
--- what is remembered of a class is so in a history: so many first blocks are Clear, and the one
--- behind them is a Hit where it is known to be
+-- the memory of a class is true in a history: the first `clear` blocks are Clear, and the next one
+-- is a Hit if it is known to be
 pub record Recalls (shape : Shape) (h : History) (class : ℕ) (known : Remembered) : Type 0 where
   pub clear : AreClear shape h class known.clear
   pub hit : known.hit ≡ true → is_hit (entry (piece_at shape class known.clear) h) ≡ true
@@ -65,8 +65,8 @@ pub record IsSeated (a : Sitter) (worker : ℕ) (told : Bool) (classes : ℕ) (p
   pub piece_is : piece ≡ held_by a.worker a.seen
   pub remembers : Remembers a remembered
 
--- The clear blocks at the head of a class, below an end: so many, and then a block in this state,
--- which isn't Clear, or the end.
+-- The clear blocks at the head of a class, below an end: this number, and then a block in this
+-- state, which isn't Clear, or the end.
 pub record EndsClear (shape : Shape) (h : History) (class end blocks : ℕ)
     (next : Option PieceState) : Type 0 where
   pub clear : AreClear shape h class blocks
@@ -78,7 +78,7 @@ pub record EndsClear (shape : Shape) (h : History) (class end blocks : ℕ)
 abbrev pub class_and_block : Shape → ℕ → ℕ × ℕ
 class_and_block shape piece = (class_of shape piece, block_of shape piece)
 
--- the seat of the same worker at the same ledger, told this, that has seen this history
+-- the seat of the same worker at the same ledger, with this flag and this history
 abbrev pub sitter_at : Sitter → Bool → History → Sitter
 sitter_at old told h = record { place = old.place; worker = old.worker; told = told; seen = h }
 
@@ -89,20 +89,20 @@ newcomer place w = record { place = place; worker = w; told = false; seen = [] }
 abbrev pub newcomers : Place → List Sitter
 newcomers place = map (newcomer place) (below place.shape.workers)
 
--- the seat's ledger, its worker and what it was told are as before
+-- the seat's ledger, its worker and its flag are as before
 abbrev pub Keeps : Sitter → Sitter → Type 0
 Keeps old new = (new.place ≡ old.place) × (new.worker ≡ old.worker) × (new.told ≡ old.told)
 
--- No event of the seat: what it has seen afterwards is legal, begins with what it had seen, and has
--- no new event of its worker.
+-- No event of the seat: the history that it has seen afterwards is legal, begins with its earlier
+-- one, and has no new event of its worker.
 pub record Sees (old : Sitter) (told : Bool) (new : Sitter) : Type 0 where
   pub seat : new ≡ sitter_at old told new.seen
   pub newer : ContinuesWithout old.worker new.seen old.seen
   pub legal : IsLegal old.place.shape new.seen
 
--- One event of the seat: what it has seen afterwards is legal and ends with the event; the history
--- just before the event begins with what it had seen, has no new event of its worker, and the reply
--- is the sequential fault list's after it.
+-- One event of the seat. The history that it has seen afterwards is legal and ends with the event.
+-- The history just before the event begins with its earlier one and has no new event of its worker,
+-- and the reply is the sequential fault list's after it.
 pub record Makes (old : Sitter) (e : Event) (reply : Reply) (new : Sitter) : Type 0 where
   pub before : History
   pub seat : new ≡ sitter_at old old.told (e ∷ before)
@@ -110,15 +110,15 @@ pub record Makes (old : Sitter) (e : Event) (reply : Reply) (new : Sitter) : Typ
   pub legal : IsLegal old.place.shape (e ∷ before)
   pub replied : reply ≡ answer old.place.shape before (call_of e)
 
--- No step: the seat is as it was, and the reply is the sequential fault list's after what it has
--- seen.
+-- No step: the seat is as before, and the reply is the sequential fault list's after the history
+-- that it has seen.
 pub record Stays (old : Sitter) (c : Call) (reply : Reply) (new : Sitter) : Type 0 where
   pub seat : new ≡ old
   pub replied : reply ≡ answer old.place.shape old.seen c
 
--- A drop that finds no hit: a seat that sees more, and the refusal is the sequential fault list's
--- after a history that begins with what the seat had seen, perhaps that itself, and with which what
--- it has seen afterwards begins.
+-- A drop that finds no hit. The seat sees more, and the error is the sequential fault list's after
+-- some history `at`. It begins with the seat's earlier history, or is that, and the seat's later
+-- history begins with it.
 pub record FindsNoHit (old : Sitter) (new : Sitter) : Type 0 where
   pub sees : Sees old old.told new
   pub at : History
@@ -126,8 +126,8 @@ pub record FindsNoHit (old : Sitter) (new : Sitter) : Type 0 where
   pub later : ContinuesWithout old.worker new.seen at
   pub replied : Refused NoEarlierHit ≡ answer old.place.shape at (call.Drop old.worker)
 
--- Two seats that met: what the first has seen begins with what both had seen, what the second has
--- seen begins with that, and in both the events of either worker are those of before.
+-- Two seats that met. The first's history begins with both earlier ones, and the second's begins
+-- with the first's. Neither has new events of the two workers.
 pub record Meets (first second first_now second_now : Sitter) : Type 0 where
   pub first_sees : Sees first first.told first_now
   pub second_sees : Sees second second.told second_now
@@ -147,11 +147,11 @@ closed_of shape states = record { shape = shape; states = states }
 abbrev pub closed_face : Shape → History → ClosedFace
 closed_face shape h = closed_of shape (states_of shape h)
 
--- the states are those of some legal history
+-- the states show some legal history
 abbrev pub AreStates : Shape → List PieceState → Type 0
 AreStates shape states = (h : History) × IsLegal shape h × (states ≡ states_of shape h)
 
--- the history begins with what each seat has seen, and has no further event of its worker
+-- the history begins with the history of each seat, and has no further event of its worker
 abbrev pub HoldsAll : History → List Sitter → Type 0
 HoldsAll h seats = All (λ seat. ContinuesWithout seat.worker h seat.seen) seats
 

@@ -61,12 +61,12 @@ abbrev pub total : (View → ℕ) → List View → ℕ
 total f [] = 0
 total f (v ∷ views) = f v + total f views
 
--- how often the worker stands among the posts
+-- how many times the worker is among the posts
 abbrev pub times : ℕ → List Post → ℕ
 times w [] = 0
 times w (p ∷ posts) = (if p.worker == w then 1 else 0) + times w posts
 
--- how many of the posts were told that all pieces are claimed
+-- the number of posts that have got that all pieces are claimed
 abbrev pub told_of : List Post → ℕ
 told_of [] = 0
 told_of (p ∷ posts) = (if p.told then 1 else 0) + told_of posts
@@ -75,18 +75,19 @@ abbrev pub ForEach : (Post → Type 0) → List Post → Type 0
 ForEach P [] = Unit {0}
 ForEach P (p ∷ posts) = P p × ForEach P posts
 
--- what a post has seen: the history begins with it, and has no further event of its worker, who is
--- one of the ledger's; where it was told that all pieces are claimed they were, and it holds none
+-- the knowledge of a post: the history begins with it, and has no further event of its worker,
+-- which is one of the ledger's. If it has got that all pieces are claimed, they are, and it holds
+-- none
 pub record Knows (shape : Shape) (h : History) (of : Shape) (p : Post) : Type 0 where
   pub same : of ≡ shape
   pub among : p.worker < shape.workers
   pub newer : ContinuesWithout p.worker h p.seen
   pub done : p.told ≡ true → (held_by p.worker p.seen ≡ None) × (claims p.seen ≡ piece_count shape)
 
--- The words and the views are those of this legal history. Word 0 is the cursor, which counts the
+-- The words and the views belong to this legal history. Word 0 is the cursor, which counts the
 -- claims that were tried, and field p % 8 of word p / 8 + 1 has the code of piece p. Past the
--- pieces the cursor counts those that were told, each once. There are at most as many posts as
--- workers, and no worker stands at two.
+-- pieces the cursor counts each post that has got that all are claimed, once. There are at most as
+-- many posts as workers, and no worker has two.
 pub record IsKeptBy (shape : Shape) (h : History) (words : List ℕ)
     (views : List View) : Type 0 where
   pub limits : shape_fault shape ≡ None
@@ -112,14 +113,14 @@ post w told seen = record { worker = w; told = told; seen = seen }
 abbrev pub one : Shape → ℕ → Bool → History → View
 one shape w told seen = record { shape = shape; posts = post w told seen ∷ [] }
 
--- a fact on the one worker of a view; it says nothing of a view of none or of several
+-- a fact on the one worker of a view; it is empty for a view of none or of several
 abbrev pub OfPosts : List Post → (Post → Type 0) → Type 0
 OfPosts [] P = Unit {0}
 OfPosts (p ∷ []) P = P p
 OfPosts (p ∷ q ∷ posts) P = Unit {0}
 
--- after what was seen and events of others, the worker's event was legal, and is now the last that
--- was seen
+-- after the seen history and events of others, the worker's event is legal, and is the last that is
+-- seen
 abbrev pub Adds : Shape → Post → Event → View → Type 0
 Adds shape p e v = (before : History) × ContinuesWithout p.worker before p.seen
     × IsLegal shape (e ∷ before) × (v ≡ one shape p.worker p.told (e ∷ before))
