@@ -1,6 +1,5 @@
--- The sweeps of the blocks in the run of one worker over a list of classes, and what is found out
--- of
--- the classes with each.
+-- The sweeps of the blocks in the run of one worker over a list of classes, and the knowledge of
+-- the classes after each.
 use Rattle.std.specs.Prelude.{◌≡◌, ◌⊎◌, ◌<◌, ◌≤◌, ◌+◌, ℕ, List, Option, All, length, map}
 use Rattle.patterns.specs.Tests.{blocks}
 use Rattle.block_sim.specs.declared.origin.ListedClass.{ListedClass}
@@ -24,8 +23,8 @@ pub record AreRowsOf (job : Parts) (classes : List ℕ) (rows : List ListedClass
 abbrev pub between : ℕ → ℕ → BlockSpan
 between first last = record { first = first; last = last }
 
--- Where so many first blocks are found out of all classes, the sweep of one of them has all, and
--- that of the next has none.
+-- If the first `known` blocks are done for all classes, the sweep of one of them has all, and the
+-- sweep of the next has none.
 pub record IsBlockSweep (job : Parts) (rows : List ListedClass) (known : ℕ) (sweep : BlockSweep) :
     Type 0 where
   pub ordered : sweep.block ≤ sweep.last
@@ -34,14 +33,14 @@ pub record IsBlockSweep (job : Parts) (rows : List ListedClass) (known : ℕ) (s
       ⊎ ((sweep.found ≡ 0) × (known ≤ sweep.block)
       × (sweep.last ≡ (span_of (length job.tests.tests) sweep.block).last))
 
--- so many first classes are all, or the last block of the sweep is the last that is found out at
+-- the first `found` classes are all, or the last block of the sweep is the last that is done at
 -- once with the sweep's own
 abbrev pub IsWhole : Parts → List ListedClass → BlockSweep → ℕ → Type 0
 IsWhole job rows sweep found = (found ≡ length rows)
     ⊎ (sweep.last ≡ (span_of (length job.tests.tests) sweep.block).last)
 
--- of the open classes at the places from one up to another it is found out which test is the first
--- from the sweep's block on
+-- for the open classes at the places from one up to another the first test from the sweep's block
+-- on is known
 abbrev pub HaveFirstsFrom : Parts → List ListedClass → List (Option ℕ) → BlockSweep → ℕ → ℕ
     → List (Option ℕ)
     → Type 0
@@ -49,7 +48,7 @@ HaveFirstsFrom job rows firsts sweep place found hits = (k : ℕ) (row : ListedC
     → k < found
     → IsOpenAt rows firsts k row → HasFirst job (between sweep.block sweep.last) row hits k
 
--- and of those before a place which one is the first behind it
+-- and for the open classes before a place the first test after that block
 abbrev pub HaveFirstsAfter : Parts → List ListedClass → List (Option ℕ) → BlockSweep → ℕ
     → List (Option ℕ) → Type 0
 HaveFirstsAfter job rows firsts sweep place hits = (k : ℕ) (row : ListedClass) → k < place

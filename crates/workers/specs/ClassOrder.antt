@@ -12,7 +12,7 @@ pub record IsRanked (job : Parts) (visits : List ℕ) (at : Ranked) : Type 0 whe
   pub stem : IsStemOfClass job.list.model job.circuit at.class at.stem
   pub visit : at.visit ≡ slice_index_or visits at.stem 0
 
--- the first so many classes, by their own numbers
+-- the first n classes, by their own numbers
 pub record AreNumbered (job : Parts) (visits : List ℕ) (n : ℕ) (ranked : List Ranked) : Type 0 where
   pub count : length ranked ≡ n
   pub each : (k : ℕ) (at : Ranked) → slice_get ranked k ≡ Some at
@@ -34,7 +34,7 @@ pub record AreRanked (job : Parts) (ranked : List Ranked) : Type 0 where
   pub ordered : (i k : ℕ) (a b : Ranked) → i < k → slice_get ranked i ≡ Some a
       → slice_get ranked k ≡ Some b → RanksBefore a b
 
--- classes of the job, to be cut into so many stretches of this size
+-- classes of the job, to be cut into this number of stretches of this size
 pub record IsCutOf (job : Parts) (parts size : ℕ) (classes : List ℕ) : Type 0 where
   pub some : 0 < parts
   pub size_is : size ≡ stretch_size (length classes) parts

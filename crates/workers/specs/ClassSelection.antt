@@ -3,8 +3,8 @@ use Rattle.std.specs.Prelude.{◌<◌, ◌≤◌, ℕ, List, length, slice_index
 use Rattle.fault_model.specs.Collapse.{Collapsed}
 use Rattle.block_sim.specs.Parts.{Parts}
 
--- so many classes, in the order in which the ledger of a run numbers them: the ledger's class k is
--- this class of the job
+-- a number of classes, in the order in which the ledger of a run numbers them: the ledger's class k
+-- is this class of the job
 pub record ClassSelection : Type 0 where
   pub count : ℕ
   pub class_at : ℕ → ℕ
@@ -13,7 +13,7 @@ pub record ClassSelection : Type 0 where
 abbrev pub every : Collapsed → ClassSelection
 every classes = record { count = length classes.representative; class_at = λ class. class }
 
--- so many classes, which are those of a list
+-- the first classes of a list, up to a number
 abbrev pub first_listed : ℕ → List ℕ → ClassSelection
 first_listed count classes = record {
   count = count;

@@ -14,7 +14,7 @@ pub record ServesLists (runner : Runner) (job : Parts) : Type 0 where
   pub regions : ServesRegions runner.simulation job
   pub order : AreAllByRegion job runner.order
 
--- the first so many classes of a list are marked
+-- the first n classes of a list are marked
 pub record AreMarked (classes : List ℕ) (count n : ℕ) (marks : List Bool) : Type 0 where
   pub long : length marks ≡ count
   pub each : (k class : ℕ) → k < n → slice_get classes k ≡ Some class

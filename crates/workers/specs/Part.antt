@@ -1,4 +1,4 @@
--- The parts of the classes, and what a run over a part says of each fault.
+-- The parts of the classes, and the verdicts of a run over a part on each fault.
 use Rattle.std.specs.Prelude.{◌≡◌, ◌≢◌, ◌⊎◌, ◌<◌, ◌≤◌, ⊤, ℕ, ◌%◌, ◌*◌, max, List, length, take}
 use Rattle.std.specs.Prelude.{drop}
 use Rattle.std.specs.Prelude.{slice_get, Option, Some, None, slice_index_or, min, nat_lt}
@@ -11,8 +11,8 @@ use Rattle.block_sim.specs.Regions.{IsStemOfClass}
 use Rattle.workers.specs.declared.parts.PartVerdict.{PartVerdict}
 use Rattle.workers.specs.declared.parts.PartVerdict.TheVariants.{First, OtherPart}
 
--- the class is of this part, of so many parts: the number of its region's stem, divided by the
--- number of parts, leaves the number of the part
+-- the class is in this part, for this number of parts: the number of its region's stem modulo the
+-- number of parts is the part
 abbrev pub IsOfPart : Parts → ℕ → ℕ → ℕ → Type 0
 IsOfPart job parts part class = (stem : ℕ)
     × IsStemOfClass job.list.model job.circuit class stem × (part ≡ stem % parts)
@@ -32,9 +32,9 @@ ComesBefore job visits first second = (r q : ℕ)
     ⊎ ((slice_index_or visits r 0 ≡ slice_index_or visits q 0)
     × ((r < q) ⊎ ((r ≡ q) × (first < second))))
 
--- Classes of a job for which this holds, region by region: each of the list is one, each such class
--- is among them, and each comes before those behind it by some visits to the stems, so that it
--- stands there once and those of one region stand next to each other. So they are no more than the
+-- The classes of a job with a property, region by region. Each of the list has it, and each class
+-- that has it is in the list. Each comes before the later ones by some visits to the stems, so it
+-- stands there once, and the classes of one region are adjacent. So they are no more than the
 -- job's.
 pub record AreByRegion (job : Parts) (Holds : ℕ → Type 0) (classes : List ℕ) : Type 0 where
   pub visits : List ℕ
@@ -46,7 +46,7 @@ pub record AreByRegion (job : Parts) (Holds : ℕ → Type 0) (classes : List �
       → slice_get classes k ≡ Some second → ComesBefore job visits first second
   pub few : length classes ≤ length job.classes.representative
 
--- the classes of a part, of so many parts
+-- the classes of a part, for this number of parts
 abbrev pub ArePartOf : Parts → ℕ → ℕ → List ℕ → Type 0
 ArePartOf job parts part classes = AreByRegion job (IsOfPart job parts part) classes
 
@@ -54,18 +54,18 @@ ArePartOf job parts part classes = AreByRegion job (IsOfPart job parts part) cla
 abbrev pub AreAllByRegion : Parts → List ℕ → Type 0
 AreAllByRegion job classes = AreByRegion job (λ class. ⊤) classes
 
--- How many classes a stretch has, where so many are cut into so many stretches of one size, as
--- small as it can be. The last stretches have fewer, or none.
+-- The number of classes of a stretch, if `count` classes are cut into stretches of one size, as
+-- small as possible. The last stretches have fewer, or none.
 abbrev pub stretch_size : ℕ → ℕ → ℕ
 stretch_size count parts = div_ceil count parts
 
--- In how many stretches so many workers run so many classes: one worker in one, several in four for
--- each of them up to 64, but in no more than there are classes and in no fewer than one.
+-- The number of stretches in which workers run classes. One worker runs one stretch. Several run
+-- four for each of up to 64 workers, but no more than there are classes and at least one.
 abbrev pub stretches_for : ℕ → ℕ → ℕ
 stretches_for classes workers =
     if nat_lt workers 2 then 1 else max (min (4 * min workers 64) classes) 1
 
--- in how many parts so many workers run a job where no number is given
+-- the number of parts in which workers run a job if none is given
 abbrev pub parts_for : Parts → ℕ → ℕ
 parts_for job workers = stretches_for (length job.classes.representative) workers
 
@@ -73,19 +73,19 @@ parts_for job workers = stretches_for (length job.classes.representative) worker
 abbrev pub stretch : ℕ → List ℕ → ℕ → List ℕ
 stretch size classes k = take size (drop (k * size) classes)
 
--- how many stretches of this size have a class, the first ones
+-- the number of stretches of this size that have a class, the first ones
 abbrev pub stretch_count : ℕ → List ℕ → ℕ
 stretch_count size classes = div_ceil (length classes) (max size 1)
 
--- The verdict on a class by the first tests of the classes of a list, up to some place: that of the
--- class, or of another part where the class is not in the list.
+-- The verdict on a class by the first tests of the classes of a list, up to some place: the class's
+-- first test, or another part if the class is not in the list.
 abbrev pub IsClassVerdict : List ℕ → List (Option ℕ) → ℕ → ℕ → Option PartVerdict → Type 0
 IsClassVerdict classes firsts n class verdict =
     ((k : ℕ) × (first : Option ℕ) × (k < n) × (slice_get classes k ≡ Some class)
     × (slice_get firsts k ≡ Some first) × (verdict ≡ Some (First first)))
     ⊎ (((k : ℕ) → k < n → slice_get classes k ≢ Some class) × (verdict ≡ Some OtherPart))
 
--- the verdicts on so many classes
+-- the verdicts on the first `count` classes
 pub record AreClassVerdicts (count : ℕ) (classes : List ℕ) (firsts : List (Option ℕ)) (n : ℕ)
     (verdicts : List PartVerdict) : Type 0 where
   pub long : length verdicts ≡ count
@@ -97,15 +97,15 @@ abbrev pub first_in : PartVerdict → Option ℕ
 first_in (First first) = first
 first_in OtherPart = None
 
--- the verdict on a fault of a class: its first test where the class is of the part
+-- the verdict on a fault of a class: its first test if the class is in the part
 abbrev pub IsPartVerdict : Parts → ℕ → ℕ → ℕ → Fault → PartVerdict → Type 0
 IsPartVerdict job parts part class f (First first) =
     IsOfPart job parts part class × IsFirst job.circuit job.tests.tests f first
 IsPartVerdict job parts part class f OtherPart = ¬ IsOfPart job parts part class
 
--- The verdicts on all faults, before collapsing, of a run over a part: for each fault of one of its
--- classes the first test that detects it, or none where no test does, and for each other that it is
--- of another part.
+-- The verdicts of a run over a part on all faults of the uncollapsed list. A fault of one of its
+-- classes has the first test that detects it, or none if no test does. Each other fault is in
+-- another part.
 pub record ArePartVerdicts (job : Parts) (parts part : ℕ)
     (verdicts : List PartVerdict) : Type 0 where
   pub count : length verdicts ≡ length (faults job.list.model job.circuit)

@@ -14,8 +14,8 @@ use Rattle.fault_ledger.specs.Settled.{finish}
 use Rattle.workers.specs.Settling.{shape_for}
 use Rattle.workers.specs.Verdict.{VerdictList, verdicts}
 
--- a move of a worker that holds this piece or nothing: a claim while there are pieces; a drop
--- where that is accepted, else a report of the table's outcome
+-- a move of a worker that holds this piece or nothing: a claim while there are pieces; a drop if it
+-- is accepted, else a report of the table's outcome
 abbrev pub move_holding : Table → Shape → History → ℕ → Option ℕ → History
 move_holding table shape h w None = if nat_lt (claims h) (piece_count shape) then Claim w ∷ h else h
 move_holding table shape h w (Some piece) =
@@ -52,8 +52,8 @@ drops h = count_by is_drop h
 abbrev pub IsTableOf : Parts → Table → Type 0
 IsTableOf job table = IsTrueTable job.list.model job.circuit job.tests.tests table
 
--- The verdicts are those of the schedule's history over a true table, which is finished, and so is
--- the number of skipped pieces, which is that of its drops.
+-- The verdicts follow from the schedule's history over a true table, which is finished, and the
+-- number of skipped pieces is the number of its drops.
 pub record IsScheduled (job : Parts) (workers : ℕ) (moves : List ℕ) (v : VerdictList) : Type 0 where
   pub table : Table
   pub is_true : IsTableOf job table

@@ -1,4 +1,4 @@
--- Where gates stop workers.
+-- The pieces at which gates stop workers.
 use Rattle.std.specs.Prelude.{⊤, ℕ}
 
 -- Of which worker, class and block a gate may stop the worker, and of which it surely does.

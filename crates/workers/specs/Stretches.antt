@@ -1,4 +1,4 @@
--- Stretches that a shared ledger hands out to workers, and what they give back.
+-- Stretches that a shared ledger hands out to workers, and the workers' results.
 use Rattle.std.specs.Prelude.{◌≡◌, ◌⊎◌, ◌<◌, ◌*◌, ℕ, max, min, List, [], ◌∷◌, length}
 use Rattle.std.specs.Prelude.{slice_get, take, drop, All, Option, Some, None, Result, Ok, IfOk}
 use Rattle.std.specs.declared.vec.Vec.{Vec}
@@ -26,16 +26,16 @@ use Rattle.workers.specs.Verdict.{AreClassFirsts, VerdictList}
 use Rattle.workers.specs.Stops.{Stops}
 use Rattle.workers.specs.Work.{EachReport}
 
--- the shape of a ledger of so many stretches: each is a class of the ledger, with one block
+-- the shape of a ledger of a number of stretches: each is a class of the ledger, with one block
 abbrev pub shape_of_stretches : ℕ → ℕ → Shape
 shape_of_stretches count workers = record { classes = count; tests = 64; workers = workers }
 
--- how many workers there are for so many stretches
+-- the number of workers for a number of stretches
 abbrev pub crew_of : ℕ → ℕ → ℕ
 crew_of workers stretches = max (min workers stretches) 1
 
--- A seat claimed this stretch: just before, it had seen this, and the number of the stretch is that
--- of the claims made.
+-- A seat claimed this stretch: just before, it had seen this history, and the stretch is the number
+-- of claims made.
 pub record ClaimsStretch (old : Sitter) (part : ℕ) (new : Sitter) : Type 0 where
   pub before : History
   pub place : new.place ≡ old.place
@@ -54,19 +54,19 @@ pub record SeesAllClaimed (old new : Sitter) : Type 0 where
   pub legal : IsLegal old.place.shape new.seen
   pub all : claims new.seen ≡ piece_count old.place.shape
 
--- what a seat does after its worker ran the stretch that it holds: it reports it where no class
+-- the step of a seat after its worker ran the stretch that it holds: it reports it if no class
 -- waits, else it still holds it
 abbrev pub AfterRun : Sitter → Option Waiting → Sitter → Type 0
 AfterRun old None new = Makes old (Event.Report old.worker outcome.Clear) reply.Done new
 AfterRun old (Some waiting) new = new ≡ old
 
--- how a stretch stands in a history where a worker found this of it: it is reported where no class
--- waits, else the worker holds it
+-- the state of a stretch in a history after a worker's result: it is reported if no class waits,
+-- else the worker holds it
 abbrev pub Stands : ℕ → History → ℕ → Option Waiting → Type 0
 Stands w h part None = entry part h ≡ Clear
 Stands w h part (Some waiting) = held_by w h ≡ Some part
 
--- the part is among what was found
+-- the part is among the results
 abbrev pub IsAmong : List Done → ℕ → Type 0
 IsAmong dones part = (k : ℕ) × (done : Done) × (slice_get dones k ≡ Some done)
     × (done.part ≡ part)
@@ -77,8 +77,8 @@ EachClaim Holds w [] = Unit {0}
 EachClaim Holds w (Event.Claim u ∷ h) = (u ≡ w → Holds (claims h)) × EachClaim Holds w h
 EachClaim Holds w (_ ∷ h) = EachClaim Holds w h
 
--- What a worker found accounts for what it did in a history: each stretch that it claimed is among
--- it, and stands so as it was found.
+-- The results of a worker account for its events in a history: each stretch that it claimed has a
+-- result, and its state follows from that.
 pub record Accounts (job : Parts) (size : ℕ) (classes : List ℕ) (w : ℕ) (passing : Type 0)
     (stops : Stops) (h : History) (dones : List Done) : Type 0 where
   pub done : AreDone job size classes w passing stops dones
@@ -94,8 +94,8 @@ IsStoppedIn dones = (k : ℕ) × (done : Done) × (slice_get dones k ≡ Some do
 abbrev pub EndsServing : Shape → History → List Done → Type 0
 EndsServing shape h dones = (claims h ≡ piece_count shape) ⊎ IsStoppedIn dones
 
--- What became of a worker's seat of a new ledger of stretches: it came back, what it has seen is
--- legal, and what the worker found accounts for it.
+-- The seat of a worker of a new ledger of stretches at the end: it came back, its history is legal,
+-- and the worker's results account for it.
 pub record HasServed (job : Parts) (size : ℕ) (classes : List ℕ) (place : Place) (w : ℕ)
     (passing : Type 0) (stops : Stops) (seat : Sitter) (dones : List Done) : Type 0 where
   pub place_is : seat.place ≡ place
@@ -104,7 +104,7 @@ pub record HasServed (job : Parts) (size : ℕ) (classes : List ℕ) (place : Pl
   pub accounts : Accounts job size classes w passing stops seat.seen dones
   pub ended : EndsServing place.shape seat.seen dones
 
--- all workers came back, one of each number, unless memory was refused
+-- all workers came back, one of each number, unless memory ran out
 pub record AreServed {E : Type 0} (job : Parts) (size : ℕ) (classes : List ℕ) (place : Place)
     (passing : Type 0) (stops : Stops) (back : List (Result Served E)) : Type 0 where
   pub count : length back ≡ place.shape.workers
@@ -112,7 +112,7 @@ pub record AreServed {E : Type 0} (job : Parts) (size : ℕ) (classes : List ℕ
       → IfOk one (λ served. HasServed job size classes place w passing stops served.seat
       served.dones.items)
 
--- what came back, set apart: the seats, and what their workers found
+-- the two lists of what came back: the seats, and their workers' results
 pub record AreApart {E Z : Type 0} (back : List (Result Served E)) (seats : List Sitter)
     (dones : List (Vec Done Z)) : Type 0 where
   pub seats_count : length seats ≡ length back
@@ -122,8 +122,8 @@ pub record AreApart {E Z : Type 0} (back : List (Result Served E)) (seats : List
       → (served : Served) × (slice_get back k ≡ Some (Ok served)) × (seat ≡ served.seat)
       × (own.items ≡ served.dones.items)
 
--- What workers found at a ledger of stretches that is closed: a legal history that it shows
--- accounts for all of it.
+-- The results of workers at a closed ledger of stretches: a legal history that it shows accounts
+-- for all of them.
 pub record AreShared {Z : Type 0} (job : Parts) (size : ℕ) (classes : List ℕ) (shape : Shape)
     (passing : Type 0) (stops : Stops) (dones : List (Vec Done Z))
     (closed : ClosedFace) : Type 0 where
@@ -135,7 +135,7 @@ pub record AreShared {Z : Type 0} (job : Parts) (size : ℕ) (classes : List ℕ
       → Accounts job size classes w passing stops history own.items
       × EndsServing shape history own.items
 
--- a report of a stretch stands for these first tests of all classes: those of its own classes
+-- a report of a stretch stands for the first tests of its own classes
 abbrev pub StandsFor : Parts → ℕ → List ℕ → List (Option ℕ) → Option ℕ → Type 0
 StandsFor job size classes firsts None = ⊥
 StandsFor job size classes firsts (Some part) =
@@ -143,7 +143,7 @@ StandsFor job size classes firsts (Some part) =
     (take size (drop (part * size) firsts))
 
 -- First tests of classes that were found stretch by stretch: the closed ledger of these stretches
--- shows a legal and finished history, in which each report stands for those of its stretch.
+-- shows a legal and finished history, in which each report stands for its stretch's first tests.
 pub record AreOfStretches (job : Parts) (size : ℕ) (classes : List ℕ) (workers : ℕ)
     (firsts : List (Option ℕ)) (closed : ClosedFace) : Type 0 where
   pub shape : closed.shape ≡ shape_of_stretches (stretch_count size classes)
@@ -155,7 +155,7 @@ pub record AreOfStretches (job : Parts) (size : ℕ) (classes : List ℕ) (worke
   pub reports : (w : ℕ)
       → EachReport (λ o h. StandsFor job size classes firsts (held_by w h)) w history []
 
--- The verdicts were found stretch by stretch of all classes, which are cut into so many: that of a
+-- The verdicts were found stretch by stretch of all classes, cut into this number: the verdict on a
 -- fault is one that was found of its class.
 pub record IsOfStretches (job : Parts) (parts workers : ℕ) (v : VerdictList)
     (closed : ClosedFace) : Type 0 where
@@ -167,8 +167,8 @@ pub record IsOfStretches (job : Parts) (parts workers : ℕ) (v : VerdictList)
       → slice_get v.firsts i ≡ Some first
       → (k : ℕ) × (slice_get classes k ≡ Some class) × (slice_get firsts k ≡ Some first)
 
--- The verdicts of a part were found stretch by stretch of its classes, which are cut into as many
--- as serve the workers: that on a fault of one of these is one that was found of its class.
+-- The verdicts of a part were found stretch by stretch of its classes, cut into a number that suits
+-- the workers: the verdict on a fault of one of these is one that was found of its class.
 pub record IsPartOfStretches (job : Parts) (parts part workers : ℕ)
     (verdicts : List PartVerdict) (closed : ClosedFace) : Type 0 where
   pub classes : List ℕ

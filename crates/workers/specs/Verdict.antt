@@ -27,11 +27,11 @@ abbrev pub settled_at : Status → Option ℕ
 settled_at (Settled at) = at
 settled_at (Waiting block) = None
 
--- the verdict of each fault after a finished history: that of its class
+-- the verdict of each fault after a finished history: its class's verdict
 abbrev pub verdicts : Shape → History → List ℕ → List (Option ℕ)
 verdicts shape h class_of = map (λ class. settled_at (status shape h class)) class_of
 
--- for each class of a list the first test that detects its faults, or none where no test does
+-- for each class of a list the first test that detects its faults, or none if no test does
 pub record AreClassFirsts (m : Model) (c : List Statement) (tests : List Test) (classes : List ℕ)
     (firsts : List (Option ℕ)) : Type 0 where
   pub count : length firsts ≡ length classes
@@ -42,15 +42,15 @@ pub record AreClassFirsts (m : Model) (c : List Statement) (tests : List Test) (
 abbrev pub detected_count : List (Option ℕ) → ℕ
 detected_count firsts = count_by is_some firsts
 
--- each fault of the circuit's list, before collapsing, has the first test that detects it, or
--- none where no test does
+-- each fault of the circuit's uncollapsed list has the first test that detects it, or none if no
+-- test does
 pub record AreFirsts (m : Model) (c : List Statement) (tests : List Test)
     (firsts : List (Option ℕ)) : Type 0 where
   pub count : length firsts ≡ length (faults m c)
   pub first : (i : ℕ) (f : Fault) (first : Option ℕ) → slice_get (faults m c) i ≡ Some f
       → slice_get firsts i ≡ Some first → IsFirst c tests f first
 
--- of so many blocks those behind the block of a first test, none where there is no test
+-- the number of blocks after the block of a first test, none if there is no test
 abbrev pub blocks_after : ℕ → Option ℕ → ℕ
 blocks_after n None = 0
 blocks_after n (Some test) = n - (test / 64 + 1)
@@ -59,8 +59,8 @@ blocks_after n (Some test) = n - (test / 64 + 1)
 abbrev pub pieces_after : ℕ → List (Option ℕ) → ℕ
 pieces_after n firsts = sum_by (blocks_after n) firsts
 
--- So many pieces of a job stand behind the first hits of their classes. With the first test of each
--- class, by its number, or none where no test detects.
+-- The number of pieces of a job after the first hits of their classes. Each class, by its number,
+-- has its first test, or none if no test detects it.
 pub record AreAfterHits (job : Parts) (skipped : ℕ) : Type 0 where
   pub firsts : List (Option ℕ)
   pub count : length firsts ≡ length job.classes.representative

@@ -29,8 +29,8 @@ GivesTrue job chosen shape (Some piece) o =
     IsTrueOutcome job.list.model job.circuit job.tests.tests
     (chosen.class_at (class_of shape piece)) (block_of shape piece) o
 
--- the worker's drop of the piece that it holds was refused for want of a hit in an earlier block,
--- at a time since its last event
+-- the worker's drop of the piece that it holds failed because no earlier block was a hit, at a time
+-- since its last event
 abbrev pub WasNoDrop : Shape → ℕ → History → Type 0
 WasNoDrop shape w h = (at : History) × ContinuesWithout w h at
     × (Refused NoEarlierHit ≡ answer shape at (call.Drop w))
@@ -50,8 +50,8 @@ ReportsTruly job chosen shape w newer earlier =
     EachReport (λ o h. GivesTrue job chosen shape (held_by w h) o × WasNoDrop shape w h) w newer
     earlier
 
--- What a seat has seen after its worker's work is legal and begins with what it had seen, and
--- each new report of the worker in it is true, of a piece that could not be dropped.
+-- The history of a seat after its worker's work is legal and begins with its earlier one, and each
+-- new report of the worker in it is true, of a piece that could not be dropped.
 pub record WorksOver (job : Parts) (chosen : ClassSelection) (old new : Sitter) : Type 0 where
   pub place : new.place ≡ old.place
   pub worker : new.worker ≡ old.worker
@@ -64,7 +64,7 @@ pub record WorksOver (job : Parts) (chosen : ClassSelection) (old new : Sitter) 
 abbrev pub Works : Parts → Sitter → Sitter → Type 0
 Works job old new = WorksOver job (every job.classes) old new
 
--- where a gate stops workers, by the ledger's numbers of chosen classes
+-- the stops of a gate, by the ledger's numbers of chosen classes
 abbrev pub stops_over : ClassSelection → Stops → Stops
 stops_over chosen stops = record {
   may = λ worker class block. stops.may worker (chosen.class_at class) block;
@@ -93,9 +93,9 @@ pub record HasRested (seat : Sitter) : Type 0 where
   pub over : (claims seat.seen ≡ piece_count seat.place.shape)
       ⊎ AreSettled seat.place.shape seat.seen seat.place.shape.classes
 
--- What became of a worker's seat of a new ledger: it came back, what it has seen is legal, and
--- each report of the worker is true, of a piece that could not be dropped. The worker has rested or
--- was stopped; where its gate always lets pass, it has rested.
+-- The seat of a worker of a new ledger at the end: it came back, its history is legal, and each
+-- report of the worker is true, of a piece that could not be dropped. The worker has rested or was
+-- stopped; if its gate always lets pass, it has rested.
 pub record Returns (job : Parts) (chosen : ClassSelection) (place : Place) (w : ℕ)
     (passing : Type 0)
     (stops : Stops) (seat : Sitter) : Type 0 where
@@ -129,9 +129,8 @@ pub record HasRun (job : Parts) (chosen : ClassSelection) (workers : ℕ) (close
   pub finished : finish closed.shape history ≡ Finished
   pub truly : AllReportTruly job chosen closed.shape history
 
--- The verdicts are those of some legal and finished history of the job's ledger, and so is the
--- number of pieces that it says are Skipped. Each report in it is true, of a piece that could not
--- be dropped.
+-- The verdicts and the number of skipped pieces follow from some legal and finished history of the
+-- job's ledger. Each report in it is true, of a piece that could not be dropped.
 pub record IsOfHistory (job : Parts) (workers : ℕ) (v : VerdictList) : Type 0 where
   pub history : History
   pub legal : IsLegal (shape_for job workers) history
@@ -140,10 +139,9 @@ pub record IsOfHistory (job : Parts) (workers : ℕ) (v : VerdictList) : Type 0 
   pub firsts : v.firsts ≡ verdicts (shape_for job workers) history job.classes.class_of
   pub skipped : v.skipped ≡ count_by is_skipped (states_of (shape_for job workers) history)
 
--- A run over chosen classes that its gate stopped waits for this class and block of the job: so
--- says some legal history of a ledger of these classes, whose reports are true, of pieces that
--- could
--- not be dropped, and at whose end each worker was stopped, or all pieces are claimed.
+-- A run over chosen classes that its gate stopped waits for this class and block of the job, by
+-- some legal history of a ledger of these classes. Its reports are true, of pieces that could not
+-- be dropped. At its end each worker was stopped, or all pieces are claimed.
 pub record WaitsFor (job : Parts) (chosen : ClassSelection) (workers : ℕ) (stops : Stops)
     (class block : ℕ) : Type 0 where
   pub history : History
