@@ -10,15 +10,15 @@ use Rattle.fault_model.specs.Detection.{DetectsAt}
 use Rattle.patterns.specs.Least.{below}
 use Rattle.block_sim.specs.Parts.{Parts}
 
--- The number of tests that detect the fault, of which so many are counted at most. `detects` tells
--- of each test whether it does.
+-- The number of tests that detect the fault, counted up to `most`. `detects` gives for each test
+-- whether it does.
 pub record IsCount (c : List Statement) (tests : List Test) (most : ℕ) (f : Fault) (n : ℕ)
     : Type 0 where
   pub detects : ℕ → Bool
   pub decides : (t : ℕ) → Decides (detects t) (DetectsAt c tests f t)
   pub number : n ≡ min most (count_by detects (below (length tests)))
 
--- the same of the representative of a class
+-- the number of tests that detect the representative of a class
 pub record IsClassCount (job : Parts) (most class n : ℕ) : Type 0 where
   pub fault : Fault
   pub of : slice_get (representatives job.list.model job.circuit) class ≡ Some fault

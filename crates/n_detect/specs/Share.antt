@@ -4,14 +4,14 @@ use Rattle.block_sim.specs.Parts.{HasRoom, Parts}
 use Rattle.n_detect.specs.Detections.{IsClassCount}
 use Rattle.n_detect.specs.declared.share.Share.{Share}
 
--- a share that begins with this class, of so many: it has a place for each of its classes
+-- a share of a number of shares that begins with this class: it has a place for each of its classes
 pub record IsShareFor (job : Parts) (first shares : ℕ) (share : Share) : Type 0 where
   pub first_is : share.first ≡ first
   pub within : first < shares
   pub places : length job.classes.representative ≤ length share.counts.items * shares
   pub room : HasRoom share.workspace job
 
--- at place k is the count of class first + k * shares, where there is such a class
+-- place k has the count of class first + k * shares, if there is such a class
 pub record HasCounted (job : Parts) (most first shares : ℕ) (counts : List ℕ) : Type 0 where
   pub places : length job.classes.representative ≤ length counts * shares
   pub each : (k n : ℕ) → first + k * shares < length job.classes.representative
@@ -23,7 +23,7 @@ pub record AreShares (job : Parts) (workers : ℕ) (shares : List Share) : Type 
   pub each : (i : ℕ) (share : Share) → slice_get shares i ≡ Some share
       → IsShareFor job i workers share
 
--- the same where all have counted
+-- the same if all have counted
 pub record HaveCounted (job : Parts) (most workers : ℕ) (shares : List Share) : Type 0 where
   pub count : length shares ≡ workers
   pub each : (i : ℕ) (share : Share) → slice_get shares i ≡ Some share
