@@ -23,18 +23,18 @@ pub record AreLaunchPairs (c : List Statement) (tests pairs : List Test) : Type 
       → Solves c test None v
       → slice_get pairs (2 * t + 1) ≡ Some (take (length (inputs c)) test ++ captured c v)
 
--- the pairs of so many tests are more than a list of tests may have
+-- the pairs of this number of tests are more than a list of tests may have
 abbrev pub AreTooManyPairs : ℕ → Type 0
 AreTooManyPairs tests = max_tests < 2 * tests
 
--- when they are refused, of so many tests
+-- the error of the pairs of this number of tests
 abbrev pub IsPairingFault : ℕ → TestFault → Type 0
 IsPairingFault tests test_fault.Memory = ⊤
 IsPairingFault tests test_fault.TooMany = AreTooManyPairs tests
 IsPairingFault tests _ = ⊥
 
--- Of the first so many tests the rows of the pairs: the row of the test, and then its first bits,
--- as many as are held, before the last bits of the row that is shown under it.
+-- The rows of the pairs of the first n tests: the test's row, and then a row of its first `held`
+-- bits and of the last bits that are shown under it.
 pub record ArePairRows (tests shown : List Test) (held from n : ℕ) (pairs : List Test)
     : Type 0 where
   pub count : length pairs ≡ 2 * n
