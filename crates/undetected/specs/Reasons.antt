@@ -13,8 +13,8 @@ use Rattle.block_sim.specs.Events.{IsLive}
 use Rattle.undetected.specs.declared.Reason.{Reason}
 use Rattle.undetected.specs.declared.Reason.TheVariants.{NoPath, NotActivated, NotObserved}
 
--- An observer is reached from the line: from a stem where its signal is live, from a gate's pin
--- where that of the gate is; the branches at a data pin and at an output are observed.
+-- The line reaches an observer: a stem if its signal is live, a gate's pin if the gate's signal is;
+-- the branches at a data pin and at an output are observed.
 abbrev pub HasPath : List Statement → Line → Type 0
 HasPath c (line.Stem s) = IsLive c s
 HasPath c (line.Pin gate pin) = IsLive c gate
@@ -29,7 +29,7 @@ IsReason c tests f NotActivated = HasPath c f.line × (¬ IsActivated c tests f)
 IsReason c tests f NotObserved = HasPath c f.line × IsActivated c tests f
     × ((t : ℕ) → ¬ DetectsAt c tests f t)
 
--- with the first test that detects the fault: it has a reason where there is no such test
+-- with the first test that detects the fault: it has a reason if there is no such test
 abbrev pub HasReason : List Statement → List Test → Fault → Option ℕ → Option Reason → Type 0
 HasReason c tests f (Some t) reason = reason ≡ None
 HasReason c tests f None None = ⊥
@@ -43,7 +43,7 @@ pub record AreReasons (m : Model) (c : List Statement) (tests : List Test)
       → slice_get (faults m c) i ≡ Some f → slice_get firsts i ≡ Some first
       → slice_get reasons i ≡ Some reason → HasReason c tests f first reason
 
--- the numbers of stems and of gates are those of signals
+-- the numbers of stems and of gates are numbers of signals
 abbrev pub IsLineIn : List Statement → Line → Type 0
 IsLineIn c (line.Stem s) = s < length (names c)
 IsLineIn c (line.Pin gate pin) = gate < length (names c)
