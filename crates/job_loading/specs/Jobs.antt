@@ -13,7 +13,7 @@ use Rattle.block_sim.specs.Parts.{Parts, BelongTogether, piece_count}
 use Rattle.job_loading.specs.declared.fault.SimFault.{SimFault}
 use Rattle.job_loading.specs.declared.fault.SimFault.TheVariants as fault
 
--- the job of a bench text and a test text under a model: the circuit and the tests of the texts,
+-- the job of a bench file and a test file under a model: the circuit and the tests of the files,
 -- with the circuit's faults and classes
 abbrev pub IsJobOf : Model → List ℕ → List ℕ → Parts → Type 0
 IsJobOf m bench text job = IsAccepted bench job.circuit
@@ -31,14 +31,14 @@ abbrev pub IsJobFor : Model → List Statement → TestList → Parts → Type 0
 IsJobFor m c tests job =
     (job.circuit ≡ c) × (job.tests ≡ tests) × BelongTogether job × (job.list.model ≡ m)
 
--- When the bench text or the test text is refused. The bench text is read first.
+-- The error of the bench file or the test file. The bench file is read first.
 abbrev pub IsInputFault : List ℕ → List ℕ → SimFault → Type 0
 IsInputFault bench text (fault.Bench f) = (f ≡ bench_fault.Memory) ⊎ IsRefused bench f
 IsInputFault bench text (fault.Tests f) = (c : List Statement) × IsAccepted bench c
     × ((f ≡ test_fault.Memory) ⊎ IsTestRefusal text (length (sources c)) f)
 IsInputFault bench text _ = ⊥
 
--- when no job is made of a circuit and of tests: for the number of pieces, or for want of memory
+-- the error of a job of a circuit and of tests: its number of pieces, or memory
 abbrev pub IsPiecesFault : Model → List Statement → TestList → SimFault → Type 0
 IsPiecesFault m c tests (fault.Job f) = (f ≡ job_fault.Memory)
     ⊎ ((job : Parts) × IsJobFor m c tests job × (max_pieces < piece_count job))
@@ -57,7 +57,7 @@ IsJobFault m bench text f = IsInputFault bench text f
 abbrev pub IsJobWithin : Model → List ℕ → List ℕ → Parts → Type 0
 IsJobWithin m bench text job = IsJobOf m bench text job × (piece_count job ≤ max_pieces)
 
--- When the bench text or the test text of a job of any size is refused.
+-- The error of the bench file or the test file of a job of any size.
 abbrev pub IsReadFault : List ℕ → List ℕ → SimFault → Type 0
 IsReadFault bench text fault.Memory = ⊤
 IsReadFault bench text f = IsInputFault bench text f

@@ -21,16 +21,16 @@ abbrev pub IsLeastSplit : Parts → ℕ → Type 0
 IsLeastSplit job parts = (0 < parts) × ArePartsWithin job parts
     × ((other : ℕ) → 0 < other → ArePartsWithin job other → parts ≤ other)
 
--- Into so many parts a job is cut for so many workers: where it is run whole, into those that serve
--- them, and it is within the limit itself; where the number is to fit, each part is within it.
+-- The number of parts into which a job is cut for a number of workers. A run as a whole has a
+-- number that suits them, and is within the limit itself. If the number is to fit, each part is
+-- within it.
 abbrev pub IsSplitOf : Parts → Split → ℕ → ℕ → Type 0
 IsSplitOf job split.Whole workers parts =
     (0 < parts) × (parts ≡ parts_for job workers) × (piece_count job ≤ max_pieces)
 IsSplitOf job (split.Parts count) workers parts = (0 < parts) × (parts ≡ count)
 IsSplitOf job split.Fitting workers parts = (0 < parts) × ArePartsWithin job parts
 
--- When the texts of such a run are refused: the number of pieces is looked at where it is run
--- whole.
+-- The error of the files of such a run. The number of pieces counts only if it is run as a whole.
 abbrev pub IsSplitFault : Model → List ℕ → List ℕ → Split → SimFault → Type 0
 IsSplitFault m bench text split.Whole f = IsJobFault m bench text f
 IsSplitFault m bench text (split.Parts count) f = IsReadFault bench text f
