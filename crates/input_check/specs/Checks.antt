@@ -1,4 +1,4 @@
--- What a text is found to be: what its reader says, with the refusal first among all faults.
+-- The check of a file: the result of its reader, with the reader's error first among all errors.
 use Rattle.std.specs.Prelude.{◌≡◌, ◌≤◌, ⊤, ℕ, List, length, Option, Some, None}
 use Rattle.bench_net.specs.declared.BenchFault.{BenchFault}
 use Rattle.bench_net.specs.Circuit.{IsCircuit}
@@ -19,15 +19,14 @@ use Rattle.input_check.specs.declared.answer.Answer.TheVariants as answer
 use Rattle.input_check.specs.Counts.{IsExcessOf}
 use Rattle.input_errors.specs.declared.finding.InputError.TheVariants as fault
 
--- a bench text is accepted with the circuit that it is found to be, and else refused by the first
--- of its faults
+-- a bench file is accepted with its circuit, and else has the first of the reported errors
 abbrev pub IsBenchCheckOf : List ℕ → BenchCheck → Type 0
 IsBenchCheckOf text (bench_check.Accepted circuit) = IsAccepted text circuit × IsCircuit circuit
 IsBenchCheckOf text (bench_check.Refused findings) = (refusal : BenchFault)
     × (findings.first.fault ≡ fault.Bench refusal) × IsRefused text refusal
 
--- a test text is accepted with the tests for a circuit that it is found to be, and else refused by
--- the first of its faults
+-- a test file is accepted with its tests for a circuit, and else has the first of the reported
+-- errors
 abbrev pub IsTestCheckOf : List ℕ → List Statement → TestCheck → Type 0
 IsTestCheckOf text circuit (test_check.Accepted tests) =
     HasTests text (length (sources circuit)) tests × IsTestList tests
@@ -35,8 +34,8 @@ IsTestCheckOf text circuit (test_check.Refused findings) = (refusal : TestFault)
     × (findings.first.fault ≡ fault.Tests refusal)
     × IsTestRefusal text (length (sources circuit)) refusal
 
--- The answer for a circuit and tests for it: the job of both is within the limit of pieces, or past
--- it by what is told.
+-- The result for a circuit and tests for it: the job of both is within the limit on pieces, or
+-- exceeds it as reported.
 abbrev pub IsTestsAnswer : Model → List Statement → TestList → Answer → Type 0
 IsTestsAnswer m c tests (answer.Accepted table) =
     (job : Parts) × IsJobFor m c tests job × (piece_count job ≤ max_pieces)
@@ -44,8 +43,8 @@ IsTestsAnswer m c tests (answer.TooManyPieces excess) =
     (job : Parts) × IsJobFor m c tests job × IsExcessOf job excess
 IsTestsAnswer m c tests _ = ⊥
 
--- The answer for a circuit and the text of tests: the text is refused by the first of the faults
--- that are told, or has tests to which the answer is one.
+-- The result for a circuit and a test file: the file has the first of the reported errors, or tests
+-- with this result.
 abbrev pub IsTextAnswer : Model → List Statement → List ℕ → Answer → Type 0
 IsTextAnswer m c text (answer.TestsRefused findings) = (refusal : TestFault)
     × (findings.first.fault ≡ fault.Tests refusal)
@@ -53,15 +52,15 @@ IsTextAnswer m c text (answer.TestsRefused findings) = (refusal : TestFault)
 IsTextAnswer m c text given = (tests : TestList) × HasTests text (length (sources c)) tests
     × IsTestsAnswer m c tests given
 
--- the answer for a circuit, where there may be the text of tests
+-- the result for a circuit, and for a test file if there is one
 abbrev pub IsCircuitAnswer : Model → List Statement → Option (List ℕ) → Answer → Type 0
 IsCircuitAnswer m c None (answer.Accepted table) = ⊤
 IsCircuitAnswer m c None _ = ⊥
 IsCircuitAnswer m c (Some text) given = IsTextAnswer m c text given
 
--- What texts are answered. A bench text is refused by the first of the faults that are told. Where
--- it is accepted, a test text is refused so; and where that is accepted, too, the job of both texts
--- is within the limit of pieces, or past it by what is told.
+-- The result for the files. A bench file with an error has the first of the reported errors. If it
+-- is accepted, a test file with an error has its first one. If both are accepted, their job is
+-- within the limit on pieces, or exceeds it as reported.
 abbrev pub IsAnswerTo : Model → List ℕ → Option (List ℕ) → Answer → Type 0
 IsAnswerTo m bench tests (answer.BenchRefused findings) = (refusal : BenchFault)
     × (findings.first.fault ≡ fault.Bench refusal) × IsRefused bench refusal

@@ -14,8 +14,8 @@ use Rattle.input_check.specs.declared.summary.Counts.{Counts}
 use Rattle.input_check.specs.declared.summary.Excess.{Excess}
 use Rattle.input_check.specs.declared.summary.TestCounts.{TestCounts}
 
--- inputs, outputs, flip-flops, signals, depth, faults and classes are those of the circuit under
--- the model, which is named
+-- the numbers of inputs, outputs, flip-flops, signals, faults and classes, and the depth, are the
+-- circuit's under the named model
 pub record AreCountsOf (m : Model) (c : List Statement) (counts : Counts) : Type 0 where
   pub model : counts.model ≡ m
   pub inputs : counts.inputs ≡ length (inputs c)
@@ -27,21 +27,21 @@ pub record AreCountsOf (m : Model) (c : List Statement) (counts : Counts) : Type
   pub classes : (classes : Collapsed) × AreClassesOf m c classes
       × (counts.classes ≡ length classes.representative)
 
--- tests and blocks are those of the tests, and each of so many classes makes a piece with each
+-- the numbers of tests and of blocks are those of the list, and each class makes a piece with each
 -- block
 pub record AreTestCountsOf (classes : ℕ) (list : TestList) (taken : TestCounts) : Type 0 where
   pub tests : taken.tests ≡ length list.tests
   pub blocks : taken.blocks ≡ blocks (length list.tests)
   pub pieces : taken.pieces ≡ classes * taken.blocks
 
--- so many parts are the least of which each has no more pieces than the limit, where so many
--- classes, each with so many blocks, are cut into parts of one size
+-- the least number of parts of one size, each with at most `max_pieces` pieces, for a number of
+-- classes on a number of blocks
 abbrev pub AreLeastParts : ℕ → ℕ → ℕ → Type 0
 AreLeastParts classes blocks parts = (div_ceil classes parts * blocks ≤ max_pieces)
     × ((fewer : ℕ) → 0 < fewer → fewer < parts → max_pieces < div_ceil classes fewer * blocks)
 
--- The pieces of a job are past the limit, and so many. A run goes in so many parts, and in no
--- fewer.
+-- The pieces of a job are past the limit, and this many. A run needs this number of parts, and no
+-- fewer do.
 pub record IsExcessOf (job : Parts) (excess : Excess) : Type 0 where
   pub past : max_pieces < piece_count job
   pub classes : excess.classes ≡ length job.classes.representative
