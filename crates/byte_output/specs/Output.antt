@@ -1,4 +1,4 @@
--- What an output has taken, and how often it failed.
+-- The bytes that an output has taken, and the number of its failures.
 use Rattle.std.specs.Prelude.{◌≡◌, ◌⊎◌, ℕ, ◌+◌, ◌-◌, ◌^◌, ◌<◌, min, Bool, true, false, not, ◌==◌}
 use Rattle.std.specs.Prelude.{List, ◌++◌, length, Option, Result, Ok, Err, if◌then◌else◌}
 use Rattle.std.specs.Io.KnownBytes.{Appends}
@@ -12,8 +12,8 @@ is_refusal (Err e) piece = true
 abbrev pub fails_after : ℕ → Bool → ℕ
 fails_after fails failed = if failed then min (fails + 1) (2 ^ 64 - 1) else fails
 
--- what contracts see of an output: the bytes that it has taken, where it tells them, and how many
--- of its calls failed
+-- an output as contracts see it: the bytes that it has taken, if it records them, and the number of
+-- its failed calls
 pub record Output : Type 0 where
   pub bytes : Option (List ℕ)
   pub fails : ℕ
