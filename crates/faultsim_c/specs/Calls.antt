@@ -1,4 +1,4 @@
--- What calls from C answer.
+-- The results of calls from C.
 use Rattle.std.specs.Prelude.{◌≡◌, ℕ, ◌+◌, ◌*◌, ◌<◌, ◌≤◌, [], ◌++◌, All, Bool, List, length, drop}
 use Rattle.std.specs.Prelude.{map, false, true}
 use Rattle.std.specs.Prelude.{Option, Some, None}
@@ -23,16 +23,16 @@ use Rattle.report.specs.declared.contents.Lines.TheVariants as lines
 use Rattle.faultsim_c.specs.declared.FsSizes.{FsSizes}
 use Rattle.faultsim_c.specs.declared.holding.Holding.{Holding}
 
--- the job of a handle, by what it has
+-- the job of a handle, by its contents
 abbrev pub job_of : Option Holding → Option Parts
 job_of (Some h) = Some h.session
 job_of None = None
 
--- what a handle has that alone has its job
+-- the contents of a handle that shares its job with no other
 abbrev pub alone_with : Parts → Holding
 alone_with parts = record { session = parts; alone = true }
 
--- what a handle has that was given its job by another one, or gave it to one
+-- the contents of a handle that got its job from another one, or gave it to one
 abbrev pub shared_with : Parts → Holding
 shared_with parts = record { session = parts; alone = false }
 
@@ -42,7 +42,7 @@ IsModelNumber n StuckAt = n ≡ 0
 IsModelNumber n Transition = n ≡ 1
 IsModelNumber n TransitionPairs = n ≡ 2
 
--- the job of a bench text, without tests
+-- the job of a bench file, without tests
 abbrev pub IsCircuitJob : Model → List ℕ → Parts → Type 0
 IsCircuitJob m bench parts = IsAccepted bench parts.circuit × BelongTogether parts
     × (parts.list.model ≡ m) × (parts.tests.tests ≡ [])
@@ -56,7 +56,7 @@ pub record AreSizes (parts : Parts) (sizes : FsSizes) : Type 0 where
   pub test_count : sizes.tests ≡ length parts.tests.tests
   pub block_count : sizes.blocks ≡ blocks (length parts.tests.tests)
 
--- the test that a number tells, where the greatest u32 tells that there is none
+-- the test of a number; the greatest u32 means none
 abbrev pub first_of : ℕ → Option ℕ
 first_of n = if nat_eq n 4294967295 then None else Some n
 
@@ -78,17 +78,17 @@ AreFaultFirsts parts firsts = (i : ℕ) (f : Fault)
     → slice_get (faults parts.list.model parts.circuit) i ≡ Some f
     → IsFirst parts.circuit parts.tests.tests f (first_of (slice_index firsts i))
 
--- the job of a bench text and a test text
+-- the job of a bench file and a test file
 abbrev pub IsJobOfTexts : Model → List ℕ → List ℕ → Parts → Type 0
 IsJobOfTexts m bench text parts = IsAccepted bench parts.circuit × (parts.list.model ≡ m)
     × HasTests text (length (sources parts.circuit)) parts.tests
 
--- the number that tells a first test, or that there is none
+-- the number of a first test, or of none
 abbrev pub first_number : Option ℕ → ℕ
 first_number (Some t) = t
 first_number None = 4294967295
 
--- numbers tell first tests, each at its place
+-- numbers of first tests, each at its place
 pub record AreFirstNumbers (found : List (Option ℕ)) (firsts : List ℕ) : Type 0 where
   pub count : length firsts ≡ length found
   pub each : (k : ℕ) → k < length found
@@ -99,8 +99,7 @@ abbrev pub AreClassesOf : Parts → List ℕ → Type 0
 AreClassesOf parts classes = (fault : ℕ) → fault < length parts.list.list
     → slice_index classes fault ≡ slice_index parts.classes.class_of fault
 
--- for each class of a list how many tests detect the faults of the class, of which so many are
--- counted at most
+-- for each class of a list the number of tests that detect its faults, counted up to `most`
 pub record AreClassCounts (parts : Parts) (classes : List ℕ) (most : ℕ) (counts : List ℕ) :
     Type 0 where
   pub count : length counts ≡ length classes
@@ -108,7 +107,7 @@ pub record AreClassCounts (parts : Parts) (classes : List ℕ) (most : ℕ) (cou
       → IsClassOf parts.list.model parts.circuit f class
       → slice_get counts k ≡ Some n → IsCount parts.circuit parts.tests.tests most f n
 
--- the number is that of the signal at which the region of the class ends
+-- the number of the signal at which the region of the class ends
 pub record IsStemAt (parts : Parts) (class stem : ℕ) : Type 0 where
   pub is : IsStemOfClass parts.list.model parts.circuit class stem
 
@@ -117,19 +116,19 @@ abbrev pub AreStemsOf : Parts → List ℕ → Type 0
 AreStemsOf parts stems = (class : ℕ) → class < length parts.classes.representative
     → IsStemAt parts class (slice_index stems class)
 
--- bytes stand at the front of a text that has room for them, and it is told how many they are
+-- bytes are copied to the front of a text that has room for them, and their number is written
 abbrev pub IsCopied : List ℕ → List ℕ → List ℕ → ℕ → ℕ → Type 0
 IsCopied bytes old new wanted status = (wanted ≡ length bytes)
     × (length bytes ≤ length old → (status ≡ 0) × (new ≡ bytes ++ drop (length bytes) old))
     × (length old < length bytes → (status ≡ 4) × (new ≡ old))
 
--- the numbers that tell which faults have a line
+-- the numbers that choose which faults have a line
 abbrev pub IsLinesNumber : ℕ → Lines → Type 0
 IsLinesNumber n Omitted = n ≡ 0
 IsLinesNumber n lines.All = n ≡ 1
 IsLinesNumber n Undetected = n ≡ 2
 
--- what a report tells that is asked for by a number and a choice
+-- the contents of a report by a number and a choice
 pub record AreContents (lines : ℕ) (classes : Bool) (contents : Contents) : Type 0 where
   pub number : IsLinesNumber lines contents.lines
   pub choice : contents.classes ≡ classes

@@ -1,4 +1,4 @@
--- New tests behind the last one of a list.
+-- New tests after the last one of a list.
 use Rattle.std.specs.Prelude.{◌-◌, ◌++◌, Bool, List, length, drop}
 use Rattle.patterns.specs.Tests.{TestList}
 
@@ -6,7 +6,7 @@ use Rattle.patterns.specs.Tests.{TestList}
 abbrev pub last_of : List (List Bool) → List (List Bool)
 last_of tests = drop (length tests - 1) tests
 
--- the last of some tests, and behind it others
+-- the last of the old tests, and then the new ones
 abbrev pub behind_last : List (List Bool) → List (List Bool) → List (List Bool)
 behind_last old new = last_of old ++ new
 

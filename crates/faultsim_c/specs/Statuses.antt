@@ -1,4 +1,4 @@
--- What C is told of a call that isn't done.
+-- The report to C of a call that isn't done.
 use Rattle.std.specs.Prelude.{◌≡◌, ◌⊎◌, ◌+◌, ◌<◌, ⊤, ℕ, Bool, false, List, length}
 use Rattle.bench_net.specs.Refusal.{IsAccepted, IsRefused}
 use Rattle.bench_net.specs.Scan.{sources}
@@ -58,7 +58,7 @@ IsBenchReply netlist (refusal.Bench f) = (f ≡ bench.Memory) ⊎ IsRefused netl
 IsBenchReply netlist refusal.Memory = ⊤
 IsBenchReply netlist _ = ⊥
 
--- why tests that are right aren't taken: by a handle that alone has the job for want of memory only
+-- the error of right tests that aren't taken: only memory, if no other handle shares the job
 abbrev pub IsUntaken : Bool → Refusal → Type 0
 IsUntaken alone refusal.Memory = ⊤
 IsUntaken alone refusal.Shared = alone ≡ false
@@ -79,17 +79,17 @@ IsWordsReply alone width count ws refusal.Memory = ⊤
 IsWordsReply alone width count ws refusal.Shared = alone ≡ false
 IsWordsReply alone width count ws _ = ⊥
 
--- so many tests are too many behind the last of others
+-- this number of tests is too many after the last of others
 abbrev pub AreTooMany : List (List Bool) → ℕ → WordsFault → Type 0
 AreTooMany old count f = (f ≡ words.TooMany) × (max_tests < length (last_of old) + count)
 
--- why so many tests aren't put behind the last of others
+-- the error of this number of tests after the last of others
 abbrev pub IsNextRefusal : List (List Bool) → ℕ → Refusal → Type 0
 IsNextRefusal old count (refusal.Words f) = AreTooMany old count f
 IsNextRefusal old count refusal.Memory = ⊤
 IsNextRefusal old count _ = ⊥
 
--- why tests in words aren't taken behind the last of others
+-- the error of tests in words after the last of others
 abbrev pub IsNextReply : Bool → List (List Bool) → ℕ → ℕ → List ℕ → Refusal → Type 0
 IsNextReply alone old width count ws (refusal.Words f) =
     (f ≡ words.Memory) ⊎ (IsWordsRefusal width count ws f ⊎ AreTooMany old count f)
@@ -97,7 +97,7 @@ IsNextReply alone old width count ws refusal.Memory = ⊤
 IsNextReply alone old width count ws refusal.Shared = alone ≡ false
 IsNextReply alone old width count ws _ = ⊥
 
--- the circuit is accepted, and its tests are refused
+-- the circuit is accepted, and its tests have an error
 abbrev pub IsRefusedFor : List ℕ → List ℕ → TestFault → Type 0
 IsRefusedFor netlist text f = (c : List Statement) × IsAccepted netlist c
     × IsTestRefusal text (length (sources c)) f
@@ -109,7 +109,7 @@ IsTextsReply netlist text (refusal.Tests f) = (f ≡ tests.Memory) ⊎ IsRefused
 IsTextsReply netlist text refusal.Memory = ⊤
 IsTextsReply netlist text _ = ⊥
 
--- the circuit is refused, or its tests are, and this tells why
+-- the circuit or its tests have this error
 abbrev pub AreRefusedTexts : List ℕ → List ℕ → FsFault → Type 0
 AreRefusedTexts netlist text told =
     ((f : BenchFault) × IsRefused netlist f × (told ≡ error_numbers (refusal.Bench f)))
