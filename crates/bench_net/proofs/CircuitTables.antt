@@ -1,4 +1,4 @@
--- Numbered statements with levels are a circuit with its tables, and without are refused.
+-- Numbered statements with levels are a circuit with its tables, and without levels have an error.
 use Rattle.std.proofs.Common.{◌≡◌, ◌<◌, ◌≤◌, ◌+◌, ◌^◌, ℕ, ap, List, [], ◌∷◌, ◌++◌, map, length}
 use Rattle.std.proofs.Common.{filter, refl, arith, inl, inr, ◌⊎◌, length-append, ◌≢◌, ◌==◌, zero}
 use Rattle.std.proofs.Common.{suc, sym, ◌∙◌, subst, true, drop}
@@ -59,14 +59,14 @@ few_sources c = grind (arith, common_steps, few c)
 
 -- ---- lines
 
--- each line defines or reads, and each that defines has a name
+-- each line defines or reads, and each line that defines has a name
 pub counts : (ns : List Name) (lines : List NumberedLine)
     → (length lines ≤ length (filter defines_number lines) + length (flat_map read_numbers lines))
     × (length (filter defines_number lines) ≡ length (names (statements_of ns lines)))
 counts ns [] = (omega arith, refl)
 counts ns (_ ∷ lines) = let more = counts ns lines in grind (arith, common_steps, more)
 
--- what a line reads is not more than all lines read
+-- a line reads no more than all lines do
 line_count : (lines : List NumberedLine) (l : NumberedLine) → Contains lines l
     → length (read_numbers l) ≤ length (flat_map read_numbers lines)
 line_count lines l (k, lt, is) =
@@ -78,14 +78,14 @@ fits _ few = tt
 
 -- ---- readers
 
--- numbered readers read what they number
+-- numbered readers read the signals of their numbers
 read_by : (kind : ℕ → Sink) (k : ℕ) (xs : List ℕ)
     → map signal_read (map (λ at. record { signal = at.1; sink = kind at.0 }) (enumerate_from k xs))
     ≡ xs
 read_by kind k [] = refl
 read_by kind k (x ∷ xs) = ap (λ ys. x ∷ ys) (read_by kind (k + 1) xs)
 
--- the readers read what the lines read, in another order
+-- the readers read the names that the lines read, in another order
 lines_read : (cell : ℕ) (lines : List NumberedLine)
     → IsPermutation (map signal_read (line_readers cell lines) ++ filter_map output_number lines)
     (flat_map read_numbers lines)
@@ -357,7 +357,7 @@ module _ (ns : List Name) (lines : List NumberedLine) (at : List ℕ)
           ≡ length (flat_map read_numbers lines)
       reader_count = rw length-map at (sym (length_permutation _ _ (readers_read lines)))
 
-  -- ---- the pins of signals are those of their statements
+  -- ---- the pins of signals are the pins of their statements
 
   same_pins : gate_pins lines ≡ pins c
   same_pins = fun_ext (λ s. ap pins_in (gate_is ns c lines s all))
@@ -458,7 +458,7 @@ module _ (ns : List Name) (lines : List NumberedLine) (at : List ℕ)
             ),
       )
 
-  -- the lowest signal that is stuck is the first, and where levels are wanting the text is refused
+  -- the lowest stuck signal is the first, and without levels the file has an error
   first_stuck : (s : ℕ) → IsLowestStuck (gate_pins lines) (signals_in lines) s → IsFirstStuck c s
   first_stuck s by_lines = go (definition c s) refl read_by.1
     where

@@ -1,4 +1,4 @@
--- Lines of a text: which words make their names, and which places and which names make them faulty.
+-- Lines of a file: the words that make their names, and the places and names that make an error.
 use Rattle.std.proofs.Common.{◌≡◌, ◌<◌, ℕ, zero, suc, sym, refl, ◌∙◌, ap, true, not, List, [], ◌∷◌}
 use Rattle.std.proofs.Common.{◌++◌, take, drop, arith, inl, inr, length-take}
 use Rattle.std.specs.Prelude.{Contains, IsSomeAnd, ◌↔◌, Option, Some, None, slice_get, flat_map}
@@ -47,7 +47,7 @@ pub around : {X : Type 0} (xs : List X) (i : ℕ) (x : X) → slice_get xs i ≡
 around (y ∷ xs) (suc i) x e = ap (λ ys. y ∷ ys) (around xs i x e)
 around _ _ x e = cc
 
--- what a line states is among the statements, and the other way round
+-- each statement of a line is among the statements, and the other way round
 pub line_among : (stated : List Stated) (line : ℕ) (s : Statement)
     → at_line stated line ≡ Some (Some s) → Among s (statements stated)
 line_among stated zero s e = cc
@@ -85,11 +85,11 @@ arities_of_text text stated each n kind args at =
 
 -- ---- a line that defines a name that is defined before it
 
--- the line states a statement with this name among those that f gives
+-- the line states a statement with this name, among the ones that f gives
 abbrev pub Says : (Statement → List Name) → List Stated → ℕ → Name → Type 0
 Says f stated line n = (s : Statement) × (at_line stated line ≡ Some (Some s)) × Contains (f s) n
 
--- what earlier lines say is what the lines in front say
+-- the names that f gives for earlier lines are its names for the lines in front
 pub earlier : (f : Statement → List Name) (stated : List Stated) (j : ℕ) (n : Name)
     → ((there : ℕ) × (there < suc j) × Says f stated there n)
     ↔ Among n (flat_map f (statements (take j stated)))
@@ -109,7 +109,7 @@ distinct_apart [] ys n d a b = a
 distinct_apart (x ∷ xs) ys n d (inl e) b = d.0 (among_right xs ys x (rw (← e) at b))
 distinct_apart (x ∷ xs) ys n d (inr a) b = distinct_apart xs ys n d.1 a b
 
--- where each name is defined once, no line defines one again
+-- if each name is defined once, no line defines one again
 pub no_redefinition : (stated : List Stated) → Distinct (names_of stated)
     → NoLine (IsRedefinition stated)
 no_redefinition stated once zero bad = cc

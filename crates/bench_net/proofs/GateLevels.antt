@@ -62,7 +62,7 @@ defines_some : (st : Statement) (n : Name) → defined st ≡ n ∷ [] → defin
 defines_some (Output m) n d = cc
 defines_some _ n d = refl
 
--- a number below that of all names is the number of its name alone
+-- a number below the number of names is the number of only its name
 pub named_number : (c : List Statement) (n : Name) (s : ℕ) → signal c n ≡ s
     → s < length (names c) → name_of c s ≡ Some n
 named_number c n s is lt =
@@ -85,7 +85,7 @@ module _ (c : List Statement) (once : AllPairs (λ m n. m ≢ n) (names c)) wher
   pins_at n kind args a = ap (λ st. pins_in (gate_line c st))
       (defined_at (Gate n kind args) n a refl)
 
-  -- what the gate of a name reads is an argument of it
+  -- each signal that the gate of a name reads is an argument of it
   argument : (m : Name) (p : ℕ) → Among p (pins c (signal c m))
       → (a : Name) × HasArgument c m a × (signal c a ≡ p)
   argument m p a = go (definition c (signal c m)) refl a

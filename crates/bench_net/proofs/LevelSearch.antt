@@ -17,7 +17,7 @@ use Rattle.list_lemmas.proofs.Members.{Among, among, mapped_from}
 use Rattle.list_lemmas.proofs.Places.{at_place, within_place}
 use Rattle.bench_net.proofs.LineTables.{written}
 
--- ---- the greatest of some numbers
+-- ---- the greatest of a list of numbers
 
 fold_max : (a : ℕ) (xs : List ℕ) → fold max a xs ≡ max a (greatest xs)
 fold_max a [] = omega arith
@@ -58,7 +58,7 @@ unpassed p = record { signal = p; pin = 0; level = 0 }
 abbrev passed : OpenGate → ℕ → OpenGate
 passed gate k = record gate { pin = gate.pin + 1; level = max gate.level (k + 1) }
 
--- each gate of a path reads one of some, where the last reads one of them
+-- each gate of a path reads a signal of a set, if the last reads one of it
 reads_on : (pins : ℕ → List ℕ) (begun g : ℕ) (path all : List ℕ) → IsPath pins begun (g ∷ path)
     → ((s : ℕ) → Among s (g ∷ path) → Among s all) → (q : ℕ) → Among q (pins g) → Among q all
     → (m : ℕ) → Among m (g ∷ path) → (p : ℕ) × Among p (pins m) × Among p all
@@ -175,7 +175,7 @@ module _ {pins : ℕ → List ℕ} {n begun : ℕ} {marks : List Mark} where
     path_is = tt;
   }
 
-  -- where no signal is open, each that was begun has a level
+  -- if no signal is open, each that was begun has a level
   pub level_at : (s : ℕ) → IsSearch pins n begun marks [] → s < begun → s < n
       → (k : ℕ) × (slice_get marks s ≡ Some (Level k))
   level_at s state met lt =

@@ -1,4 +1,4 @@
--- Tables that are lists of lines: where each signal is defined, and its place among the sources.
+-- Tables that are lists of lines: the definition of each signal, and its place among the sources.
 use Rattle.std.proofs.Common.{◌≡◌, ◌≢◌, ◌<◌, ◌+◌, ℕ, zero, suc, refl, sym, ◌∙◌, ap, List, [], ◌∷◌}
 use Rattle.std.proofs.Common.{length, get_or, set, filter, arith, ◌⊎◌}
 use Rattle.std.specs.List.{enumerate_from, filter_map}
@@ -12,7 +12,7 @@ use Rattle.bench_net.specs.Tables.{ArePlaces, defines_number, place_in, definiti
 
 -- ---- definitions
 
--- the place of a signal is that of its line among the lines that define one
+-- the place of a signal is its line's place among the lines that define one
 places_at : (k : ℕ) (lines : List NumberedLine) (s p : ℕ)
     → slice_get (filter_map place_in (enumerate_from k lines)) s ≡ Some p
     → (i : ℕ) × (l : NumberedLine) × (p ≡ k + i) × (slice_get lines i ≡ Some l)
@@ -46,7 +46,7 @@ definition_count lines = go 0 lines
 
 -- ---- places among the sources
 
--- what stands at a place after a write
+-- the entry of a place after a write
 pub written : {X : Type 0} (xs : List X) (g : ℕ) (m : X) (s : ℕ) (x : X)
     → slice_get (set xs g m) s ≡ Some x
     → ((s ≡ g) × (x ≡ m)) ⊎ ((s ≢ g) × (slice_get xs s ≡ Some x))

@@ -1,4 +1,4 @@
--- What computed tests say of names in a list, and the numbers of names.
+-- Computed tests of names in a list, and the numbers of names.
 use Rattle.std.proofs.Common.{◌≡◌, refl, sym, subst, Bool, true, false, List, [], ◌∷◌, arith, inl}
 use Rattle.std.proofs.Common.{inr, ◌⊎◌, ℕ, zero, suc, ap}
 use Rattle.std.specs.Prelude.{Contains, ◌≢◌, bytes_eq, AllPairs, Some, None, slice_get, unwrap_or}
@@ -28,7 +28,7 @@ bytes_refl n = (bytes_eq-Decides n n).1 refl
 pub in_contained : (ns : List Name) (n : Name) → is_in ns n ≡ true → Contains ns n
 in_contained ns n e = Contains-from_any same_bytes n ns e
 
--- of what doesn't all pass, one doesn't
+-- if not all of a list pass, one doesn't
 pub some_not : {X : Type 0} (p : X → Bool) (xs : List X) → list_all p xs ≡ false
     → (x : X) × Among x xs × (p x ≡ false)
 some_not p [] e = cc
@@ -37,7 +37,7 @@ some_not p (y ∷ xs) e = elim (cases_Bool (p y)) [
   | inr off ↦ (y, inl refl, off)
 ]
 
--- some element passes where one does
+-- some element passes if one does
 pub any_true : {X : Type 0} (p : X → Bool) (xs : List X) (x : X) → Contains xs x → p x ≡ true
     → list_any p xs ≡ true
 any_true p xs x has on = list_any_at p xs has.0 x has.1 (rw has.2 on)
@@ -58,7 +58,7 @@ pub defined_few : (s : Statement) → (defined s ≡ []) ⊎ ((n : Name) × (def
 defined_few (Output n) = inl refl
 defined_few _ = inr (_, refl)
 
--- a name of the list stands at its place
+-- a name of the list is at its place
 pub at_position : (ns : List Name) (n : Name) → Among n ns
     → slice_get ns (position_or_len (bytes_eq n) ns) ≡ Some n
 at_position [] n a = absurd a
@@ -73,7 +73,7 @@ pub name_of-signal : (c : List Statement) (n : Name) → Contains (names c) n
     → name_of c (signal c n) ≡ Some n
 name_of-signal c n at = at_position (names c) n (among (names c) n at)
 
--- where each name is defined once, the name of a number has that number
+-- if each name is defined once, the name of a number has that number
 pub signal-name_of : (c : List Statement) (s : ℕ) (n : Name) → AllPairs (λ m o. m ≢ o) (names c)
     → name_of c s ≡ Some n → Contains (names c) n → signal c n ≡ s
 signal-name_of c s n once e at = one_place_of (names c) (signal c n) s n
@@ -94,7 +94,7 @@ definition_defines (Dff q d ∷ c) zero st e = let h : Dff q d ≡ st = ap (λ o
 definition_defines (_ ∷ c) (suc s) st e = let p = definition_defines c s st e in
     (p.0, p.1, p.2, inr p.3)
 
--- what a statement of a well-formed list reads is defined
+-- each name that a statement of a well-formed list reads is defined
 pub read_named : (c : List Statement) (st : Statement) (n : Name) → IsWellFormed c → Among st c
     → Among n (read st) → Contains (names c) n
 read_named c st n well a h = well.all_defined n

@@ -1,4 +1,5 @@
--- The entries of lines, how lines are numbered, and what the passes over them say of the text.
+-- The entries of lines, the numbering of lines, and the meaning of the passes over them for the
+-- file.
 use Rattle.std.proofs.Common.{◌≡◌, ◌<◌, ◌+◌, ◌==◌, ℕ, zero, suc, refl, sym, ap, List, [], ◌∷◌, ◌++◌}
 use Rattle.std.proofs.Common.{length, take, map, arith, get_or, ◌≤◌, ◌∙◌, append-nil, subst, ◌≢◌}
 use Rattle.std.proofs.Common.{false, filter, inl, inr}
@@ -47,7 +48,7 @@ use Rattle.bench_net.proofs.FaultyLines.{cyclic_lowest, no_redefinition, no_unde
 use Rattle.bench_net.specs.declared.line.NumberedLine.TheVariants as line
 use Rattle.bench_net.specs.declared.BenchFault.TheVariants as fault
 
--- what an entry stands for, its line states, behind the same statements
+-- a line states what its entry stands for, after the same statements
 pub entry_at : (line : ℕ) (stated : List (Option Statement)) (i n : ℕ) (s : Statement)
     → slice_get (numbered_from line stated) i ≡ Some (n, s)
     → (j : ℕ) × (n ≡ line + j) × (slice_get stated j ≡ Some (Some s))
@@ -111,18 +112,18 @@ module _ {A : Type 0} (xs : List A) (i : ℕ) (x : A) (h : i < length xs)
       → flat_map f (take (i + 1) xs) ≡ flat_map f (take i xs) ++ f x
   names_more f = rw (take_more xs i x h, ← e) (grind (arith, common_steps))
 
-  -- the names so far and those of this line are no more than all
+  -- the names so far and the names of this line are no more than all
   pub names_fit : (f : A → List Name)
       → length (flat_map f (take i xs)) + length (f x) ≤ length (flat_map f xs)
   names_fit f = rw (← e) at (length-flat_map-take f xs i x h)
 
--- a key is looked for by its bytes
+-- the search for a key compares its bytes
 pub key_in : (ks : List (Bor Name)) (n : Name)
     → list_any (λ k. bytes_eq n k.now) ks ≡ is_in (names_of ks) n
 key_in [] n = refl
 key_in (k ∷ ks) n = ap (λ more. bytes_eq n k.now || more) (key_in ks n)
 
--- the number of the name that a line defines is that of the names before it
+-- the number of the name that a line defines is the number of names before it
 pub next_for : (stated : List StatedLine) (i : ℕ) (line : StatedLine) → i < length stated
     → line ≡ get_or stated i line
     → IsNextFor (names_in stated) (length (names_in (take i stated))) (stands_for line.statement)
@@ -153,7 +154,7 @@ numbered_more ns stated lines i new l next h e so_far fits one = record {
     more = flat_map-append numbers lines (l ∷ [])
         ∙ ap (λ ks. flat_map numbers lines ++ ks) (append-nil (numbers l))
 
--- the names that a stored line reads are those of its numbers
+-- the names that a stored line reads are the names of its numbers
 reads_of : (ns : List Name) (l : NumberedLine)
     → read (statement_of ns l) ≡ map (name_at ns) (read_numbers l)
 reads_of ns (line.Input s) = refl
@@ -184,7 +185,7 @@ known ns ls in_range n a =
     (contained _ k.0 (reads_held ls k.0 k.1)) in
     subst (Contains ns) k.2 (Contains-get_or ns k.0 [] below)
 
--- the refusal of a text where a line has the fault
+-- the error of a file in which a line has an error
 pub may_be : (text : List ℕ) (refusal fault : BenchFault) (Gone : Type 0)
     → FailsBy refusal Gone fault → (Gone → IsRefused text refusal) → MayBe text fault
 may_be text refusal fault Gone (inl e) h = inl e
@@ -308,7 +309,7 @@ module _ (text : List ℕ) (stated : List StatedLine) (of : AreWithin text state
               (rw (place.3 ∙ sym numbered.stand) at a)))),
         )
 
-  -- the numbered lines are those of the text
+  -- the numbered lines are the lines of the file
   module _ (ns : List Name) (ls : List NumberedLine) (at : List ℕ) (is : ns ≡ names_in stated)
       (once : AllPairs (λ m n. m ≢ n) (names_in stated)) (numbered : AreNumberedLines ns stated ls)
       (numbers_are : at ≡ map (λ line. line.number)

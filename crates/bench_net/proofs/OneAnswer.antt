@@ -1,4 +1,4 @@
--- Each text is accepted or refused, in one way, and a plain program says which.
+-- Each file is accepted or has an error, in one way, and a plain program decides which.
 use Rattle.std.proofs.Common.{◌≡◌, ◌<◌, ◌≤◌, ℕ, zero, suc, refl, sym, ◌∙◌, subst, Bool, true, false}
 use Rattle.std.proofs.Common.{not, List, [], ◌∷◌, length, take, arith, inl, inr, ◌⊎◌}
 use Rattle.std.specs.Prelude.{◌≢◌, ◌↔◌, option_map, if◌then◌else◌, ◌==◌, nat_lt, Option, Some, None}
@@ -32,17 +32,17 @@ use Rattle.bench_net.proofs.StuckSets.{stuck_names, stuck_set, stuck_left, none_
 
 -- ---- the program
 
--- whether a test passes on what there is, if there is anything
+-- whether a value passes a test, if there is a value
 abbrev pub passes : {Y : Type 0} → (Y → Bool) → Option Y → Bool
 passes test None = false
 passes test (Some y) = test y
 
--- the first line that passes a test of its place and of what stands there
+-- the first line that passes a test of its place and its statement
 abbrev pub first : {Y : Type 0} → (ℕ → Y → Bool) → List Y → Option ℕ
 first test [] = None
 first test (y ∷ ys) = if test 0 y then Some 1 else option_map suc (first (λ i. test (suc i)) ys)
 
--- the faults of lines
+-- the errors of lines
 abbrev pub is_unread : List ℕ → Bool
 is_unread bytes = is_none (stated_of bytes)
 
@@ -61,7 +61,7 @@ abbrev pub line_or : (ℕ → BenchFault) → Option ℕ → Result (List Statem
 line_or fault None later = later
 line_or fault (Some line) later = Err (fault line)
 
--- the answer past the limits, from the first line with each fault
+-- the result past the limits, from the first line with each error
 abbrev pub answer_by : Option ℕ → Option ℕ → Option ℕ → List Statement
     → Result (List Statement) BenchFault
 answer_by r u y c =
@@ -76,16 +76,16 @@ answer_stated stated =
     else answer_by (first (λ i. passes (redefines (names_of (take i stated)))) stated)
     (first (λ i. passes (reads_unknown c)) stated) (first (λ i. passes (is_stuck c)) stated) c
 
--- the reader's answer to a text
+-- the reader's result for a file
 abbrev pub answer_text : List ℕ → Result (List Statement) BenchFault
 answer_text text =
     let ls = lines text in
     if nat_lt max_bytes (length text) then Err (TooLarge Bytes)
     else line_or Syntax (first (λ i. is_unread) ls) (answer_stated (filter_map stated_of ls))
 
--- ---- the first line with a fault
+-- ---- the first line with an error
 
--- the first line with a fault, or None where no line has it
+-- the first line with an error, or None if no line has it
 abbrev pub IsFirst : (ℕ → Type 0) → Option ℕ → Type 0
 IsFirst Faulty None = NoLine Faulty
 IsFirst Faulty (Some line) = IsLowest Faulty line
@@ -98,7 +98,7 @@ from_zero : (P : ℕ → Type 0) → P 0 → ((i : ℕ) → P (suc i)) → (line
 from_zero P none some zero = none
 from_zero P none some (suc i) = some i
 
--- where the lines that have the fault are those that pass
+-- if the lines with the error are the lines that pass
 is_first : {Y : Type 0} (ys : List Y) (F : ℕ → Type 0) (test : ℕ → Y → Bool) → ¬ F 0
     → ((i : ℕ) → F (suc i) ↔ (passes (test i) (slice_get ys i) ≡ true))
     → IsFirst F (first test ys)
@@ -116,7 +116,7 @@ is_first (y ∷ ys) F test none same =
     behind (Some line) (at, free) =
         (at, from_zero (λ k. k < suc line → ¬ F k) (λ lt. none) (λ i h. free i (omega (arith, h))))
 
--- ---- the four faults
+-- ---- the four errors
 
 syntax_first : (text : List ℕ)
     → IsFirst (IsSyntaxFault text) (first (λ i. is_unread) (lines text))
@@ -136,7 +136,7 @@ read_all [] [] all = (refl, refl)
 read_all (l ∷ ls) (s ∷ ss) all = grind (arith, complete_states l s all.0, read_all ls ss all.1)
 read_all _ _ all = absurd all
 
--- and behind such lines the first that isn't read is the lowest
+-- and after such lines the first that isn't read is the lowest
 first_unread : (ls : List (List ℕ)) (stated : List Stated) (k : ℕ) (l : List ℕ)
     → AllZip States (take k ls) stated → slice_get ls k ≡ Some l → stated_of l ≡ None
     → first (λ i. is_unread) ls ≡ Some (suc k)
@@ -195,7 +195,7 @@ module _ (stated : List Stated) where
           (n, kind, args, at, (is_in (stuck_names (statements stated)), stuck_set _, on))
       from i _ at on = cc
 
-  -- a text without a fault is well-formed
+  -- a file without an error is well-formed
   well : statements stated ≢ [] → NoLine (IsRedefinition stated) → NoLine (IsUndefined stated)
       → NoLine (IsCyclic stated) → IsWellFormed (statements stated)
   well some once known acyclic = record {
@@ -212,7 +212,7 @@ module _ (stated : List Stated) where
         acyclic (suc l.0) (n, a.0, a.1, l.1, (members, set, inside)));
   }
 
--- ---- the answers
+-- ---- the results
 
 abbrev IsAnswer : List ℕ → Result (List Statement) BenchFault → Type 0
 IsAnswer text (Ok c) = IsAccepted text c
@@ -229,7 +229,7 @@ late text stated None None None within once known free =
     (λ e. (stated, within, nil_from_length _ (eqb-true _ 0 e)))
     (λ off. (stated, within, refl, well stated (λ none. grind (arith, none)) once known free))
 
--- lines of which none is at fault state what is read
+-- lines without an error state what is read
 all_read : (ls : List (List ℕ))
     → ((i : ℕ) (l : List ℕ) → slice_get ls i ≡ Some l → stated_of l ≢ None)
     → AllZip States ls (filter_map stated_of ls)
@@ -241,7 +241,7 @@ all_read (l ∷ ls) some = go (stated_of l) refl (all_read ls (λ i. some (suc i
     go None e more = absurd (some 0 l refl e)
     go (Some s) e more = rw e (sound_states l s e, more)
 
--- the plain reader's answer is that of the relations
+-- the plain reader's result is the result of the relations
 answered : (text : List ℕ) → IsAnswer text (answer_text text)
 answered text =
     cond_both _ _ _ (IsAnswer text) (λ e. ltb-true _ _ e)
@@ -283,7 +283,7 @@ some_answer text = go (answer_text text) (answered text)
     go (Ok c) a = inl (c, a)
     go (Err fault) a = inr (fault, a)
 
--- ---- and the relations' answer is that of the plain reader, so there is one
+-- ---- and the result of the relations is the plain reader's, so there is only one
 
 stated_answer : (text : List ℕ) (stated : List Stated) → length text ≤ max_bytes
     → LinesState text stated → answer_text text ≡ answer_stated stated

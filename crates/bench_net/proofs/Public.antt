@@ -1,5 +1,5 @@
--- Lemmas on circuits: what has a number, which line defines a name, which texts are circuits.
--- Proofs of the crates above cite these alone.
+-- Lemmas on circuits: names with a number, the line that defines a name, files that are circuits.
+-- Proofs of the crates above cite only these.
 pub use Rattle.bench_net.specs.reader.Entries.{is_in}
 pub use Rattle.bench_net.proofs.GateLevels.{named as defined_among, of_cell, of_input}
 pub use Rattle.bench_net.proofs.OneAnswer.{answer_text, accepted_by, refused_by}

@@ -1,5 +1,5 @@
--- Stuck sets: a numbering of names exists exactly where none but the empty one does, and so a
--- circuit has a source.
+-- Stuck sets: a numbering of names exists exactly if only the empty set is stuck, and so a circuit
+-- has a source.
 use Rattle.std.proofs.Common.{◌≡◌, ◌<◌, ◌≤◌, ◌+◌, ℕ, zero, suc, ap, refl, cond, Bool, true, false}
 use Rattle.std.proofs.Common.{◌&&◌, List, [], ◌∷◌, length, filter, arith, inl, inr}
 use Rattle.std.specs.Prelude.{IsTrue, Contains, flat_map, bytes_eq, if◌then◌else◌}
@@ -35,7 +35,7 @@ pub none_stuck : (c : List Statement) (number : Name → ℕ) → IsNumbering c 
 none_stuck c number numbered members stuck n inside =
     descend c number members numbered stuck (number n + 1) n (omega arith) inside
 
--- ---- what is left after some rounds
+-- ---- the names that are left after some rounds
 
 -- a gate has this name and an argument among those
 abbrev pub gate_fed : List Name → Name → Statement → Bool
@@ -60,8 +60,8 @@ stuck c ns e n inside =
         (a.0, (kind, args, rw (same_bytes n m p.0) at, a.1), a.2)
     go _ at passes = cc
 
--- what is left after so many rounds, each of which keeps the names that are fed by what was left
--- before, or of names that all are
+-- the names that are left after a number of rounds, each of which keeps the names fed by a name
+-- left before, or of names that all are
 abbrev pub left_over : List Statement → ℕ → List Name → List Name
 left_over c zero ns = ns
 left_over c (suc k) ns =
@@ -70,7 +70,7 @@ left_over c (suc k) ns =
 abbrev pub stuck_names : List Statement → List Name
 stuck_names c = left_over c (length (names c)) (names c)
 
--- of what doesn't all pass, fewer pass
+-- if not all of a list pass, fewer pass
 fewer : {X : Type 0} (p : X → Bool) (xs : List X) → list_all p xs ≡ false
     → length (filter p xs) < length xs
 fewer p [] e = let bad : true ≡ false = e in cc
@@ -149,7 +149,7 @@ some_signal (Output n ∷ c) well = let at = well.all_defined n
     (contained (flat_map read (Output n ∷ c)) n (inl refl)) in omega (arith, at.1)
 some_signal (_ ∷ c) well = omega arith
 
--- where there is no source, each defined name is a gate's
+-- if there is no source, each defined name is a gate's
 driven : (c : List Statement) → length (sources c) ≤ 0 → (n : Name) → Among n (names c)
     → (kind : Kind) × (args : List Name) × Among (Gate n kind args) c
 driven [] none n a = absurd a
