@@ -102,7 +102,7 @@ cut text at within feed =
     ap (λ rest. take at text ++ rest) (ap (λ n. n ∷ drop (at + 1) text) (sym feed) ∙ sym rest)
     ∙ take-append-drop at text
 
--- what the first line holds, and what follows it
+-- the contents of the first line, and the bytes after it
 pub first_held : (text : List ℕ) (count : ℕ) → count < length text → get_or text count 0 ≡ 10
     → AreBits (take count text)
     → take count text ≡ content (strip_carriage_return (before_first ends_line text))

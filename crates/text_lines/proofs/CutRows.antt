@@ -1,4 +1,5 @@
--- The rows of a text that is cut where a line begins are those of both pieces, one after another.
+-- The rows of a text that is cut at the begin of a line are the rows of both pieces, one after
+-- another.
 use Rattle.std.proofs.Common.{◌≡◌, ℕ, zero, suc, ◌+◌, ◌-◌, ◌<◌, ◌≤◌, Bool, true, false, not}
 use Rattle.std.proofs.Common.{◌==◌, cond, List, [], ◌∷◌, ◌++◌, map, filter, length, take, drop}
 use Rattle.std.proofs.Common.{get_or, sym, refl, ap, ◌∙◌, ⊎_elim, subst, arith, add-one}
@@ -100,7 +101,7 @@ rows_from-none first = refl
 
 -- ---- a text that is cut
 
--- what stands before and behind the place
+-- the bytes before the place, and from it on
 abbrev Cut : ℕ → List ℕ → ℕ → Type 0
 Cut first text place = rows_from first text
     ≡ rows_from first (take place text)
@@ -155,7 +156,7 @@ rows_from-cut first text (suc at) start =
     (λ (past : length text ≤ suc at). at_end first text (suc at) past)
     (cases_lt (suc at) (length text))
 
--- a line begins in a front of a text where one does in the text
+-- a line begins in a front of a text if one does in the text
 pub IsLineStart-in_front : (text : List ℕ) (place end : ℕ) → place ≤ end → end ≤ length text
     → IsLineStart text place → IsLineStart (take end text) place
 IsLineStart-in_front text place end low within start =
@@ -166,7 +167,7 @@ IsLineStart-in_front text place end low within start =
           ∙ start.behind some (omega arith);
     }
 
--- ---- what rows hold, whatever the numbers of their lines
+-- ---- the contents of rows, whatever the numbers of their lines
 
 abbrev pub held : List Row → List (List ℕ)
 held rows = map (λ row. row.bytes) rows
@@ -187,7 +188,7 @@ held_alike first other (part ∷ parts) =
     go m n bytes rows others true same = ap (λ more. bytes ∷ more) same
     go m n bytes rows others false same = same
 
--- what the rows of a front of a text hold is what those of both pieces hold
+-- the rows of a front of a text have the contents of the rows of both pieces
 pub held-cut : (text : List ℕ) (place end : ℕ) → place ≤ end → end ≤ length text
     → IsLineStart text place
     → (n : ℕ) × (rows_from 1 (take end text)

@@ -1,4 +1,4 @@
--- The rows of a text are that of its first line, if it holds something, and those of what follows.
+-- The rows of a text are its first line, if that has contents, and the rows of the rest.
 use Rattle.std.proofs.Common.{◌≡◌, ℕ, ◌+◌, ◌<◌, ◌⊎◌, not, ◌==◌, cond, List, [], ◌∷◌, map, filter}
 use Rattle.std.proofs.Common.{length, sym, ap, ◌∙◌, inl, inr, ⊎_elim, arith, take_all}
 use Rattle.std.specs.List.{slice_split, before_first, after_first, position_or_len, enumerate_from}
@@ -10,7 +10,7 @@ use Rattle.std.proofs.lemmas.List.Sums.{fails_before_first}
 use Rattle.text_lines.specs.Lines.{ends_line}
 use Rattle.text_lines.specs.Rows.{Row, content, rows_from}
 
--- what the first line of a text holds
+-- the contents of the first line of a text
 abbrev first_content : List ℕ → List ℕ
 first_content text = content (strip_carriage_return (before_first ends_line text))
 
@@ -20,7 +20,7 @@ rows_of_parts first parts = filter (λ row. not (length row.bytes == 0))
     (map (λ at. record { line = at.0; bytes = content at.1 })
     (enumerate_from first (map strip_carriage_return parts)))
 
--- the parts of a text are its first line and, where that is not the last, those of what follows
+-- the parts of a text are its first line and, if that is not the last, the parts of the rest
 parts_of : (text : List ℕ)
     → (slice_split ends_line text
     ≡ before_first ends_line text ∷ slice_split ends_line (after_first ends_line text))
@@ -57,7 +57,7 @@ rows_from_step line text =
     (sym (ap (rows_from (line + 1)) last.1)))
     (parts_of text)
 
--- a line that holds nothing is skipped
+-- a line without contents is skipped
 pub rows_from_skip : (line : ℕ) (text before rest bytes : List ℕ)
     → before ≡ before_first ends_line text → rest ≡ after_first ends_line text
     → bytes ≡ content (strip_carriage_return before)

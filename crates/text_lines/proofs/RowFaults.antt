@@ -1,11 +1,11 @@
--- The rows at fault among the rows of a text, given by what the fault of a row at its place is.
+-- The rows with an error among the rows of a text, given by the error of each row at its place.
 use Rattle.std.proofs.Common.{◌≡◌, ℕ, ◌+◌, ◌<◌, zero, suc, List, [], ◌∷◌, length, get_or}
 use Rattle.std.proofs.Common.{Option, Some, None, sym, refl, ap, ◌∙◌, arith}
 use Rattle.std.specs.List.{filter_map, cons_option, enumerate_from}
 use Rattle.std.proofs.lemmas.List.FromFn.{length-enumerate_from, get_or-enumerate_from}
 use Rattle.text_lines.specs.Rows.{Row, rows}
 
--- ---- what `filter_map` gives where it gives nothing, and its first element
+-- ---- the result of `filter_map` if it is empty, and its first element
 
 nothing_first : {Y : Type 0} (o : Option Y) (rest : List Y) → cons_option o rest ≡ []
     → (o ≡ None) × (rest ≡ [])
@@ -34,13 +34,13 @@ first_some h (x ∷ xs) y ys e =
 
 -- ---- of rows
 
--- the first fault is that of some row
+-- the first error is some row's
 pub first_fault : {F : Type 0} (fault : ℕ × Row → Option F) (text : List ℕ) (f : F) (more : List F)
     → filter_map fault (enumerate_from 0 (rows text)) ≡ f ∷ more
     → (at : ℕ × Row) × (fault at ≡ Some f)
 first_fault fault text f more e = first_some fault (enumerate_from 0 (rows text)) f more e
 
--- where there is no fault, no row is at fault
+-- if there is no error, no row has one
 pub no_fault_at : {F : Type 0} (fault : ℕ × Row → Option F) (text : List ℕ)
     → filter_map fault (enumerate_from 0 (rows text)) ≡ [] → (i : ℕ) (d : Row)
     → i < length (rows text) → fault (i, get_or (rows text) i d) ≡ None

@@ -1,4 +1,4 @@
--- The lines of a text, and which of their bytes are blanks or begin a comment.
+-- The lines of a text, and the bytes that are blanks or begin a comment.
 use Rattle.std.specs.Prelude.{ℕ, Bool, ◌||◌, ◌==◌, List, map}
 use Rattle.std.specs.List.{slice_split}
 use Rattle.std.specs.Str.Lines.{strip_carriage_return}

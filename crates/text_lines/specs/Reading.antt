@@ -1,4 +1,4 @@
--- What the iterator over rows has left to yield.
+-- The rows that an iterator has left to yield.
 use Rattle.std.specs.Prelude.{List}
 use Rattle.text_lines.specs.Rows.{Row, rows_from}
 use Rattle.text_lines.specs.declared.rows.Rows.{Rows}

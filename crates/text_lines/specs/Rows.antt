@@ -1,4 +1,4 @@
--- The rows of a text: what each of its lines holds.
+-- The rows of a text: the contents of its lines.
 use Rattle.std.specs.Prelude.{ℕ, not, ◌==◌, ◌||◌, Bool, List, [], ◌∷◌, map, reverse, filter, length}
 use Rattle.std.specs.Prelude.{if◌then◌else◌}
 use Rattle.std.specs.List.{before_first, enumerate_from}
@@ -15,16 +15,16 @@ without_back bytes = reverse (without_front (reverse bytes))
 abbrev pub without_blanks : List ℕ → List ℕ
 without_blanks bytes = without_back (without_front bytes)
 
--- what a line holds: its bytes before a comment, without the blanks at their ends
+-- the contents of a line: its bytes before a comment, without the blanks at their ends
 abbrev pub content : List ℕ → List ℕ
 content line = without_blanks (before_first begins_comment line)
 
--- a row: the number of its line, counted from 1, and what the line holds
+-- a row: the number of its line, counted from 1, and the line's contents
 pub record Row : Type 0 where
   pub line : ℕ
   pub bytes : List ℕ
 
--- the rows of a text whose first line has this number: its lines that hold something
+-- the rows of a text whose first line has this number: its lines with contents
 abbrev pub rows_from : ℕ → List ℕ → List Row
 rows_from first text = filter (λ row. not (length row.bytes == 0))
     (map (λ at. record { line = at.0; bytes = content at.1 }) (enumerate_from first (lines text)))
