@@ -1,4 +1,4 @@
--- The faults of the rows of an order.
+-- The errors of the rows of an order.
 use Rattle.std.proofs.Common.{◌≡◌, ℕ, ◌<◌, List, [], ◌∷◌, length, get_or, Option, Some, None}
 use Rattle.std.proofs.lemmas.Bool.{cond_both, not-false, ltb-true}
 use Rattle.orders.specs.declared.OrderFault.{OrderFault}
@@ -7,7 +7,7 @@ use Rattle.text_lines.specs.Rows.{Row, rows}
 use Rattle.text_lines.proofs.Public.{first_fault, no_fault_at}
 use Rattle.orders.specs.Order.{max_moves, number, order_fault, order_faults}
 
--- the fault of a row, by cases
+-- the error of a row, by cases
 order_fault_by : (workers : ℕ) (at : ℕ × Row) (P : Option OrderFault → Type 0)
     → P (Some fault.TooMany) → P (Some (fault.BadNumber at.1.line))
     → P (Some (fault.NoSuchWorker at.1.line))
@@ -29,14 +29,14 @@ order_fault-none workers at =
     order_fault_by workers at (λ o. o ≡ None → (at.0 < max_moves) × (number at.1.bytes < workers))
     (λ e. absurd (cc)) (λ e. absurd (cc)) (λ e. absurd (cc)) (λ room below e. (room, below))
 
--- want of memory is no fault of a text
+-- missing memory is no error of a file
 pub order_faults-not_memory : (text : List ℕ) (workers : ℕ) (more : List OrderFault)
     → order_faults text workers ≡ fault.Memory ∷ more → ⊥
 order_faults-not_memory text workers more e =
     let found = first_fault (order_fault workers) text fault.Memory more e in
     not_memory workers found.0 found.1
 
--- where no row is at fault, each is within the limit and names a worker
+-- if no row has an error, each is within the limit and names a worker
 pub rows-no_order_fault : (text : List ℕ) (workers : ℕ) → order_faults text workers ≡ []
     → (i : ℕ) (d : Row) → i < length (rows text)
     → (i < max_moves) × (number (get_or (rows text) i d).bytes < workers)

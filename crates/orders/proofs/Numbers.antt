@@ -1,4 +1,4 @@
--- Lemmas on the numbers of an order text.
+-- Lemmas on the numbers of an order file.
 use Rattle.std.proofs.Common.{◌≡◌, ℕ, ◌+◌, ◌-◌, ◌*◌, ◌^◌, ◌<◌, ◌≤◌, true, List, take, length}
 use Rattle.std.proofs.Common.{get_or, sym, refl, ap, ◌∙◌, add-one, arith, take_all, lit<}
 use Rattle.std.specs.List.{list_all}

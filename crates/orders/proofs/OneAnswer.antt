@@ -1,4 +1,4 @@
--- Each order text is accepted or refused, with one answer.
+-- Each order file is accepted or has an error, with one result.
 use Rattle.std.proofs.Common.{◌≡◌, ℕ, ◌<◌, ◌≤◌, ◌⊎◌, All, List, [], ◌∷◌, map, length, sym, refl, ap}
 use Rattle.std.proofs.Common.{◌∙◌, subst, inl, inr, ⊎_elim, arith}
 use Rattle.std.proofs.lemmas.Bool.{cases_lt}
@@ -33,7 +33,7 @@ moves_or_refusal : (text : List ℕ) (workers : ℕ) (faults : List OrderFault)
 moves_or_refusal text workers [] is = inl (map (λ row. number row.bytes) (rows text), (is, refl))
 moves_or_refusal text workers (f ∷ more) is = inr (f, refusal-order_faults text workers f more is)
 
--- a text has its moves or is refused
+-- a file has its moves or an error
 pub moves_cases : (text : List ℕ) (workers : ℕ) → ((moves : List ℕ) × HasMoves text workers moves)
     ⊎ ((f : OrderFault) × IsOrderRefusal text workers f)
 moves_cases text workers = moves_or_refusal text workers (order_faults text workers) refl
