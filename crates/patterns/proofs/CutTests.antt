@@ -1,4 +1,4 @@
--- The tests of a text that is cut where a line begins are those of both pieces.
+-- The tests of a file that is cut at the begin of a line are the tests of both pieces.
 use Rattle.std.proofs.Common.{◌≡◌, ℕ, ◌+◌, ◌<◌, ◌≤◌, ◌==◌, ◌⊎◌, not, cond, Bool}
 use Rattle.std.proofs.Common.{true, false, List, [], ◌∷◌, ◌++◌, map, length, take, Option, Some}
 use Rattle.std.proofs.Common.{None, sym, refl, ap, ◌∙◌, inl, inr, arith}
@@ -19,7 +19,7 @@ use Rattle.patterns.specs.Behind.{with_tests}
 use Rattle.patterns.specs.Stretches.{AreTestsBetween}
 use Rattle.patterns.proofs.OneAnswer.{refusal-test_faults}
 
--- ---- rows that are not at fault
+-- ---- rows without an error
 
 three_hold : (x y z : Bool) (e f g : TestFault)
     → cond (not x) (Some e) (cond (not y) (Some f) (cond (not z) (Some g) None)) ≡ None
@@ -37,7 +37,7 @@ none_where_three_hold true true false e f g _ _ last = absurd (cc)
 none_where_three_hold true false z e f g _ next _ = absurd (cc)
 none_where_three_hold false y z e f g first _ _ = absurd (cc)
 
--- a row that holds the same elsewhere within the limit isn't at fault there either
+-- a row with the same contents elsewhere within the limit has no error there either
 none_elsewhere : (width place other : ℕ) (row same : Row) → row.bytes ≡ same.bytes
     → other < max_tests → test_fault width (place, row) ≡ None
     → test_fault width (other, same) ≡ None
@@ -72,7 +72,7 @@ none_of_all_elsewhere width place other (row ∷ own) (next ∷ same) alike room
     ap (λ o. cons_option o (filter_map (test_fault width) (enumerate_from (other + 1) same))) first
     ∙ none_of_all_elsewhere width (place + 1) (other + 1) own same rest (omega arith) parts.1
 
--- ---- rows behind others
+-- ---- rows after others
 
 faults-append : (width : ℕ) (before after : List Row)
     → filter_map (test_fault width) (enumerate_from 0 before) ≡ []
@@ -95,7 +95,7 @@ count_is : (t : TestList) (before : List Row) → t.tests ≡ map bits before
     → length t.tests ≡ length before
 count_is t before is = ap length is ∙ length-map before bits
 
--- the faults of a text whose first rows have tests are those of its other rows
+-- the errors of a file whose first rows have tests are the errors of its other rows
 faults_left : (text : List ℕ) (width : ℕ) (t : TestList) (before left : List Row)
     → rows text ≡ before ++ left
     → filter_map (test_fault width) (enumerate_from 0 before) ≡ [] → t.width ≡ width

@@ -81,7 +81,7 @@ found_from row first (suc n) =
 
 -- ---- the least test over a table
 
--- the blocks before one that is hit are Clear: the least test is that of the hit
+-- the blocks before a hit are Clear: the least test is the hit's
 least-from_hit : (table : Table) (blocks class block lane : ℕ) → block < blocks
     → table class block ≡ Hit lane → AreClear table block class
     → least table blocks class ≡ Some (64 * block + lane)

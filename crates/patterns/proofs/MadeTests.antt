@@ -18,7 +18,7 @@ use Rattle.patterns.specs.Making.{word_of, IsMadeOf, HasIdleBit, digit, row_text
 use Rattle.patterns.proofs.NumbersBelow.{get_or-map-below}
 use Rattle.patterns.proofs.TestWords.{IsWord-from_words, length-tests_of}
 
--- a list whose elements are those of another, each changed, is the other changed
+-- a list whose elements are a list's, each changed, is that list changed
 pub map-from_each : {X Y : Type 0} (f : X → Y) (xs : List X) (ys : List Y) (e : X)
     → length ys ≡ length xs
     → ((k : ℕ) (d : Y) → k < length xs → get_or ys k d ≡ f (get_or xs k e)) → ys ≡ map f xs

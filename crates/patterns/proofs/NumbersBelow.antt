@@ -36,7 +36,7 @@ map-below_same f g n same =
     (λ k d h. let in' : k < n = omega (arith, length-map-below f n) in
     get_or-map-below f n k d in' ∙ same k in' ∙ sym (get_or-map-below g n k d in'))
 
--- a list is that of its elements
+-- a list is the list of its elements
 pub map-below_elements : {X Y : Type 0} (f : X → Y) (xs : List X) (g : ℕ → Y) (n : ℕ) (d : X)
     → length xs ≡ n
     → ((i : ℕ) → i < n → g i ≡ f (get_or xs i d)) → map g (below n) ≡ map f xs

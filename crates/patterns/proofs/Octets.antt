@@ -176,7 +176,7 @@ IsMergedBelow-more old words bytes lane i in_word within before =
           (cases_eq source i);
     }
 
--- ---- tests in bytes behind those of words
+-- ---- tests in bytes after tests in words
 
 -- a block with room has no bit from the next test on
 pub room_lanes : {Z : Type 0} (width count : ℕ) (old : List (List ℕ)) (words : List (Vec ℕ Z))
@@ -197,8 +197,8 @@ word_lists-set words b block new len =
     map-set (λ v. v.items) words b (with_items block new)
     ∙ ap (set (word_lists words) b) (with_items_is block new (len ∙ sym block.ok.0))
 
--- what is known where the tests in bytes were put behind those of words: their words were made room
--- for, and the lanes from the last test on are those of the bytes
+-- the words after the tests in bytes were put after the tests in words: room was made in them, and
+-- the lanes from the last test on have the bits of the bytes
 pub record Moved (width m n : ℕ) (old words : List (List ℕ)) (more : List (List Bool))
     (bytes new : List ℕ) : Type 0 where
   pub are : AreWords width m old

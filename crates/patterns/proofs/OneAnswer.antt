@@ -1,4 +1,4 @@
--- Each test text is accepted or refused, with one answer.
+-- Each test file is accepted or has an error, with one result.
 use Rattle.std.proofs.Common.{◌≡◌, ℕ, ◌<◌, ◌≤◌, ◌⊎◌, ◌==◌, All, Bool, List, [], ◌∷◌, map, length}
 use Rattle.std.proofs.Common.{get_or}
 use Rattle.std.proofs.Common.{sym, refl, ap, ◌∙◌, subst, inl, inr, ⊎_elim, arith}
@@ -38,7 +38,7 @@ tests_or_refusal text width [] is = inl (
 )
 tests_or_refusal text width (f ∷ more) is = inr (f, refusal-test_faults text width f more is)
 
--- a text has its tests or is refused
+-- a file has its tests or an error
 pub tests_cases : (text : List ℕ) (width : ℕ)
     → ((t : TestList) × HasTests text width t) ⊎ ((f : TestFault) × IsTestRefusal text width f)
 tests_cases text width = tests_or_refusal text width (test_faults text width) refl

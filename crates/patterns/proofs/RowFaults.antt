@@ -1,4 +1,4 @@
--- The faults of the rows of a test text.
+-- The errors of the rows of a test file.
 use Rattle.std.proofs.Common.{◌≡◌, ℕ, ◌<◌, List, [], ◌∷◌, length, get_or, Option, Some, None}
 use Rattle.std.proofs.lemmas.Bool.{cond_both, not-false, ltb-true, eqb-true}
 use Rattle.patterns.specs.declared.TestFault.{TestFault}
@@ -7,7 +7,7 @@ use Rattle.text_lines.specs.Rows.{Row, rows}
 use Rattle.text_lines.proofs.Public.{first_fault, no_fault_at}
 use Rattle.patterns.specs.Tests.{max_tests, test_fault, test_faults}
 
--- the fault of a row, by cases
+-- the error of a row, by cases
 test_fault_by : (width : ℕ) (at : ℕ × Row) (P : Option TestFault → Type 0)
     → P (Some fault.TooMany) → P (Some (fault.BadByte at.1.line))
     → P (Some (fault.BadWidth at.1.line))
@@ -29,14 +29,14 @@ test_fault-none width at =
     test_fault_by width at (λ o. o ≡ None → (at.0 < max_tests) × (length at.1.bytes ≡ width))
     (λ e. absurd (cc)) (λ e. absurd (cc)) (λ e. absurd (cc)) (λ room same e. (room, same))
 
--- want of memory is no fault of a text
+-- missing memory is no error of a file
 pub test_faults-not_memory : (text : List ℕ) (width : ℕ) (more : List TestFault)
     → test_faults text width ≡ fault.Memory ∷ more → ⊥
 test_faults-not_memory text width more e =
     let found = first_fault (test_fault width) text fault.Memory more e in
     not_memory width found.0 found.1
 
--- where no row is at fault, each is within the limit and has the width
+-- if no row has an error, each is within the limit and has the width
 pub rows-no_test_fault : (text : List ℕ) (width : ℕ) → test_faults text width ≡ []
     → (i : ℕ) (d : Row) → i < length (rows text)
     → (i < max_tests) × (length (get_or (rows text) i d).bytes ≡ width)

@@ -42,7 +42,7 @@ rows-written line (test ∷ tests) some =
     ∙ ap (λ rows. record { line = line; bytes = digits test } ∷ rows)
     (rows-written (line + 1) tests later)
 
--- none of them is at fault
+-- none of them has an error
 no_fault : (width place line : ℕ) (test : List Bool) → place < max_tests → length test ≡ width
     → test_fault width (place, record { line = line; bytes = digits test }) ≡ None
 no_fault width place line test room same =
@@ -61,7 +61,7 @@ no_faults width place line (test ∷ tests) few same =
     ∙ no_faults width (place + 1) (line + 1) tests (omega (arith, few))
     (λ k d h. same (suc k) d (omega (arith, h)))
 
--- the bits of the rows are those of the tests
+-- the bits of the rows are the bits of the tests
 bits_back : (row : List Bool) → map (λ b. b == 49) (digits row) ≡ row
 bits_back [] = refl
 bits_back (true ∷ row) = ap (λ bits. true ∷ bits) (bits_back row)
