@@ -1,4 +1,4 @@
--- Flags: for each place the bit of its word.
+-- Flags: the bit of each place in its word.
 use Rattle.std.proofs.Common.{◌≡◌, ◌≢◌, ◌<◌, ◌≤◌, ◌+◌, ◌*◌, ◌/◌, ◌%◌, ◌^◌, ℕ, refl, sym, ◌∙◌, ap}
 use Rattle.std.proofs.Common.{List, length, arith, set, inl, inr, ◌⊎◌, Bool, true, false}
 use Rattle.std.specs.Prelude.{slice_index_or, bit_and, bit_or, nat_lt}
@@ -75,7 +75,7 @@ flag_kept words w v p ne = ap (λ x. bit_at x (p % 64))
 
 module _ (words : List ℕ) (p bits : ℕ) (lt : p / 64 < length words)
     (is : slice_index_or words (p / 64) 0 ≡ bits) where
-  -- of one bit alone
+  -- if only one bit changes
   module _ (v : ℕ) (others : (i : ℕ) → i < 64 → i ≢ p % 64 → bit_at v i ≡ bit_at bits i) where
     apart : (q : ℕ) → q ≢ p → q / 64 ≡ p / 64 → q % 64 ≢ p % 64
     apart q ne at same = ne (omega (arith, at, same))
@@ -160,7 +160,7 @@ first_flag words at some fits =
     ap (λ i. bit_at (slice_index_or words i 0) ((at * 64 + bit) % 64)) here
     ∙ (ap (bit_at word) rest ∙ found.1)
 
--- where the words before have none
+-- if the words before have none
 pub first_flag_least : (words : List ℕ) (at from : ℕ) → slice_index_or words at 0 ≢ 0
     → slice_index_or words at 0 < 2 ^ 64
     → ((i : ℕ) → from ≤ i → i < at → slice_index_or words i 0 ≡ 0)

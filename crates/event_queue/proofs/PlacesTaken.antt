@@ -243,7 +243,7 @@ low_less words from at low w some = go (cases_eq w at) (split at (length words))
     go (inl same) (inr le) = absurd (some (get_or_past (set words at 0) w 0
         (let long = length-set words at 0 in omega (arith, long, le, same))))
 
--- where no mark is left nothing is set
+-- if no mark is left, nothing is set
 pub all_zero : (words summary : List ℕ) (first : ℕ) → ArePlaces words summary
     → ((w : ℕ) → slice_index_or words w 0 ≢ 0 → 64 * first ≤ w)
     → ((w : ℕ) → 64 * first ≤ w → flag summary w ≡ 0) → All (λ x. x ≡ 0) (flags words)

@@ -1,3 +1,2 @@
--- Lemmas on changed words and waiting gates.
--- Proofs of the crates above cite these alone.
+-- Lemmas on changed words and waiting gates. Proofs of the crates above cite only these.
 pub use Rattle.event_queue.proofs.Zeros.{index_zero}

@@ -1,4 +1,4 @@
--- How many numbers of a list are 0.
+-- The number of zeros in a list.
 use Rattle.std.proofs.Common.{◌≡◌, ◌≢◌, ◌<◌, ◌≤◌, ℕ, zero, suc, ◌+◌, refl, ap}
 use Rattle.std.proofs.Common.{List, [], ◌∷◌, length, arith, set}
 use Rattle.std.specs.Prelude.{All, slice_index_or}
@@ -46,7 +46,7 @@ zeros_le (x ∷ xs) =
     let le = zeros_le xs in
     omega (arith, h, w, le)
 
--- all are 0 exactly where all are counted
+-- all are 0 exactly if all are counted
 pub all_zero : (xs : List ℕ) → zeros xs ≡ length xs → All (λ x. x ≡ 0) xs
 all_zero [] e i d lt = absurd (omega (arith, lt))
 all_zero (zero ∷ xs) e zero d lt = refl
