@@ -105,7 +105,7 @@ built_more c k n ls stems named b = record {
             rw place (at_end ls (map branch (branches c n)) (line.Stem k)
             ∙ ap (λ i. Some (line.Stem i)) (sym h))
 
--- a front part is no longer than the whole
+-- a front part is at most as long as the whole
 few_first : {X Y : Type 0} (f : X → List Y) (xs : List X) (k : ℕ)
     → length (flat_map f (take k xs)) ≤ length (flat_map f xs)
 few_first f [] zero = omega arith

@@ -1,5 +1,5 @@
--- What a computed test says of the relations: a valuation that passes it solves, and a detected
--- fault is detected.
+-- The meaning of a computed test for the relations: a valuation that passes it solves, and a fault
+-- that it finds detected is detected.
 use Rattle.std.proofs.Common.{◌≡◌, ℕ, suc, refl, subst, Bool, true, false, not, ◌&&◌, List, arith}
 use Rattle.std.specs.Option.{option_map_or}
 use Rattle.std.specs.Prelude.{Option, Some, None, slice_get, slice_index_or, if◌then◌else◌, ◌≢◌}
@@ -60,7 +60,7 @@ solves c t f v e =
           (each_passes (gate_solved c f v) c (Gate n kind args) p.1 at);
     }
 
--- a fault that the plain program finds detected is detected, where its two valuations solve
+-- a fault that the plain program finds detected is detected, if its two valuations solve
 pub detects : (k : ℕ) (c : List Statement) (t : Test) (f : Fault)
     → is_solved c t None (bit_within k c t None) ≡ true
     → is_solved c t (Some f) (bit_within k c t (Some f)) ≡ true → detects_within k c t f ≡ true
@@ -83,7 +83,7 @@ bits_alike true false e = cc
 bits_alike false true e = cc
 bits_alike false false e = refl
 
--- a bit that the plain program finds on a line is there, where its valuation solves
+-- a bit that the plain program finds on a line is there, if its valuation solves
 has_bit : (k : ℕ) (c : List Statement) (t : Test) (f : Fault)
     → is_solved c t None (bit_within k c t None) ≡ true → has_bit_within k c t f ≡ true
     → HasBit c t f.line f.stuck

@@ -20,7 +20,7 @@ half_within m ls k h =
     let twice : length (flat_map (both m) ls) ≡ 2 * length ls = length_both m ls in
     omega (arith, h, twice)
 
--- the fault at a place is on the line at half the place, stuck at 1 where the place is odd
+-- the fault at a place is on the line at half the place, stuck at 1 if the place is odd
 at_half : (m : Model) (ls : List Line) (k : ℕ) (l : Line) → slice_get ls (k / 2) ≡ Some l
     → slice_get (flat_map (both m) ls) k ≡ Some (fault_on m l (nat_eq (k % 2) 1))
 at_half m ls k l e = go (k % 2) refl

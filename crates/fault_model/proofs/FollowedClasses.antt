@@ -12,7 +12,7 @@ use Rattle.fault_model.specs.Collapse.{next, onward, representatives, IsClassOf,
 use Rattle.fault_model.specs.Known.{HasClassAt, HasEnds, HasNext, KeepsClasses}
 use Rattle.fault_model.proofs.RepresentativeNumbers.{answer_some}
 
--- the class of a next fault is that of the fault
+-- the class of a next fault is the class of the fault
 class_onward : (m : Model) (c : List Statement) (f g : Fault) (k : ℕ) → Contains (faults m c) f
     → next c f ≡ Some g → IsClassOf m c g k → IsClassOf m c f k
 class_onward m c f g k at e p = (p.0, at, (onward e p.2.0, p.2.1), p.3)
@@ -40,7 +40,7 @@ same_or_other (suc i) (suc j) = go (same_or_other i j)
     go (inl e) = inl (ap suc e)
     go (inr n) = inr (λ e. n (omega (arith, e)))
 
--- what is known where the class that the table has of the next fault's place is written
+-- the table after the class at the next fault's place is written for a fault
 pub record Followed (m : Model) (c : List Statement) (before after : List ℕ) (i : ℕ) : Type 0 where
   pub known : HasClassAt m c after i
   pub kept : KeepsClasses m c before after

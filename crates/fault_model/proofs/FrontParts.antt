@@ -17,7 +17,7 @@ pub take_all : {X : Type 0} (xs : List X) → take (length xs) xs ≡ xs
 take_all [] = refl
 take_all (x ∷ xs) = ap (λ zs. x ∷ zs) (take_all xs)
 
--- what stands in a list stands there when more is put behind it
+-- an element of a list stays at its place if more elements follow
 pub at_front : {X : Type 0} (xs ys : List X) (i : ℕ) (x : X) → slice_get xs i ≡ Some x
     → slice_get (xs ++ ys) i ≡ Some x
 at_front [] ys i x e = let bad : None ≡ Some x = e in cc

@@ -32,7 +32,7 @@ not_apart true false e = cc
 not_apart false true e = cc
 not_apart false false e = refl
 
--- over a gate of one input its pin has the one bit exactly where its output has the other
+-- over a gate of one input its pin has the one bit exactly if its output has the other
 passed : (kind : Kind) (a b x : Bool) (args : List Name) (bits : List Bool)
     → next_stuck Transition kind a ≡ Some b → HasArity kind args → length bits ≡ length args
     → Among x bits
@@ -84,8 +84,8 @@ module _ (c : List Statement) (f g : Fault) (well : IsWellFormed c) (arities : H
   pub to_model : g.model ≡ f.model
   to_model = sym (ap (λ x. x.model) s.gives)
 
-  -- without a fault the pin's name has the fault's bit exactly where the gate's name has that of
-  -- the next fault
+  -- in the fault-free circuit the pin's name has the fault's bit exactly if the gate's name has the
+  -- next fault's
   bit_passes : (t : Test) (v : Name → Bool) → next_stuck Transition s.kind f.stuck ≡ Some s.bit
       → Solves c t None v → (v s.read ≡ f.stuck) ↔ (v s.name ≡ g.stuck)
   bit_passes t v fixes p =

@@ -75,7 +75,7 @@ one_reader (sink.Pin g pin ∷ []) gate e =
     let same : g ≡ gate = cc in
     (pin, ap (λ x. sink.Pin x pin ∷ []) same)
 
--- the gate that alone reads a line of the list is a signal
+-- the gate that is the only reader of a line of the list is a signal
 pub gate_is_signal : (m : Model) (c : List Statement) (f : Fault) (gate : ℕ)
     → Contains (faults m c) f → only_gate (readers c f.line) ≡ Some gate
     → (n : Name) × (name_of c gate ≡ Some n)

@@ -59,7 +59,7 @@ module _ (c : List Statement) (well : IsWellFormed c) where
       ap (λ o. option_map_or (λ m. 2 * well.acyclic.0 m) o 0)
       (name_of-signal c n (contained (names c) n a))
 
-  -- the number of the name that a step's pin reads is below that of its gate
+  -- the number of the name that a step's pin reads is below the number of its gate
   pub read_below : (f g : Fault) (s : Step c f g) → well.acyclic.0 s.read < well.acyclic.0 s.name
   read_below f g s =
       well.acyclic.1 s.name s.read (

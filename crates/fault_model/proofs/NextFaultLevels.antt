@@ -141,7 +141,7 @@ later c f g order i j well is s at there = go (split i j)
         subst (GoesBefore c (signal c s.name)) (at_index order i (signal c s.read) 0 at) moved in
         absurd (not_before c f g well s both)
 
--- each number of the level order is that of a signal
+-- each number of the level order is a signal's
 pub in_order_named : (c : List Statement) (order : List ℕ) (i s : ℕ) → IsLevelOrder c order
     → slice_get order i ≡ Some s → (n : Name) × (name_of c s ≡ Some n)
 in_order_named c order zero s is at = go (split (length order))

@@ -1,5 +1,5 @@
--- The classes of launch and capture pairs are those of transition faults: where the table has the
--- same rows for two models, exchanging the model keeps the fault list, next faults and classes.
+-- The classes of launch and capture pairs are the classes of transition faults: if the table has
+-- the same rows for two models, exchanging the model keeps the fault list, next faults and classes.
 use Rattle.std.proofs.Common.{◌≡◌, ℕ, refl, sym, ◌∙◌, ap, subst, Bool, true, false, List, [], ◌∷◌}
 use Rattle.std.proofs.Common.{◌++◌, length, inl, inr}
 use Rattle.std.specs.Prelude.{Contains, Option, Some, None, slice_get, flat_map, option_map, map}

@@ -30,7 +30,7 @@ same_fault f g = same_line f.line g.line && (if f.stuck then g.stuck else not g.
 abbrev pub class_of : List Statement → Fault → ℕ
 class_of c f = position_or_len (same_fault (rep c f)) (representatives f.model c)
 
--- the bit that a name's definition gives it, where v gives the bits of its arguments
+-- the bit that a name's definition gives it, if v gives the bits of its arguments
 abbrev pub driven : List Statement → Test → Option Fault → (Name → Bool) → Name → Option Statement
     → Bool
 driven c t f v n (Some (Gate g kind args)) = value kind (pins_see f v (signal c n) args)
@@ -65,9 +65,8 @@ fits_within k c f Transition second before =
 fits_within k c f TransitionPairs second before =
     second && option_map_or (λ t. has_bit_within k c t f) before false
 
--- the first test that detects the fault, where this test goes before the list, whose first is the
--- second of its pair or
--- not
+-- the first test that detects the fault, if this test goes before the list, whose first is the
+-- second of its pair or not
 abbrev first_from : ℕ → List Statement → Fault → Bool → Option Test → List Test → Option ℕ
 first_from k c f second before [] = None
 first_from k c f second before (t ∷ tests) =
@@ -88,7 +87,7 @@ reaches_within (suc n) c f = go (reaches_within n c) (next c f) refl
     go reached None e = here
     go reached (Some g) e = onward e (reached g)
 
--- so where it ends at a fault without a next, that is the representative
+-- so if it ends at a fault without a next one, that is the representative
 pub rep_represents : (n : ℕ) (c : List Statement) (f : Fault) → next c (rep_within n c f) ≡ None
     → Represents c f (rep_within n c f)
 rep_represents n c f ends = (reaches_within n c f, ends)

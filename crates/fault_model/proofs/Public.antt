@@ -1,6 +1,5 @@
--- Lemmas on circuits and faults: what defines and reads a name, lists, classes, solutions and what
--- shows a fault.
--- Proofs of the crates above cite these alone.
+-- Lemmas on circuits and faults: the definition and the readers of a name, lists, classes,
+-- solutions and what shows a fault. Proofs of the crates above cite only these.
 pub use Rattle.fault_model.proofs.CarriedNames.{carries}
 pub use Rattle.fault_model.proofs.ComputedDetection.{detects, is_solved, same_bit, slow_at}
 pub use Rattle.fault_model.proofs.ComputedDetection.{slow_in_pairs_at, solves}

@@ -36,7 +36,7 @@ module _ (c d : List Statement) (well : IsWellFormed c) (is : IsReordered c d) w
   pub named_to : (n : Name) → Contains (names c) n → Contains (names d) n
   named_to n at = given_reordered defined c d n is.statements at
 
-  -- a number is that of a signal, or past them all and the same in both lists
+  -- a number is a signal's, or past them all and the same in both lists
   pub data Moves (s : ℕ) : Type 0 where
     of : (n : Name) → Contains (names c) n → name_of c s ≡ Some n → place c d s ≡ signal d n
         → Moves s

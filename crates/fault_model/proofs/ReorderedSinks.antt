@@ -150,7 +150,7 @@ module _ (c d : List Statement) (well : IsWellFormed c) (is : IsReordered c d) w
             sym from.2,
           )
 
-  -- ---- the gate that alone reads a line
+  -- ---- the gate that is the only reader of a line
 
   of_several : (k j : Sink) (ks : List Sink) → only_gate (k ∷ j ∷ ks) ≡ None
   of_several (sink.Pin g p) j ks = refl

@@ -26,7 +26,7 @@ use Rattle.fault_model.specs.Reordered.{IsSolvedSame, IsDetectedSame, HasSameBit
 use Rattle.fault_model.proofs.ReorderedSignals.{apart, numbered, same_name, same_definition}
 use Rattle.fault_model.proofs.ReorderedSignals.{same_sources, stands_there, stands_back}
 
--- two numbers are the same exactly where what they move to is
+-- two numbers are equal exactly if the numbers that they move to are
 same_test : (f : ℕ → ℕ) → ((s t : ℕ) → f s ≡ f t → s ≡ t) → (s t : ℕ)
     → (f s == f t) ≡ (s == t)
 same_test f one s t =

@@ -151,7 +151,7 @@ module _ (m : Model) (c : List Statement) (k : ℕ) (f : Fault) (class_of reps :
               let same : f ≡ g = cc in
               let bad : Some h ≡ None = sym some ∙ (ap (next c) same ∙ ends) in cc
 
--- what the answer says: the place of the next fault, or none
+-- the result: the place of the next fault, or none
 pub answer_none : (m : Model) (c : List Statement) (k : ℕ) (f : Fault) (r : Option ℕ)
     → slice_get (faults m c) k ≡ Some f
     → option_map (slice_get (faults m c)) r

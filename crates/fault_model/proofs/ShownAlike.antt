@@ -54,7 +54,7 @@ only_one (b ∷ []) a one (inl e) = go b e
 only_one (b ∷ []) a one (inr h) = absurd h
 only_one (b ∷ d ∷ bits) a one h = absurd (omega (arith, one))
 
--- a pin at this bit fixes the output, as the table says
+-- a pin at this bit fixes the output, by the table
 fixed : (m : Model) (kind : Kind) (a b : Bool) (args : List Name) (bits : List Bool)
     → next_stuck m kind a ≡ Some b → HasArity kind args → length bits ≡ length args → Among a bits
     → value kind bits ≡ b

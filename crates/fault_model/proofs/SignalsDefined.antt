@@ -140,7 +140,7 @@ distinct_sources (Dff q x ∷ c) d =
     distinct_between (inputs c) (map (λ cell. cell.0) (cells c)) q (distinct_sources c d.1)
     (λ a. d.0 (source_named c q a))
 
--- the place of a source is where it stands
+-- a source is at its place
 pub source_place : (c : List Statement) (i : ℕ) (n : Name) → IsWellFormed c
     → slice_get (sources c) i ≡ Some n → position_or_len (bytes_eq n) (sources c) ≡ i
 source_place c i n well e =

@@ -1,4 +1,4 @@
--- Each sink stands once: among the sinks of a name, and among those of all names.
+-- Each sink comes once among the sinks of a name, and among the sinks of all names.
 use Rattle.std.proofs.Common.{◌≡◌, ℕ, ◌+◌, refl, sym, ◌∙◌, ap, subst, Bool, true, false, List, []}
 use Rattle.std.proofs.Common.{◌∷◌, arith, inl, inr, ◌⊎◌}
 use Rattle.std.specs.Prelude.{Some, slice_get, map, filter, flat_map, bytes_eq, unwrap_or}

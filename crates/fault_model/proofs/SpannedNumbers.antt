@@ -1,5 +1,5 @@
--- Lists of all numbers below a bound: those with as many elements are one another in another order,
--- and an ascending one is determined by what it has.
+-- Lists of all numbers below a bound: two with this many elements are permutations of each other,
+-- and an ascending list is determined by its elements.
 use Rattle.std.proofs.Common.{◌≡◌, ◌<◌, ℕ, zero, suc, refl, sym, ◌∙◌, ap, subst, Bool, true, false}
 use Rattle.std.proofs.Common.{List, [], ◌∷◌, ◌++◌, map, length, filter, arith, inl, inr}
 use Rattle.std.proofs.Common.{◌⊎◌}
@@ -143,8 +143,8 @@ below_ascending (suc n) = (first, shifted (below n) (below_ascending n))
             let e : suc p.0 ≡ y = p.2 in
             omega (arith, e, lt)
 
--- two lists with the same elements are the same where both go by a relation that no two elements
--- stand in both ways
+-- two lists with the same elements are equal if both go by a relation that holds between no two
+-- elements in both ways
 pub same_ordered : {X : Type 0} (R : X → X → Type 0) → ((x y : X) → R x y → R y x → ⊥)
     → (xs ys : List X) → Pairwise R xs → Pairwise R ys → ((x : X) → Among x xs → Among x ys)
     → ((x : X) → Among x ys → Among x xs) → xs ≡ ys
@@ -199,8 +199,8 @@ kept_some {Y} h (x ∷ xs) = go (h x) refl (kept_some h xs)
     go None e rest = rw e rest
     go (Some y) e rest = rw (e, e) (ap (λ ys. y ∷ ys) rest)
 
--- where a list has the numbers below n, and those that give something ascend in it, it gives what
--- the numbers below n give in turn
+-- if a list has the numbers below n, and the numbers that give something ascend in it, it gives in
+-- turn the same as the numbers below n
 pub kept_same : {Y : Type 0} (h : ℕ → Option Y) (n : ℕ) (xs : List ℕ)
     → ((s : ℕ) → Among s xs → Among s (below n)) → ((s : ℕ) → Among s (below n) → Among s xs)
     → Ascending (filter (λ s. is_some (h s)) xs) → filter_map h xs ≡ filter_map h (below n)

@@ -40,7 +40,7 @@ defining_count (Input n ∷ c) = ap suc (defining_count c)
 defining_count (Gate n kind args ∷ c) = ap suc (defining_count c)
 defining_count (Dff q d ∷ c) = ap suc (defining_count c)
 
--- what a list has at all its places is the list
+-- the elements of a list at all its places are the list
 all_places : {X : Type 0} (xs : List X)
     → filter_map (slice_get xs) (below (length xs)) ≡ xs
 all_places [] = refl
@@ -181,7 +181,7 @@ module _ (c : List Statement) (order : List ℕ) (is : IsSignalOrder c order) wh
   within : (s : ℕ) → Among s order → s < length defining
   within = span_within (length defining) order spans
 
-  -- ---- the statements are those of the circuit
+  -- ---- the statements are the circuit's
 
   abbrev statement_at : ℕ → Statement
   statement_at s = get_or defining s (Output [])

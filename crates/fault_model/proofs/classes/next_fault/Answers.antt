@@ -24,7 +24,7 @@ reading_gate-requires c =
     let p = found (goal.at.reading_gate-requires c).After-line_of in
     listed_in_circuit m c.args.circuit.now (fault_on m c.line_of.result p.0) p.1.listed
 
--- the gate that alone reads the line is a signal
+-- the gate that is the only reader of the line is a signal
 gate_named : (c : In_ok-gate) → (n : Name) × (name_of c.args.circuit.now c.in_ok-gate.gate ≡ Some n)
 gate_named c =
     let m = c.args.list.now.model in
@@ -50,7 +50,7 @@ stem_fault-requires c = (
   gate_within (goal.at.stem_fault-requires c).In_ok-gate,
 )
 
--- the next fault, where the table has this row for the gate's kind
+-- the next fault, if the table has this row for the gate's kind
 follows : (c : After-stuck_of) (row : Option Bool)
     → row ≡ next_stuck c.args.list.now.model c.in_ok-kind.kind c.stuck_of.result
     → option_and_then (next c.args.circuit.now) (slice_get c.args.list.now.list c.args.fault)

@@ -39,7 +39,7 @@ loop-signal-preserved c =
     (λ xs. Built circuit (k + 1) ((ls ++ line.Stem k ∷ []) ++ map branch (branches circuit p.0)) xs)
     stems_are (built_more circuit k p.0 ls stems p.1 c.loop-signal.invariant))
 
--- after the last signal the lines and stems are those of all signals
+-- after the last signal the lines and stems are the lines and stems of all signals
 built_last : (c : List Statement) (k signals : ℕ) (ls : List Line) (stems : List ℕ) → signals ≤ k
     → k ≤ signals → signals ≡ length (names c) → Built c k ls stems
     → Built c (length (names c)) ls stems
