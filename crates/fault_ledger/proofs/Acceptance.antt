@@ -1,4 +1,4 @@
--- When a claim, a report or a drop is accepted, and what it is answered.
+-- When a claim, a report or a drop is accepted, and its reply.
 use Rattle.std.proofs.Common.{◌≡◌, ℕ, ◌<◌, true, if◌then◌else◌, ◌∷◌, [], ◌++◌, Some, None, sym, ap}
 use Rattle.std.proofs.Common.{◌∙◌, subst, lt-ltb}
 use Rattle.patterns.specs.declared.Outcome.{Outcome}
@@ -42,7 +42,7 @@ drop_answer s h w p among here hit =
     ∙ ap (drop_reply s h) here
     ∙ ap (λ b. if b then Done else Refused NoEarlierHit) hit
 
--- what the calls of events that were accepted were answered
+-- the replies to the calls of events that were accepted
 pub report_answered : (s : Shape) (h : History) (w : ℕ) (o : Outcome)
     → after s h (call.Report w o) ≡ Event.Report w o ∷ h → answer s h (call.Report w o) ≡ Done
 report_answered s h w o e = let a = report_accepted s h w o e in

@@ -29,7 +29,7 @@ finish-past g a (suc m) n (suc all) b p q settled =
     ∙ finish-past g (a + 1) m n all b (omega arith) (omega arith)
     (λ k l o. settled k (omega arith) o)
 
--- at the first class that waits, and where all are settled
+-- at the first class that waits, and if all are settled
 pub finish-waits : (g : ℕ → Status) (n c b : ℕ) → c < n
     → ((k : ℕ) → k < c → (at : Option ℕ) × (g k ≡ status_is.Settled at)) → g c ≡ status_is.Waiting b
     → finish_from 0 (map g (below n)) ≡ finish_is.Waiting c b
@@ -46,7 +46,7 @@ abbrev pub SettledBelow : Shape → List PieceState → ℕ → Type 0
 SettledBelow s states n = (h : History) → IsLegal s h → states ≡ states_of s h → (k : ℕ) → k < n
     → (at : Option ℕ) × (status s h k ≡ status_is.Settled at)
 
--- where there is no piece all classes are settled
+-- if there is no piece, all classes are settled
 pub finish-none : (s : Shape) (h : History) → piece_count s ≡ 0 → finish s h ≡ finish_is.Finished
 finish-none s h none =
     finish-all (status s h) s.classes (λ k l. (

@@ -1,4 +1,4 @@
--- What each call answers, over the parts of a face.
+-- The reply to each call, over the parts of a face.
 use Rattle.std.proofs.Common.{◌≡◌, ℕ, ◌+◌, ◌*◌, ◌%◌, ◌/◌, ◌<◌, ◌≤◌, Bool, true, false}
 use Rattle.std.proofs.Common.{if◌then◌else◌, ◌⊎◌, inl, inr, is_some, eqb, List, ◌∷◌, ◌++◌, map, set}
 use Rattle.std.proofs.Common.{length, slice_get, slice_index_or, Option, Some, None, refl, sym, ap}
@@ -78,7 +78,7 @@ pub state-entry : (f : Face) (h : History) (p : ℕ) → f ≡ face f.shape h �
 state-entry f h p e l = ap (λ x. slice_index_or x p state.Open) (states-is f h e)
     ∙ get_or-map-below (λ q. entry q h) (piece_count f.shape) p state.Open l
 
--- a reply that is the answer, and a face that is that of the history with what the reply adds
+-- a reply that is right, and a face that shows the history with the event of the reply
 pub answered : (f g : Face) (c : Call) (r : Reply) → ((h : History) → IsLegal f.shape h
     → f ≡ face f.shape h → (r ≡ answer f.shape h c) × (g ≡ face f.shape (events_of c r ++ h)))
     → Answers f c r g
@@ -188,7 +188,7 @@ report-no_worker f w o l = answered f f (call.Report w o) (Refused NoSuchWorker)
   e,
 ))
 
--- the answer to a report of a worker that is one of the ledger
+-- the reply to a report of a worker of the ledger
 report-answer : (f : Face) (h : History) (w : ℕ) (o : Outcome) (x : Option ℕ) → f ≡ face f.shape h
     → slice_get f.holding w ≡ Some x → answer f.shape h (call.Report w o) ≡ report_reply f.shape o x
 report-answer f h w o x e g =

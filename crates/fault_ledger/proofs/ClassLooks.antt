@@ -1,4 +1,4 @@
--- What looks at the pieces of a class say of the class.
+-- The meaning of looks at the pieces of a class for the class.
 use Rattle.std.proofs.Common.{◌≡◌, ◌≢◌, ℕ, ◌+◌, ◌*◌, ◌<◌, ◌≤◌, Bool, nat_lt, true, false}
 use Rattle.std.proofs.Common.{true≢false, List, [], ◌∷◌, map, Option, refl, sym, ap, ◌∙◌, subst}
 use Rattle.std.proofs.Common.{arith}
@@ -65,7 +65,7 @@ pub hit_found : (s : Shape) (h : History) (p n : ℕ) → n < block_of s p
 hit_found s h p n l hit =
     any_at-below (λ b. is_hit (entry (piece_at s (class_of s p) b) h)) (block_of s p) n l hit
 
--- what a look at the next block of a class shows, where the blocks before it were clear
+-- the result of a look at the next block of a class, if the blocks before it were clear
 pub record LooksAt (s : Shape) (class n : ℕ) (a d : Sitter) (x : PieceState) : Type 0 where
   pub within : n < block_count s
   pub sees : Sees a a.told d
@@ -83,7 +83,7 @@ looks_at own s class n count a b d x is many l before clear sees e = record {
   found = sym (subst (λ (y : Shape). x ≡ entry (piece_at y class n) d.seen) is e);
 }
 
--- behind clear pieces alone there is no skipped one
+-- after only clear pieces there is no skipped one
 pub skipped_not_first : (s : Shape) (class n : ℕ) (h : History) → IsLegal s h → class < s.classes
     → n < block_count s → AreClear s h class n → entry (piece_at s class n) h ≡ state.Skipped → ⊥
 skipped_not_first s class n h legal l m clear e = let r = never_first s h legal class n l m e in

@@ -28,7 +28,7 @@ status-past g a (suc m) n (suc all) b p q clear =
     ap (λ x. status_from a (x ∷ map g (from_up (a + 1) all))) (clear a (omega arith) (omega arith))
     ∙ status-past g (a + 1) m n all b (omega arith) (omega arith) (λ k l o. clear k (omega arith) o)
 
--- at the first block that isn't clear, and where all are
+-- at the first block that isn't clear, and if all are
 pub status-hit : (g : ℕ → PieceState) (n b k : ℕ) → b < n → ((j : ℕ) → j < b → g j ≡ state.Clear)
     → g b ≡ state.Hit k → status_from 0 (map g (below n)) ≡ status_is.Settled (Some (64 * b + k))
 status-hit g n b k l clear e =
@@ -80,7 +80,7 @@ shown-hit s states class block k are l m e =
     (sym (shown-entry s states are.0 class block are.2 l m) ∙ e) in
     omega arith
 
--- a skipped piece is never shown behind clear ones alone
+-- a skipped piece never comes after only clear ones
 pub shown-skipped : (s : Shape) (states : List PieceState) (class block : ℕ)
     → AreStates s states → class < s.classes → block < block_count s → ((k : ℕ) → k < block
     → shown s states class k ≡ state.Clear) → shown s states class block ≡ state.Skipped → ⊥

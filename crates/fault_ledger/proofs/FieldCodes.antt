@@ -1,4 +1,4 @@
--- What a field says of its piece is what was written.
+-- The field of a piece has the code that was written.
 use Rattle.std.proofs.Common.{◌≡◌, ℕ, zero, suc, ◌+◌, ◌%◌, ◌<◌, false, if◌then◌else◌, eqb, List, []}
 use Rattle.std.proofs.Common.{◌∷◌, map, length, get_or, refl, sym, ap, ◌∙◌, arith, ne_eqb}
 use Rattle.std.proofs.lemmas.List.{get_or-map}
@@ -35,7 +35,7 @@ pub state_of_code : (codes : List ℕ) (i n : ℕ) → i < length codes → n �
     → state_at n ≡ get_or (map state_at codes) i state.Open
 state_of_code codes i n l e = ap state_at e ∙ sym (get_or-map state_at codes i 0 state.Open l)
 
--- a code is that of a skipped piece exactly where it is 2
+-- a code is a skipped piece's exactly if it is 2
 pub skipped_code : (n : ℕ) → is_skipped (state_at n) ≡ eqb n 2
 skipped_code zero = refl
 skipped_code (suc zero) = refl

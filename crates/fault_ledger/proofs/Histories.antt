@@ -72,7 +72,7 @@ is_not-piece : (p : ℕ) (o : Option ℕ) → (o ≡ Some p → ⊥)
 is_not-piece p None n = refl
 is_not-piece p (Some q) n = ne_eqb q p (λ e. n (ap Some e))
 
--- what `holds` says
+-- the meaning of `holds`
 pub holds-held : (w p : ℕ) (h : History) → holds w p h ≡ true → held_by w h ≡ Some p
 holds-held w p h e = is_some-piece p (held_by w h) e
 

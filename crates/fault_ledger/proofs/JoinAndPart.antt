@@ -1,4 +1,4 @@
--- The rule of the shared words at the start, and where a token is parted in two or two are joined.
+-- The rule of the shared words at the start, and when a token is parted in two or two are joined.
 use Rattle.std.proofs.Common.{◌≡◌, ℕ, zero, suc, ◌+◌, ◌*◌, ◌%◌, ◌^◌, ◌<◌, ◌≤◌, ⊎_elim, min, Bool}
 use Rattle.std.proofs.Common.{true, false, true≢false, if◌then◌else◌, eqb, List, [], ◌∷◌, ◌++◌, set}
 use Rattle.std.proofs.Common.{length, slice_index, None, refl, sym, ap, ◌∙◌, subst, arith, ne_eqb}
@@ -96,7 +96,7 @@ total-snoc : (f : View → ℕ) (vs : List View) (v : View) → total f (vs ++ v
 total-snoc f [] v = omega arith
 total-snoc f (x ∷ xs) v = let i = total-snoc f xs v in omega arith
 
--- a sum over views stays where a view is parted in two
+-- a sum over views stays if a view is parted in two
 part_total : (f : View → ℕ) (vs : List View) (id : ℕ) (v l r : View) → get_elem? vs id ≡ some v
     → f l + f r ≡ f v → total f (set vs id l ++ r ∷ []) ≡ total f vs
 part_total f vs id v l r at e = let a = total-set f vs id v l at in
@@ -114,7 +114,7 @@ part_times : (x : ℕ) (ps : List Post) → times x (front ps) + times x (others
 part_times x [] = refl
 part_times x (p ∷ ps) = omega arith
 
--- the rule stays where the first worker of a view is parted from the others
+-- the rule stays if the first worker of a view is parted from the others
 pub splits : {S : Type 0} (s : Shape) (id : ℕ) (v : View)
     → Splits (IsKept {S = S} s) id v (front_of v) (others_of v)
 splits s id v t kept at =
@@ -159,14 +159,14 @@ times-append : (x : ℕ) (ps qs : List Post) → times x (ps ++ qs) ≡ times x 
 times-append x [] qs = omega arith
 times-append x (p ∷ ps) qs = let i = times-append x ps qs in omega arith
 
--- a sum over views stays where two views become one
+-- a sum over views stays if two views become one
 join_total : (f : View → ℕ) (vs : List View) (id other : ℕ) (v w b n : View)
     → get_elem? vs id ≡ some v → get_elem? (set vs id b) other ≡ some w → f b ≡ f w + f v → f n ≡ 0
     → total f (set (set vs id b) other n) ≡ total f vs
 join_total f vs id other v w b n at there e z = let x = total-set f vs id v b at in
     let y = total-set f (set vs id b) other w n there in omega arith
 
--- the rule stays where two views of one ledger are joined
+-- the rule stays if two views of one ledger are joined
 pub joins : {S : Type 0} (s : Shape) (id other : ℕ) (v w : View) → v.shape ≡ w.shape
     → Joins (IsKept {S = S} s) id v other w (both_of v w) nobody
 joins s id other v w same t kept at apart there =

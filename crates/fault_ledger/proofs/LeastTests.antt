@@ -17,7 +17,7 @@ use Rattle.fault_ledger.specs.Answer.{Gives, IsTrueTo, SettlesAtLeast}
 use Rattle.fault_ledger.proofs.Histories.{holds-held}
 use Rattle.fault_ledger.proofs.PieceNumbers.{class_of-at, block_of-at}
 
--- the state of a reported piece is that of the table's outcome
+-- the state of a reported piece follows from the table's outcome
 abbrev Agrees : PieceState → Outcome → Type 0
 Agrees state.Clear o = o ≡ outcome.Clear
 Agrees (state.Hit k) o = o ≡ outcome.Hit k

@@ -190,7 +190,7 @@ hit_kept s h e p hit =
     (hit-not_open (entry (piece_at s (class_of s p) k) h) x)) ∙ x)
     hit
 
--- a piece that was skipped stands behind a hit of its class
+-- a skipped piece comes after a hit of its class
 pub skipped_behind : (s : Shape) (p : ℕ) (h : History) → IsLegal s h → entry p h ≡ state.Skipped
     → has_earlier_hit s h p ≡ true
 skipped_behind s p [] l e = absurd (cc)

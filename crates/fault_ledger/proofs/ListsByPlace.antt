@@ -39,7 +39,7 @@ set-from_up f g a (suc n) (suc i) j x l e p q =
     ap (λ y. y ∷ set (map f (from_up (a + 1) n)) i x) (q a (omega arith))
     ∙ ap (λ xs. g a ∷ xs) (set-from_up f g (a + 1) n i j x (omega arith) (omega arith) p q)
 
--- one place of a list becomes x, which the function g says of it, and elsewhere g says what f said
+-- one place of a list becomes x, its value by the function g, and elsewhere g agrees with f
 pub set-below : {X : Type 0} (f g : ℕ → X) (n i : ℕ) (x : X) → i < n → x ≡ g i
     → ((k : ℕ) → k ≢ i → f k ≡ g k) → set (map f (below n)) i x ≡ map g (below n)
 set-below f g n i x l p q = set-from_up f g 0 n i i x l (omega arith) p q

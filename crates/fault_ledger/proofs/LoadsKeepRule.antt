@@ -16,7 +16,7 @@ use Rattle.fault_ledger.proofs.Histories.{held_goes_on, claims_past, goes_on_sam
 use Rattle.fault_ledger.proofs.ListsByPlace.{set_same}
 use Rattle.fault_ledger.proofs.SumsOverViews.{total-set, for_all, set_known}
 
--- a sum over views stays where one view changes and adds as much as before
+-- a sum over views stays if one view changes and adds as much as before
 pub same_total : (f : View → ℕ) (views : List View) (id : ℕ) (v w : View)
     → get_elem? views id ≡ some v → f w ≡ f v → total f (set views id w) ≡ total f views
 same_total f views id v w at e = let t = total-set f views id v w at in omega arith

@@ -37,7 +37,7 @@ lt_min a b n = go (nat_lt a n) (nat_lt b n) refl refl
     go false false e f = let l = ltb-false a n e in let m = ltb-false b n f in
         le-ltb (min a b) n (omega arith)
 
--- a piece that changes, and is a hit exactly where it was one
+-- a piece that changes, and is a hit exactly if it was one
 changed_at : (states : List PieceState) (p q : ℕ) (x : PieceState) → p < length states
     → is_hit x ≡ is_hit (get_or states p state.Open)
     → is_hit (get_or (set states p x) q state.Open) ≡ is_hit (get_or states q state.Open)
@@ -89,7 +89,7 @@ hit_set s states class block n x l m hit = go (nat_lt block n) refl
         ∙ block_of-at s class block l in absurd (omega arith))))
         ∙ sym (or_false (hit_below s states class n))
 
--- those of another class
+-- the numbers of another class
 hit_other : (s : Shape) (states : List PieceState) (class block other n : ℕ) (x : PieceState)
     → class < s.classes → other < s.classes → other ≢ class
     → hit_below s (set states (piece_at s class block) x) other n ≡ hit_below s states other n
@@ -209,7 +209,7 @@ lowest-shows f p hits low l =
     let within = block_of-below f.shape p l in
     sym (low.each (class_of f.shape p) (block_of f.shape p) (omega arith) (omega arith))
 
--- those of a new ledger
+-- the numbers of a new ledger
 get-replicate : {X : Type 0} (n i : ℕ) (x : X) → get_or (replicate n x) i x ≡ x
 get-replicate zero i x = refl
 get-replicate (suc n) zero x = refl

@@ -1,5 +1,5 @@
--- Lemmas on histories of a ledger: pieces, entries, what is held and settled.
--- Proofs of the crates above cite these alone.
+-- Lemmas on histories of a ledger: pieces, entries, held pieces and settled classes. Proofs of the
+-- crates above cite only these.
 pub use Rattle.fault_ledger.proofs.Acceptance.{claim_answer, drop_answer, report_answer}
 pub use Rattle.fault_ledger.proofs.ClassLooks.{ClearBelow, settled_stays, skipped_not_first}
 pub use Rattle.fault_ledger.proofs.AllSettled.{finish-all}

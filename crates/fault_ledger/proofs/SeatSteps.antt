@@ -30,7 +30,7 @@ claims_go_on : (w : ℕ) (later earlier : History) → ContinuesWithout w later 
 claims_go_on w later earlier c =
     subst (λ h. claims earlier ≤ claims h) (sym c.1) (claims_past c.0 earlier)
 
--- where all pieces were claimed, they still are
+-- if all pieces were claimed, they still are
 all_claimed : (s : Shape) (w : ℕ) (later earlier : History) → ContinuesWithout w later earlier
     → IsLegal s later → claims earlier ≡ piece_count s → claims later ≡ piece_count s
 all_claimed s w later earlier c l e = let a = legal_claims s later l in
@@ -135,7 +135,7 @@ seated_sees a b worker told classes piece clear i s = record {
   remembers = remembers_sees a b a.told clear s i.remembers;
 }
 
--- a seat that is told that all pieces are claimed
+-- a seat that gets that all pieces are claimed
 pub seated_ends : (a b : Sitter) (worker : ℕ) (told : Bool) (classes : ℕ) (piece : Option ℕ)
     (clear : List Remembered) → IsSeated a worker told classes piece clear → piece ≡ None
     → Sees a true b → claims b.seen ≡ piece_count a.place.shape
@@ -158,7 +158,7 @@ seated_ends a b worker told classes piece clear i none s all =
           (slice_index_or clear class nothing_seen) h a.seen s.newer (i.remembers class);
     })
 
--- a seat that holds a piece was not told that all are claimed
+-- a seat that holds a piece has not got that all are claimed
 pub untold : (a : Sitter) (worker : ℕ) (told : Bool) (classes : ℕ) (piece : Option ℕ)
     (clear : List Remembered) (p : ℕ) → IsSeated a worker told classes piece clear → piece ≡ Some p
     → a.told ≡ false
@@ -261,7 +261,7 @@ sees_twice a b d s t =
 pub sees_same : (a : Sitter) → IsSitter a → Sees a a.told a
 sees_same a i = record { seat = refl; newer = goes_on_same a.worker a.seen; legal = i.legal }
 
--- the replies after what a seat has seen
+-- the replies after the history that a seat has seen
 pub claim_at : (a : Sitter) (h : History) (x : Option ℕ) → IsSitter a → held_by a.worker h ≡ x
     → answer a.place.shape h (call.Claim a.worker) ≡ claim_reply a.place.shape h x
 claim_at a h x i e =
@@ -274,7 +274,7 @@ drop_at a h x i e =
     ap (λ b. if b then drop_reply a.place.shape h (held_by a.worker h) else Refused NoSuchWorker)
     (lt-ltb a.worker a.place.shape.workers i.among) ∙ ap (drop_reply a.place.shape h) e
 
--- a claim where all pieces are claimed
+-- a claim after all pieces are claimed
 pub exhausted_at : (a : Sitter) (h : History) → IsSitter a
     → held_by a.worker h ≡ None → claims h ≡ piece_count a.place.shape
     → Claimed claim_is.Exhausted ≡ answer a.place.shape h (call.Claim a.worker)
@@ -304,7 +304,7 @@ finds_nothing a b p i e s x = record {
       ∙ ap (λ c. if c then Done else Refused NoEarlierHit) x.3);
 }
 
--- where it sits stays
+-- the place of its seat stays
 pub sees_kept : (a b : Sitter) → Sees a a.told b
     → (b.place ≡ a.place) × (b.worker ≡ a.worker) × (b.told ≡ a.told)
 sees_kept a b sees = (

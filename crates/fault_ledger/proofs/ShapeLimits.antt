@@ -1,4 +1,4 @@
--- What the limits of a shape say.
+-- The meaning of the limits of a shape.
 use Rattle.std.proofs.Common.{◌≡◌, ℕ, zero, suc, ◌*◌, ◌<◌, ◌≤◌, ◌==◌, Bool, true, false}
 use Rattle.std.proofs.Common.{if◌then◌else◌, nat_lt, Some, None, refl, arith}
 use borrow.Author.Tests.{ltb-false}

@@ -36,7 +36,7 @@ use Rattle.fault_ledger.proofs.ShapeLimits.{shape_small}
 use Rattle.fault_ledger.proofs.WordFields.{sum_is_or, marked_words, marked_here, marked_else}
 use Rattle.fault_ledger.proofs.WordFields.{marked_cursor}
 
--- what `Allows` asks at one state
+-- the condition of `Allows` at one state
 abbrev Goes : {S : Type 0} → Shape → State S View → ℕ → Me S View → ℕ → (ℕ → ℕ)
     → (ℕ → Me S View → Type 0) → Type 0
 Goes {S} s t id me i f after_it = (w : View) × (a : Act S) × Valid t.homes me.1 a
@@ -130,7 +130,7 @@ module _ (s : Shape) (h : History) (words : List ℕ) (views : List View)
   held_still : held_by w h ≡ held_by w seen
   held_still = held_goes_on w h seen knows.newer
 
-  -- who holds a piece was not told that all are claimed
+  -- a worker that holds a piece has not got that all are claimed
   holder_untold : (p : ℕ) → held_by w seen ≡ Some p → told ≡ false
   holder_untold p holds = go told refl
     where

@@ -1,4 +1,4 @@
--- What a token's views say of the table seat that it becomes.
+-- The meaning of a token's views for the table seat that it becomes.
 use Rattle.std.proofs.Common.{◌≡◌, ℕ, List, [], ◌∷◌, sym, ◌∙◌}
 use Rattle.atomic_table.specs.Table.{Me}
 use Rattle.fault_ledger.specs.declared.words.View.{View}

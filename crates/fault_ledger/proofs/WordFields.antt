@@ -62,7 +62,7 @@ or_else n c i j l apart =
     nothing (yes k) = above c i j l k
     nothing (no k) = below c i j (omega arith)
 
--- a number of which a field is 0 shares no bit with one that has bits in that field alone
+-- a number with a field of 0 shares no bit with a number that has bits only in that field
 apart_at : (n c i : ℕ) → c < 256 → field n i ≡ 0 → bit_and n (c * 2 ^ (8 * i)) ≡ 0
 apart_at n c i l free =
     let k = 8 * i in
@@ -79,7 +79,7 @@ apart_at n c i l free =
     let parts = div-add-mod both (2 ^ k) in
     sym parts ∙ (λ j. 2 ^ k * (above ∙ none) j + low j) ∙ omega arith
 
--- where a field is 0, to add to it is to set its bits
+-- if a field is 0, an addition to it sets its bits
 pub sum_is_or : (n p c : ℕ) → n < 2 ^ 64 → c < 256 → field n (p % 8) ≡ 0
     → (n + in_field p c) % 2 ^ 64 ≡ bit_or n (in_field p c)
 sum_is_or n p c wide small free =

@@ -1,4 +1,4 @@
--- A group's place, the words of a new table, and what those of a closed table say of the pieces.
+-- A group's place, the words of a new table, and the pieces by the words of a closed table.
 use Rattle.std.proofs.Common.{◌≡◌, ℕ, zero, suc, ◌<◌, ◌∷◌, [], List, map, length, slice_index}
 use Rattle.std.proofs.Common.{replicate, refl, sym, ap, ◌∙◌, subst, arith}
 use mathlib.Core.Option.{some, some-injective, some-ne-none}
@@ -44,8 +44,7 @@ index_at [] i a e = absurd (some-ne-none a (sym e))
 index_at (x ∷ xs) zero a e = some-injective x a e
 index_at (x ∷ xs) (suc i) a e = index_at xs i a e
 
--- what the last state of the table says of the states that its words stand for, and of the posts of
--- the last group
+-- the last state of the table gives the states in its words, and the posts of the last group
 pub closes : (s : Shape) (id : ℕ) (v : View) (g : Crowd) (words slots : List ℕ)
     (states : List PieceState)
     → Final (Seen (IsKept {S = ℕ} s) id v) words slots → v.posts ≡ g.posts

@@ -19,7 +19,7 @@ no_head s states class blocks none e = record {
   next = λ l. absurd (omega arith);
 }
 
--- the numbers of all classes that have a piece are those of all classes
+-- the classes that have a piece are among all classes
 all_heads : (s : Shape) (states : List PieceState) (heads : List ℕ)
     → length heads ≡ min s.classes (piece_count s) → ((class : ℕ) → class < length heads
     → IsHead s states class (slice_index heads class)) → AreHeads s states heads

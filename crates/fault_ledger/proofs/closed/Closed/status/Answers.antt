@@ -25,7 +25,7 @@ within : (c : After-clear_of-clear) → c.args.class < c.self.inside.shape.class
 within c =
     subst (λ (f : ClosedFace). c.args.class < f.shape.classes) (sym c.self.view_is) c.requires
 
--- where the clear blocks of the class end
+-- the end of the clear blocks of the class
 head : (c : After-clear_of-clear)
     → IsHead c.self.inside.shape (states c) c.args.class c.clear_of-clear.result
 head c =
@@ -49,7 +49,7 @@ found : (c : After-state_of) → c.state_of.result ≡ state_in c.self.inside.sh
 found c = c.state_of.ensures ∙ ap (λ codes. state_in c.self.inside.shape
     (map state_at codes) c.args.class c.clear_of-clear.result) c.deref-2.ensures.value
 
--- the status that the states show, as the clause says it
+-- the status that the states show, in the form of the clause
 shows : (c : After-clear_of-clear) (x : Status)
     → ((h : History) → IsLegal c.self.inside.shape h → states c ≡ states_of c.self.inside.shape h
     → x ≡ status c.self.inside.shape h c.args.class)

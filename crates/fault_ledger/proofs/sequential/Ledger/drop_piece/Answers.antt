@@ -56,7 +56,7 @@ index-requires c =
     let b = s.lowest_hits.ok in
     omega arith
 
--- the number found says whether the states show an earlier hit
+-- the number found shows whether the states have an earlier hit
 abbrev Reads : In_ok-piece → ℕ → Type 0
 Reads c n =
     n ≡ get_or c.self.inside.lowest_hits.items (c.in_ok-piece.piece % c.self.inside.shape.classes) n

@@ -49,7 +49,7 @@ returns-then-known-end-clause-found c = λ _.
     hit_found s c.args.seat.now.seen p known.clear
     (subst (λ (x : ℕ × ℕ). known.clear < x.1) is c.if-known-end.true) (here.hit c.if-known.true)
 
--- where the clear blocks of the piece's class end
+-- the end of the clear blocks of the piece's class
 head : (c : After-passes_clear-head)
     → c.class_and_block-class.result ≡ class_and_block c.args.self.now.shape c.args.piece
     → EndsClear c.args.self.now.shape c.passes_clear-head.new.seat.seen

@@ -12,7 +12,7 @@ use Rattle.fault_ledger.proofs.ClassLooks.{skipped_not_first}
 use Rattle.fault_ledger.proofs.shared.SharedLedger.status.Goals as goal
 use Rattle.fault_ledger.proofs.shared.SharedLedger.status.Goals.{After-passes_clear-head}
 
--- where the clear blocks of the class end
+-- the end of the clear blocks of the class
 head : (c : After-passes_clear-head)
     → EndsClear c.args.self.now.shape c.passes_clear-head.new.seat.seen c.args.class (block_count
     c.args.self.now.shape) c.passes_clear-head.result.clear c.passes_clear-head.result.next
