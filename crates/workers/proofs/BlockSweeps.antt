@@ -54,7 +54,7 @@ hit_here c tests f block last t at le h =
           ))) (omega (arith, lt, same)),
     )
 
--- no test of the block does, where the first one is of another
+-- no test of the block does, if the first one is in another block
 clear_here : (c : List Statement) (tests : List Test) (f : Fault) (block last : ℕ)
     (hit : Option ℕ) → ((t : ℕ) → hit ≡ Some t → t / 64 ≢ block) → block ≤ last
     → IsFirstIn c tests (between block last) f hit → IsOutcome c tests f block Clear
@@ -67,7 +67,7 @@ clear_here c tests f block last (Some t) other le h = λ k lt.
 clear_here c tests f block last None other le h = λ k lt.
     h (64 * block + k) (in_block (length tests) block last block k (omega arith) le lt)
 
--- and then it is the first behind the block
+-- and then it is the first after the block
 later : (c : List Statement) (tests : List Test) (f : Fault) (block last : ℕ)
     (hit : Option ℕ) → ((t : ℕ) → hit ≡ Some t → t / 64 ≢ block)
     → IsFirstIn c tests (between block last) f hit
@@ -196,7 +196,7 @@ module _ (job : Parts) (rows : List ListedClass) (firsts : List (Option ℕ)) (s
       let was = still_open x k row low idle in
       before k row (omega (arith, le)) lt was.1
 
-  -- what was found out there
+  -- the first tests that were found there
   pub told_at : (now : ListedClass) (hit : Option ℕ) (found : ℕ)
       → HaveFirstsFrom job rows firsts sweep place found hits → place < found
       → slice_get rows place ≡ Some now → slice_get firsts place ≡ Some None

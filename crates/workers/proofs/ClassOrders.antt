@@ -73,7 +73,7 @@ abbrev OneEach : List Ranked → Type 0
 OneEach l = (i j : ℕ) (d : Ranked) → i < length l → j < length l
     → (get_or l i d).class ≡ (get_or l j d).class → i ≡ j
 
--- where an element stood before a swap
+-- the place of an element before a swap
 abbrev Stood : ℕ → ℕ → ℕ → ℕ → Type 0
 Stood a b m n = ((m ≡ a) × (n ≡ b)) ⊎ (((m ≡ b) × (n ≡ a)) ⊎ ((m ≢ a) × (m ≢ b) × (n ≡ m)))
 
@@ -207,7 +207,7 @@ numbered_more job visits n xs at was is own = record {
       subst (IsRanked job visits) h.1 own,
     )
 
--- ---- those of a part
+-- ---- the classes of a part
 
 -- what is kept stood there before
 pub kept_place : {X : Type 0} (p : X → Bool) (xs : List X) (k : ℕ) (x : X)

@@ -1,4 +1,4 @@
--- What a closed ledger says of the run.
+-- The meaning of a closed ledger for the run.
 use Rattle.std.proofs.Common.{◌≡◌, ◌<◌, ◌≤◌, ◌+◌, ◌⊎◌, inl, inr, ℕ, zero, suc, List, [], ◌∷◌, map}
 use Rattle.std.proofs.Common.{length, All, Option, None, get_or, refl, sym, ap, ◌∙◌, subst, arith}
 use Rattle.std.specs.Prelude.{count_by, slice_get}
@@ -91,7 +91,7 @@ module _ (job : Parts) (over : ClassSelection) (p : Place) (P : Type 0) (S : Sto
           (subst (λ (q : Place). AreSettled q.shape x.0.seen q.shape.classes) x.2.place_is
           settled)
 
-  -- where a class waits each worker was stopped, or all pieces are claimed
+  -- if a class waits, each worker was stopped, or all pieces are claimed
   pub each_ended : IsLegal p.shape h → (class block : ℕ)
       → finish p.shape h ≡ finish_is.Waiting class block → (w : ℕ) → w < p.shape.workers
       → IsStopped p.shape (stops_over over S) w h ⊎ (claims h ≡ piece_count p.shape)

@@ -43,7 +43,7 @@ module _ (job : Parts) (order : List ℕ) (all : AreAllByRegion job order) where
       is_kept (λ c. get_or marks c false) order here.0 class here.1
       (get_or_from_slice_get marks class true false (marked.each k class low at))
 
--- the first tests of the classes of a list, by those of the classes that are kept
+-- the first tests of the classes of a list, from the first tests that are kept
 pub asked_firsts : (job : Parts) (classes listed : List ℕ) (firsts found : List (Option ℕ))
     (table : List PartVerdict)
     → ((k class : ℕ) → slice_get classes k ≡ Some class

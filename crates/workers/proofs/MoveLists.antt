@@ -251,9 +251,8 @@ idle t s h w l same = go (held_by w h) refl
             ∙ ap (λ x. cond x (Event.Drop w ∷ h)
             (Event.Report w (t (class_of s p) (block_of s p)) ∷ h)) q) ∙ same)
 
--- What moves have done: what the ledger shows, how many pieces were dropped, and whether there was
--- an event; where
--- there was none, no worker that moved has anything left to do.
+-- The effect of moves: the face of the ledger, the number of dropped pieces, and whether there was
+-- an event. If there was none, no worker that moved has anything left to do.
 abbrev pub Done : Table → Shape → History → List ℕ → Face → ℕ → Bool → Type 0
 Done t s h xs new skipped changed = (new ≡ face s (after_moves t s h xs))
     × IsLegal s (after_moves t s h xs)
@@ -354,7 +353,7 @@ turns_sum w (suc n) m = ap (turns w) (let q : suc n + m ≡ suc (n + m) = omega 
     ∙ ap (λ xs. below w ++ xs) (turns_sum w n m)
     ∙ sym (append_assoc (below w) (turns w n) (turns w m))
 
--- where all pieces are claimed and no worker holds one, moves change nothing
+-- if all pieces are claimed and no worker holds one, moves change nothing
 over_moved : (t : Table) (s : Shape) (h : History) (xs : List ℕ) → claims h ≡ piece_count s
     → ((w : ℕ) → w < s.workers → held_by w h ≡ None) → All (λ w. w < s.workers) xs
     → after_moves t s h xs ≡ h

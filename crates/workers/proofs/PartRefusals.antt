@@ -1,4 +1,4 @@
--- Refusals of a run in parts whose gate lets every piece pass.
+-- Errors of a run in parts whose gate lets every piece pass.
 use Rattle.std.proofs.Common.{◌≤◌, ◌/◌, ℕ, zero, suc, arith, length}
 use Rattle.std.proofs.Math.Nat.{div-add-mod, div-zero, mul-le-mul_right, suc-mul}
 use Rattle.std.specs.Prelude.{⊤}
@@ -15,7 +15,7 @@ pub ceil_le : (n parts : ℕ) → stretch_size n parts ≤ n
 ceil_le n zero = omega (arith, div-zero n, div-add-mod n 0)
 ceil_le n (suc parts) = omega (arith, div-add-mod n (suc parts), suc-mul parts (n / suc parts))
 
--- it is refused as a run is
+-- it has the errors of a run
 pub parts_fault : (job : Parts) (parts workers : ℕ) (f : RunFault)
     → IsPartsFault job parts workers ⊤ no_stop f → IsRunFault job workers ⊤ no_stop f
 parts_fault job parts workers run_fault.NoWorkers h = h

@@ -38,7 +38,7 @@ use Rattle.workers.specs.Verdict.{pieces_after}
 use Rattle.workers.proofs.TrueOutcomes.{class_count, class_in}
 use Rattle.workers.proofs.ClassOrders.{is_kept, kept_few, kept_order, kept_place}
 
--- the part of a class is that of its one stem
+-- the part of a class is the part of its one stem
 pub part_of_stem : (job : Parts) (parts part class stem : ℕ)
     → IsStemOfClass job.list.model job.circuit class stem → IsOfPart job parts part class
     → part ≡ stem % parts
@@ -60,7 +60,7 @@ one_part job parts class b some lt =
       λ other of. part_of_stem job parts other class stem.0 stem.2 of,
     )
 
--- classes by region: those of ranked ones for which this holds, in their order
+-- classes by region: the ranked ones with a property, in their order
 by_region : (job : Parts) (Holds : ℕ → Type 0) (ranked kept : List Ranked) (classes : List ℕ)
     → (are : AreRanked job ranked)
     → ((k : ℕ) (at : Ranked) → slice_get kept k ≡ Some at
@@ -134,7 +134,7 @@ all_list job ranked classes are is =
 abbrev pub is_own : ℕ → ℕ → Ranked → Bool
 is_own part parts at = at.stem % parts == part
 
--- those of a part
+-- the classes of a part
 pub part_list : (job : Parts) (parts part : ℕ) (ranked : List Ranked) (classes : List ℕ)
     → AreRanked job ranked
     → classes ≡ map (λ (r : Ranked). r.class) (filter (is_own part parts) ranked)
@@ -310,7 +310,7 @@ part_verdicts job parts part classes firsts table verdicts b own found by is = r
         (λ here. let k = own.all class lt here in
         x.0 k.0 (slice_get_within classes k.0 class k.1) k.1)
 
--- the first tests of two lists of classes are those of both together
+-- the first tests of two lists of classes are the first tests of both together
 append_firsts : (m : Model) (c : List Statement) (tests : List Test) (xs ys : List ℕ)
     (f g : List (Option ℕ)) → AreClassFirsts m c tests xs f → AreClassFirsts m c tests ys g
     → AreClassFirsts m c tests (xs ++ ys) (f ++ g)
@@ -382,7 +382,7 @@ stretch_within job size part classes are =
     All-take (λ class. class < length job.classes.representative) size (drop (part * size) classes)
     (All-drop (λ class. class < length job.classes.representative) (part * size) classes are)
 
--- the first test in the verdict on a class is that of its faults
+-- the first test in the verdict on a class is the first test of its faults
 pub class_first : (job : Parts) (classes : List ℕ)
     (firsts : List (Option ℕ)) (table : List PartVerdict) → AreAllByRegion job classes
     → AreClassFirsts job.list.model job.circuit job.tests.tests classes firsts
@@ -402,7 +402,7 @@ class_first job classes firsts table all known by f class lt of = go (by.each cl
         let y = all.all class lt tt in
         absurd (x.0 y.0 (slice_get_within classes y.0 class y.1) y.1)
 
--- the first tests of all classes are those of all faults
+-- the first tests of all classes are the first tests of all faults
 pub all_firsts : (job : Parts) (classes : List ℕ)
     (firsts found : List (Option ℕ)) (table : List PartVerdict) → BelongTogether job
     → AreAllByRegion job classes
@@ -494,7 +494,7 @@ part_verdict_there job classes firsts table verdicts b by is i class first at v 
         let bad : OtherPart ≡ First first = sym own ∙ e in
         absurd (cc)
 
--- and the pieces behind them are behind the hits of all classes
+-- and the pieces after them are after the hits of all classes
 pub all_hits : (job : Parts) (classes : List ℕ)
     (firsts : List (Option ℕ)) (table : List PartVerdict) (n skipped : ℕ)
     → AreAllByRegion job classes
@@ -527,7 +527,7 @@ behind_le n (Some test) = omega arith
 pub behind_within : (n r : ℕ) (first : Option ℕ) → r ≡ blocks_after n first → r ≤ n
 behind_within n r first is = omega (arith, is, behind_le n first)
 
--- those of the classes before one leave room for its own
+-- the classes before one leave room for its own
 pub behind_room : (n : ℕ) (table : List PartVerdict) (i : ℕ) → i < length table
     → pieces_after n (map first_in (take i table)) + n ≤ length table * n
 behind_room n [] i lt = absurd (omega (arith, lt))

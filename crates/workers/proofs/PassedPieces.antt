@@ -20,7 +20,7 @@ passed_none job classes worker S = λ k class b at e still must. go k b e
     go k b (inl lt) = omega (arith, lt)
     go k b (inr x) = let lt = x.1 in omega (arith, lt)
 
--- behind the last place all of the block are passed
+-- after the last place all of the block are passed
 pub passed_block : (job : Parts) (classes : List ℕ) (worker : ℕ) (S : Stops) (place block : ℕ)
     → length classes ≤ place → ArePassed job classes worker S place block
     → ArePassed job classes worker S 0 (block + 1)

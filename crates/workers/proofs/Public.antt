@@ -1,2 +1,2 @@
--- Lemmas on how runs are refused. Proofs of the crates above cite these alone.
+-- Lemmas on the errors of runs. Proofs of the crates above cite only these.
 pub use Rattle.workers.proofs.PartRefusals.{parts_fault}

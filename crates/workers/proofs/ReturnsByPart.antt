@@ -13,14 +13,14 @@ use Rattle.workers.specs.StretchRuns.{AreGivenBack, ArePut}
 use Rattle.workers.specs.Stretches.{AreApart}
 use Rattle.workers.proofs.ClassOrders.{pushed}
 
--- what stands in a list stands there still with more behind it
+-- an element of a list stays at its place if more elements follow
 pub kept : {X : Type 0} (xs ys : List X) (k : ℕ) (x : X) → slice_get xs k ≡ Some x
     → slice_get (xs ++ ys) k ≡ Some x
 kept [] ys k x e = let bad : None ≡ Some x = e in absurd (cc)
 kept (z ∷ xs) ys zero x e = e
 kept (z ∷ xs) ys (suc k) x e = kept xs ys k x e
 
--- and one more stands behind it
+-- and one more element follows it
 pub last_of : {X : Type 0} (xs : List X) (x : X) → slice_get (xs ++ x ∷ []) (length xs) ≡ Some x
 last_of [] x = refl
 last_of (z ∷ xs) x = last_of xs x
@@ -52,7 +52,7 @@ set_full [] i d e = let bad : None ≡ Some None = e in absurd (cc)
 set_full (z ∷ xs) zero d e = let bad : Some (Some d) ≡ Some None = e in absurd (cc)
 set_full (z ∷ xs) (suc i) d e = set_full xs i d e
 
--- nothing stands behind the end
+-- no element follows the end
 behind_end : (xs : List (Option Done)) (k : ℕ) → length xs ≤ k → slice_get xs k ≢ Some None
 behind_end xs k le e = let lt = slice_get_within xs k None e in absurd (omega (arith, le, lt))
 

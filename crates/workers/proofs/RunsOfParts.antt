@@ -27,7 +27,7 @@ use Rattle.workers.proofs.PartsOfClasses.{FirstsUpTo, firsts_more, stretch_withi
 use Rattle.workers.proofs.ClassOrders.{pushed}
 use Rattle.workers.proofs.StretchRuns.{done_high, lowest_along, lowest_join}
 
--- where all blocks are done the first tests are found
+-- if all blocks are done, the first tests are found
 pub firsts_found : (job : Parts) (classes : List ℕ) (firsts : List (Option ℕ)) → BelongTogether job
     → AreFoundUpTo job classes 0 (blocks (length job.tests.tests)) firsts
     → AreClassFirsts job.list.model job.circuit job.tests.tests classes firsts
@@ -65,7 +65,7 @@ pub none_open : (job : Parts) (classes : List ℕ) (lowest : Option Waiting)
 none_open job classes None is = refl
 none_open job classes (Some w) is = absurd is.0
 
--- ---- the runs of which a table tells
+-- ---- the runs in a table
 
 -- one more
 pub runs_push : (size : ℕ) (classes : List ℕ) (part : ℕ) (table : List (Option Done))
@@ -88,7 +88,7 @@ pub runs_count : (size : ℕ) (classes : List ℕ) (part : ℕ) (table : List (O
 runs_count size classes part [] = refl
 runs_count size classes part (x ∷ table) = ap suc (runs_count size classes (part + 1) table)
 
--- that of a place
+-- the run at a place
 run_from : (size : ℕ) (classes : List ℕ) (part : ℕ) (table : List (Option Done)) (k : ℕ)
     (place : Option Done) → slice_get table k ≡ Some place
     → slice_get (runs_from size classes part table) k
@@ -113,7 +113,7 @@ run_there size classes table part place e =
     run_from size classes 0 table part place e
     ∙ ap (λ n. Some (run_at (stretch size classes n) place)) here
 
--- and each is that of a place
+-- and each is at a place
 pub run_back : (size : ℕ) (classes : List ℕ) (table : List (Option Done)) (part : ℕ)
     (run : PartRun) → slice_get (runs_from size classes 0 table) part ≡ Some run
     → (place : Option Done) × (slice_get table part ≡ Some place)
@@ -150,7 +150,7 @@ waits_more job runs run lowest own lower was is lo =
     from c b x (inr h) = inr (subst (λ (r : PartRun). IsOpenIn job r.classes r.stop c b)
         (sym h.1) x.3)
 
--- a worker that was stopped was so where its gate may
+-- a worker that was stopped was so at a piece where its gate may
 stopped_there : (job : Parts) (classes : List ℕ) (worker : ℕ) (S : Stops) (stop : Option Stop)
     (firsts : List (Option ℕ)) → HasEnded job classes worker S stop firsts
     → (at : Stop) → stop ≡ Some at → IsStopAt job classes worker S at
@@ -209,7 +209,7 @@ unbegun_so : (job : Parts) (size : ℕ) (classes : List ℕ) (workers : ℕ) (S 
 unbegun_so job size classes workers S runs [] stopped = (refl, (refl, stopped))
 unbegun_so job size classes workers S runs (class ∷ own) stopped = (refl, (refl, stopped))
 
--- a class of it waits only where it has one
+-- a class of it waits only if it has one
 unbegun_open : (job : Parts) (own : List ℕ) (class block : ℕ)
     → IsOpenIn job (unbegun_run own).classes (unbegun_run own).stop class block → 0 < length own
 unbegun_open job [] class block x = absurd x
@@ -230,7 +230,7 @@ unbegun_lowest job [] lowest is = lowest_along (IsOpenIn job [] (Some at_first))
     (λ class block x. absurd x) is
 unbegun_lowest job (class ∷ own) lowest is = is
 
--- and where it has one it waits
+-- and if it has one, it waits
 unbegun_waits : (job : Parts) (own : List ℕ) → 0 < length own → 0 < blocks (length job.tests.tests)
     → (class : ℕ) × IsOpenIn job (unbegun_run own).classes (unbegun_run own).stop class 0
 unbegun_waits job [] some block = absurd (omega (arith, some))
@@ -262,7 +262,7 @@ begun own (Some done) run w e q =
     let both : Some done.worker ≡ Some w = sym (ap (λ (r : PartRun). r.worker) e) ∙ q in
     (done, refl, cc, ap (λ (r : PartRun). r.stop) e)
 
--- where a worker was stopped a class waits
+-- if a worker was stopped, a class waits
 stopped_waits : (job : Parts) (size : ℕ) (classes : List ℕ) (worker : ℕ) (P : Type 0) (S : Stops)
     (done : Done) (stop : Stop) → IsDone job size classes worker P S done → done.stop ≡ Some stop
     → (v : Waiting) × (done.waiting ≡ Some v)
@@ -367,7 +367,7 @@ module _ (job : Parts) (size : ℕ) (classes : List ℕ) (workers : ℕ) (P : Ty
         },
       )
 
-  -- what is known of each place tells its lowest class
+  -- the results at each place give its lowest class
   pub all_lowest : AreAllLowest job size classes table
   all_lowest part place at = go place at
     where
@@ -379,7 +379,7 @@ module _ (job : Parts) (size : ℕ) (classes : List ℕ) (workers : ℕ) (P : Ty
           subst (λ n. IsLowest (IsOpenIn job (stretch size classes n) done.stop) done.waiting) f.0
           f.2.lowest
 
-  -- where no class waits all places are whole
+  -- if no class waits, all places are whole
   pub none_whole : IsLowest (WaitsIn job runs) None → AreWhole size classes table
   none_whole none part place at = go place at
     where
@@ -417,7 +417,7 @@ module _ (job : Parts) (size : ℕ) (classes : List ℕ) (workers : ℕ) (P : Ty
                 x.1,
               ))
 
-  -- and whole places tell the first tests
+  -- and whole places give the first tests
   pub whole_found : BelongTogether job → AreWhole size classes table
       → AreAllFound job size classes table
   whole_found b whole part place at = go place at (whole part place at)
@@ -436,7 +436,7 @@ module _ (job : Parts) (size : ℕ) (classes : List ℕ) (workers : ℕ) (P : Ty
 
 -- ---- first tests, one stretch after another
 
--- those of a stretch more
+-- the runs of a stretch more
 pub firsts_joined : (job : Parts) (size : ℕ) (classes : List ℕ) (part : ℕ)
     (firsts : List (Option ℕ)) (done : Done)
     → IsFoundAt job (stretch size classes part) (Some done)

@@ -46,7 +46,7 @@ claim_moves t s h w among free =
     same true = refl
     same false = refl
 
--- a drop is the move of a worker whose piece stands behind a hit
+-- a drop is the move of a worker whose piece comes after a hit
 pub drop_moves : (t : Table) (s : Shape) (h : History) (w p : ℕ) → w < s.workers
     → held_by w h ≡ Some p
     → has_earlier_hit s h p ≡ true → after s h (call.Drop w) ≡ move t s h w
@@ -116,7 +116,7 @@ move_true t s h w to = go (held_by w h) refl
         pick true = to
         pick false = (subst (λ x. Gives s t x (t (class_of s p) (block_of s p))) (sym e) refl, to)
 
--- the piece whose class and block were told
+-- the piece of the returned class and block
 piece_of : (s : Shape) (x : Option ℕ) (class block : ℕ)
     → Some (class, block) ≡ option_map {U = ℕ × ℕ} (class_and_block s) x → (p : ℕ) × (x ≡ Some p)
     × (class ≡ class_of s p) × (block ≡ block_of s p)
@@ -141,7 +141,7 @@ told_range job s h w class block is l e =
           (subst (λ n. block_of s p.0 < blocks n) is.tests (block_of-below s p.0 lt)),
     )
 
--- a drop that was refused found no hit
+-- a drop that failed found no hit
 drop_missed : (s : Shape) (h : History) (w p : ℕ) (r : Refusal) → w < s.workers
     → held_by w h ≡ Some p
     → Refused r ≡ answer s h (call.Drop w) → has_earlier_hit s h p ≡ false

@@ -33,7 +33,7 @@ use Rattle.workers.specs.Work.{WorksOver}
 use Rattle.workers.proofs.TrueOutcomes.{true_fits}
 use Rattle.workers.proofs.SettledLedgers.{settled_past}
 
--- where no event is the worker's, none is its report
+-- if no event is the worker's, none is its report
 pub reports_none : (H : Outcome → History → Type 0) (w : ℕ) (newer earlier : History)
     → NoneOf w newer → EachReport H w newer earlier
 reports_none H w [] earlier n = tt
@@ -207,7 +207,7 @@ reported job over a b o r m t n = (
       ∙ ap (λ t. cond t None (held_by a.worker m.before)) (eq-eqb a.worker a.worker refl),
 )
 
--- a seat that holds a piece is not told that it holds none
+-- a seat that holds a piece never gets that it holds none
 pub holds_some : (a b : Sitter) (p : ℕ) → IsSitter a → held_by a.worker a.seen ≡ Some p
     → Stays a (call.Drop a.worker) (Refused NothingHeld) b → ⊥
 holds_some a b p i e s = go (has_earlier_hit a.place.shape a.seen p) (s.replied
@@ -217,7 +217,7 @@ holds_some a b p i e s = go (has_earlier_hit a.place.shape a.seen p) (s.replied
     go true q = absurd (cc)
     go false q = absurd (cc)
 
--- a drop of a seat that holds a piece, where it was refused
+-- a drop of a seat that holds a piece, if it fails
 pub missed : (a b : Sitter) (p : ℕ) → IsSitter a → held_by a.worker a.seen ≡ Some p → (r : Refusal)
     → ((r ≡ NothingHeld) ⊎ (r ≡ NoEarlierHit))
     → (r ≡ NothingHeld → Stays a (call.Drop a.worker) (Refused r) b)
@@ -229,7 +229,7 @@ missed a b p i holding r which stays finds = go which
         (subst (λ x. Stays a (call.Drop a.worker) (Refused x) b) e (stays e)))
     go (inr e) = finds e
 
--- a seat that holds none is not told that it holds a piece
+-- a seat that holds none never gets that it holds a piece
 pub holds_none : (a b : Sitter) → IsSitter a → held_by a.worker a.seen ≡ None
     → Stays a (call.Claim a.worker) (Refused Holding) b → ⊥
 holds_none a b i e s = go (nat_lt (claims a.seen) (piece_count a.place.shape)) (s.replied
@@ -254,7 +254,7 @@ true_of_piece job over s class block o x lt e t =
     (subst (λ k. IsTrueOutcome job.list.model job.circuit job.tests.tests (over.class_at class) k o)
     (sym (block_of-at s class block lt)) t))
 
--- a true outcome of the piece that a seat holds is not refused
+-- a true outcome of the piece that a seat holds is accepted
 pub report_taken : (job : Parts) (over : ClassSelection) (a b : Sitter) (class block : ℕ)
     (o : Outcome)
     (r : _) → IsSitter a → IsShapeOver job over a.place.shape → class < a.place.shape.classes
@@ -322,7 +322,7 @@ module _ (job : Parts) (over : ClassSelection) (a b : Sitter) (p : Place) (class
         (subst (λ (q : Place). IsShapeOver job over q.shape) (sym here) own) own_class_b still
         true s
 
--- the work of a claim that was told that all pieces are claimed
+-- the work after a claim that got that all pieces are claimed
 pub exhausted : (job : Parts) (over : ClassSelection) (a b : Sitter) (r : Reply) → IsSitter a
     → (a.told ≡ false → Sees a true b) → (a.told ≡ true → Stays a (call.Claim a.worker) r b)
     → WorksOver job over a b
@@ -355,7 +355,7 @@ fewer job over a b d p class block at m x =
     let grew = g.3 in
     omega arith
 
--- what finish_piece asks after a claim
+-- the requirements of finish_piece after a claim
 pub then_held : (a b : Sitter) (p : Place) (class block : ℕ) → a.place ≡ p
     → Makes a (Event.Claim a.worker) (Claimed (claim_is.Piece class block)) b
     → (held_by b.worker b.seen ≡ Some (piece_at p.shape class block)) × (class < p.shape.classes)

@@ -70,7 +70,7 @@ open_held s p (Event.Drop u ∷ h) l c e = go (λ q. open_held s p h l.1 c q) (h
         subst (λ w. held_by w h ≡ Some p) r i.2 in let z = held-holds u p h y in absurd (cc)) in
         (i.0, i.1, ap (λ b. cond b None (held_by i.0 h)) apart ∙ i.2)
 
--- where all pieces are claimed and no worker holds one, none is open
+-- if all pieces are claimed and no worker holds one, none is open
 pub none_open : (s : Shape) (h : History) → IsLegal s h → claims h ≡ piece_count s
     → ((w : ℕ) → w < s.workers → held_by w h ≡ None) → (p : ℕ) → p < piece_count s
     → entry p h ≢ state.Open

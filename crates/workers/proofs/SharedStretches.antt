@@ -126,7 +126,7 @@ shared {E} {Z} job size classes p P S back seats dones closed served apart close
       );
 }
 
--- what the closed ledger says of its end
+-- the end of the closed ledger
 pub face_finish : {Z : Type 0} (job : Parts) (size : ℕ) (classes : List ℕ) (s : Shape) (P : Type 0)
     (S : Stops) (dones : List (Vec Done Z)) (face : ClosedFace) (end : Finish)
     → (all : AreShared job size classes s P S dones face)
@@ -243,7 +243,7 @@ claimed_by s H p (Event.Claim u ∷ h) l lt each =
 claimed_by s H p (Event.Report u o ∷ h) l lt each = claimed_by s H p h l.1 lt each
 claimed_by s H p (Event.Drop u ∷ h) l lt each = claimed_by s H p h l.1 lt each
 
--- where a class of a stretch waits the gate stopped the worker in it
+-- if a class of a stretch waits, the gate stopped the worker in it
 stopped_in : (job : Parts) (size : ℕ) (classes : List ℕ) (w : ℕ) (P : Type 0) (S : Stops)
     (done : Done) (v : Waiting) → done.waiting ≡ Some v → IsDone job size classes w P S done
     → (P → ⊥) × (stop : Stop) × (done.stop ≡ Some stop)
@@ -332,7 +332,7 @@ module _ {Z : Type 0} (job : Parts) (parts size : ℕ) (classes : List ℕ) (wor
           absurd (given.all x.0 own among.0 among.1 x.2.1 among.2
           (subst (λ q. slice_get table q ≡ Some None) (sym among.3) none))
 
-  -- where a worker was stopped in a stretch, what stands at its place in the table says so
+  -- if a worker was stopped in a stretch, its place in the table has that
   stopped_there : (w : ℕ) (own : Vec Done Z) (k : ℕ) (done : Done) (v : Waiting)
       → slice_get back w ≡ Some own → slice_get own.items k ≡ Some done → done.waiting ≡ Some v
       → (P → ⊥) × IsStoppedAmong job S (runs_from size classes 0 table) w
@@ -393,7 +393,7 @@ module _ {Z : Type 0} (job : Parts) (parts size : ℕ) (classes : List ℕ) (wor
       go (Some None) q = absurd (given.all w own k done at there q)
       go (Some (Some x)) q = by_place x q
 
-  -- and where no worker began one each was stopped
+  -- and if no worker began one, each was stopped
   all_stopped : (part : ℕ) → slice_get table part ≡ Some None → part < n → (w : ℕ) → w < crew
       → (P → ⊥) × IsStoppedAmong job S (runs_from size classes 0 table) w
   all_stopped part none low w lt =
@@ -447,7 +447,7 @@ module _ {Z : Type 0} (job : Parts) (parts size : ℕ) (classes : List ℕ) (wor
         sym g.0 ∙ (part ∙ e.0);
   }
 
-  -- where all places are whole the ledger is finished
+  -- if all places are whole, the ledger is finished
   pub whole_finished : AreWhole size classes table → finish shape h ≡ finish_is.Finished
   whole_finished whole =
       settled_finished shape h (all_settled shape h all.legal (λ p lt e. closed p lt e))
@@ -477,7 +477,7 @@ module _ {Z : Type 0} (job : Parts) (parts size : ℕ) (classes : List ℕ) (wor
               let bad = sym e ∙ here in
               absurd (cc)
 
-  -- and where the ledger is finished all places are whole
+  -- and if the ledger is finished, all places are whole
   pub finished_whole : finish shape h ≡ finish_is.Finished → AreWhole size classes table
   finished_whole finished part place at = go place at
     where
@@ -534,7 +534,7 @@ dropped_place (suc n) [] k m x is e = let bad : None ≡ Some x = e in absurd (c
 dropped_place (suc n) (z ∷ xs) k zero x is e = absurd (omega (arith, is))
 dropped_place (suc n) (z ∷ xs) k (suc m) x is e = dropped_place n xs k m x (omega (arith, is)) e
 
--- those of a stretch are among those of all
+-- the classes of a stretch are among all classes
 firsts_of_stretch : (job : Parts) (size part : ℕ) (classes : List ℕ) (firsts : List (Option ℕ))
     → AreClassFirsts job.list.model job.circuit job.tests.tests classes firsts
     → AreClassFirsts job.list.model job.circuit job.tests.tests (stretch size classes part)
@@ -576,7 +576,7 @@ reports_stand s job size classes firsts w (Event.Report u o ∷ h) l known = (
   reports_stand s job size classes firsts w h l.1 known,
 )
 
--- what was found of all stretches, where the ledger is finished
+-- the results for all stretches, if the ledger is finished
 pub of_stretches : {Z : Type 0} (job : Parts) (size : ℕ) (classes : List ℕ) (workers : ℕ)
     (P : Type 0) (S : Stops) (back : List (Vec Done Z)) (firsts : List (Option ℕ))
     (closed : ClosedFace)

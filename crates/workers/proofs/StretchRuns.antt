@@ -1,4 +1,4 @@
--- What a worker that runs a list alone has found, piece by piece.
+-- The results of a worker that runs a list by itself, piece by piece.
 use Rattle.std.proofs.Common.{◌≡◌, ◌≢◌, ◌<◌, ◌≤◌, ◌+◌, ◌*◌, ◌⊎◌, inl, inr, ℕ, zero, suc}
 use Rattle.std.proofs.Common.{List, [], ◌∷◌, map, length, set, All, Option, Some, None, refl}
 use Rattle.std.proofs.Common.{sym, ap, ◌∙◌, subst, arith}
@@ -39,7 +39,7 @@ hit_kept row first (suc n) t is = go (hit_kept row (first + 1) n t) (row first) 
     go rest Clear e = rest e
     go rest (Hit k) e = e
 
--- where nothing is hit, one block more has its own hit
+-- if nothing is hit, one block more has its own hit
 hit_more : (row : ℕ → Outcome) (first n : ℕ) → first_hit first (map row (from_up first n)) ≡ None
     → first_hit first (map row (from_up first (suc n))) ≡ hit_at (first + n) (row (first + n))
 hit_more row first zero is = let e : first ≡ first + 0 = omega arith in
@@ -118,7 +118,7 @@ found_none job classes firsts count none = record {
       ∙ ap (λ n. least table n class) (one_count 0 0 k 0 n (done_high 0 0 k (omega arith)) up);
 }
 
--- behind the last place the block is done
+-- after the last place the block is done
 pub found_block : (job : Parts) (classes : List ℕ) (place block : ℕ) (firsts : List (Option ℕ))
     → length classes ≤ place → AreFoundUpTo job classes place block firsts
     → AreFoundUpTo job classes 0 (block + 1) firsts
@@ -183,7 +183,7 @@ found_known job classes place block t firsts at was =
     same ∙ sym (least_kept table block class t (sym before)))
     was
 
--- the class at a place is one of those that no earlier block detects
+-- the class at a place is one that no earlier block detects
 pub undetected : (job : Parts) (classes : List ℕ) (place block k class n : ℕ)
     (firsts : List (Option ℕ)) → slice_get classes k ≡ Some class → slice_get firsts k ≡ Some None
     → AreEarlier place block k n → AreFoundUpTo job classes place block firsts
@@ -199,7 +199,7 @@ undetected_here job classes place block class firsts ec ef was =
     undetected job classes place block place class block firsts ec ef
     (done_high place block place (omega arith)) was
 
--- its true outcome is that of each true table
+-- its true outcome is the outcome of each true table
 told : (job : Parts) (table : Table) (class block : ℕ) (o : Outcome) → BelongTogether job
     → IsTableOf job table → class < length job.classes.representative
     → block < blocks (length job.tests.tests)
@@ -273,7 +273,7 @@ pub lowest_along : (P Q : ℕ → ℕ → Type 0) (lowest : Option Waiting) → 
 lowest_along P Q None to from is = λ c b q. is c b (from c b q)
 lowest_along P Q (Some w) to from is = (to w.class w.block is.0, λ c b q. is.1 c b (from c b q))
 
--- none is no higher than one of a kind only where there is none of it
+-- none is no higher than a waiting class only if none waits
 lowest_none : (P : ℕ → ℕ → Type 0) (f : Option Waiting) → IsNoHigher None f → IsLowest P f
     → (c b : ℕ) → P c b → ⊥
 lowest_none P None h p = p

@@ -63,7 +63,7 @@ claims_stretch a b p class block at tests m =
       within = g.1;
     }
 
--- a claim that was told that all are claimed
+-- a claim that got that all are claimed
 pub sees_all : (a b : Sitter) (r : Reply) → IsSitter a → IsSitter b → b.told ≡ true
     → (b.place ≡ a.place) × (b.worker ≡ a.worker)
     → (a.told ≡ false → Sees a true b) → (a.told ≡ true → Stays a (call.Claim a.worker) r b)
@@ -99,7 +99,7 @@ claim_holds a b part c =
     ∙ ap (λ t. cond t (Some (claims c.before)) (held_by a.worker c.before))
     (eq-eqb a.worker a.worker refl) ∙ ap Some (sym c.number))
 
--- a report of a held stretch is not refused
+-- a report of a held stretch is accepted
 pub clear_taken : (a b : Sitter) (p : ℕ) (r : Refusal) → IsSitter a
     → held_by a.worker a.seen ≡ Some p
     → Stays a (call.Report a.worker outcome.Clear) (Refused r) b → ⊥
@@ -230,7 +230,7 @@ module _ (job : Parts) (size : ℕ) (classes : List ℕ) (place : Place) (w : �
         }));
   }
 
-  -- what accounts for the claims does so later, where the worker does nothing
+  -- results that account for the claims do so later, if the worker does nothing
   pub accounts_on : (later earlier : History) (dones : List Done)
       → ContinuesWithout w later earlier → Accounts job size classes w P S earlier dones
       → Accounts job size classes w P S later dones
@@ -292,7 +292,7 @@ module _ (job : Parts) (size : ℕ) (classes : List ℕ) (place : Place) (w : �
         };
       }
 
-  -- and nothing is held where it was reported
+  -- and nothing is held after a report
   pub serving_free : (a b d : Sitter) (part : ℕ) (x : Option Waiting) → ClaimsStretch a part b
       → AfterRun b x d → x ≡ None → held_by d.worker d.seen ≡ None
   serving_free a b d part x c after none =

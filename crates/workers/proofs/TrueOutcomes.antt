@@ -47,7 +47,7 @@ true_fits job s class block (outcome.Hit k) is t =
 abbrev pub table_over : ClassSelection → Table → Table
 table_over over table k block = table (over.class_at k) block
 
--- where a history is true to the true table of chosen classes, a settled class has its first test
+-- if a history is true to the true table of chosen classes, a settled class has its first test
 pub first_over : (job : Parts) (over : ClassSelection) (s : Shape) (table : Table) (h : History)
     → BelongTogether job → IsShapeOver job over s → IsTableOf job table
     → IsTrueTo s (table_over over table) h

@@ -28,7 +28,7 @@ AllTrue job over s (Event.Report u o ∷ h) = GivesTrue job over s (held_by u h)
 AllTrue job over s (Event.Claim u ∷ h) = AllTrue job over s h
 AllTrue job over s (Event.Drop u ∷ h) = AllTrue job over s h
 
--- where each worker's reports do
+-- if each worker's reports do
 pub all_true : (job : Parts) (over : ClassSelection) (s : Shape) (h : History) → IsLegal s h
     → ((w : ℕ) → w < s.workers → ReportsTruly job over s w h []) → AllTrue job over s h
 all_true job over s [] l t = tt
@@ -50,7 +50,7 @@ truly_goes_on job over s w later earlier c t =
     (truly_append job over s w c.0 earlier [] t (truly_none job over s w c.0 (earlier
     ++ []) c.2))
 
--- true reports are those of the true table
+-- true reports are the reports of the true table
 pub true_to : (job : Parts) (over : ClassSelection) (s : Shape) (table : Table) (h : History)
     → BelongTogether job → AreChosenOf job over → IsShapeOver job over s → IsTableOf job table
     → IsLegal s h

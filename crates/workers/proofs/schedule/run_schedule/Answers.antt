@@ -14,7 +14,7 @@ use Rattle.workers.proofs.SettledLedgers.{settled_finished}
 use Rattle.workers.proofs.MoveLists.{played_on, scheduled, skipped_few, moved_true}
 use Rattle.workers.proofs.schedule.run_schedule.Goals as goal
 
--- the verdicts that were told of a ledger, under another name of its shape
+-- the verdicts by a ledger, under another name of its shape
 told : (job : Parts) (s : Shape) (h : History) (f : Face) (firsts : List (Option ℕ)) → IsLegal s h
     → f ≡ face s h
     → ((g : History) → IsLegal f.shape g → f ≡ face f.shape g

@@ -101,7 +101,7 @@ returns-then-not-passes-clause-stopped g c =
       c.loop-place.invariant.passed,
     )
 
--- the class at the place, and the test that was found out of it
+-- the class at the place, and its first test that was found
 pub overflow_add-firsts : goal.overflow_add-firsts
 overflow_add-firsts g c =
     let job = c.args.job.now in

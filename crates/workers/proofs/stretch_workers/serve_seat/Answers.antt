@@ -7,7 +7,7 @@ use Rattle.workers.proofs.stretch_workers.serve_seat.Given as given
 use Rattle.workers.proofs.stretch_workers.serve_seat.Goals as goal
 use Rattle.workers.proofs.stretch_workers.serve_seat.Goals.{In_ok-push}
 
--- what a worker has served with one stretch more
+-- the results of a worker with one stretch more
 more : (g : given.Over) (c : In_ok-push g) → Serving c.args.job.now c.args.cut.now.size
     c.args.cut.now.classes.items c.args.ledger.now c.args.seat.now.worker
     (g.G.Gate.passing c.args.gate.now) (g.G.Gate.stops c.args.gate.now) c.run_held.new.seat
