@@ -37,7 +37,7 @@ module _ (job : Parts) (most class block count : ℕ) (b : BelongTogether job)
       which_detect job.list.model job.circuit job.tests.tests class fault.0 b.circuit.well_formed
       fault.1
 
-  -- the class has this count, where that is how many tests detect its representative
+  -- the class has this count, if it is the number of tests that detect its representative
   counted_by : count ≡ min most (count_by which.0 (below (length job.tests.tests)))
       → IsClassCount job most class count
   counted_by number = record {
@@ -103,7 +103,7 @@ class_within job fault class b at =
     ∙ length-map {B = Option Fault} (representatives job.list.model job.circuit) Some in
     omega (arith, within, count)
 
--- counts of all classes are those of all faults
+-- counts of all classes are counts of all faults
 pub counts_of_faults : (job : Parts) (most : ℕ) (counts : List ℕ) → BelongTogether job
     → length counts ≡ length job.list.list
     → ((i n class : ℕ) → slice_get counts i ≡ Some n → slice_get job.classes.class_of i ≡ Some class

@@ -1,4 +1,4 @@
--- What a thread has counted, by what it was promised.
+-- The counts of a thread, by its promise.
 use Rattle.std.proofs.Common.{◌≡◌, ℕ, subst}
 use Rattle.block_sim.specs.Parts.{Parts}
 use Rattle.n_detect.specs.declared.share.Share.{Share}
