@@ -39,7 +39,7 @@ shown_cells : (v : Name → Bool) (first : ℕ) (qds : List (Name × Name))
 shown_cells v first [] = refl
 shown_cells v first (qd ∷ qds) = ap (λ bits. v qd.1 ∷ bits) (shown_cells v (first + 1) qds)
 
--- the observers behind the outputs show what the cells capture
+-- the observers after the outputs show what the cells capture
 shown_behind : (c : List Statement) (v : Name → Bool)
     → drop (length (outputs c)) (map (shows None v) (observers c)) ≡ captured c v
 shown_behind c v =
@@ -68,7 +68,7 @@ observer_count c =
     (length-map (enumerate_from 0 (cells c)) (λ at. (sink.Data at.0, at.1.1))
     ∙ length-enumerate_from 0 (cells c)))
 
--- ---- the front of a list, and behind it the rest of another
+-- ---- the front of a list, and then the rest of another
 
 pub joined_length : {X : Type 0} (old own : List X) (at from : ℕ) → at ≤ length old
     → length (take at old ++ drop from own) ≡ at + (length own - from)

@@ -3,7 +3,7 @@ use Rattle.std.specs.Prelude.{Bool}
 use Rattle.patterns.specs.Tests.{bit}
 use Rattle.pairs.proofs.copy_bits.Given as goal
 
--- the bits before the place stay, and those behind it are copied so far
+-- the bits before the place stay, and the bits from it on are copied so far
 abbrev pub invariant-loop-source : goal.invariant-loop-source
 invariant-loop-source l = record {
   kept : (k : ℕ) (d : Bool) → k < l.at → get_or l.row k d ≡ get_or l.initial.row k d;
