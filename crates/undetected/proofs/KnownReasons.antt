@@ -9,7 +9,7 @@ use Rattle.workers.specs.Verdict.{AreFirsts}
 use Rattle.undetected.specs.declared.Reason.{Reason}
 use Rattle.undetected.specs.Reasons.{HasReason, IsReason}
 
--- each of the reasons so far is that of its fault
+-- each of the reasons so far is its fault's reason
 abbrev pub AreKnown : Parts → List (Option ℕ) → List (Option Reason) → Type 0
 AreKnown job firsts reasons = (i : ℕ) (f : Fault) (first : Option ℕ) (reason : Option Reason)
     → slice_get job.list.list i ≡ Some f → slice_get firsts i ≡ Some first
@@ -27,7 +27,7 @@ pushed_get {X} (z ∷ xs) x y (suc i) e = go (pushed_get xs x y i e)
     go (inl h) = inl h
     go (inr h) = inr (ap suc h.0, h.1)
 
--- with that of the next fault
+-- with the reason of the next fault
 pub known_more : (job : Parts) (firsts : List (Option ℕ)) (reasons : List (Option Reason))
     (fault : ℕ) (own : Option Reason) → length reasons ≡ fault → AreKnown job firsts reasons
     → ((f : Fault) (first : Option ℕ) → slice_get job.list.list fault ≡ Some f
@@ -45,7 +45,7 @@ known_more job firsts reasons fault own count known has i f first reason at foun
         (has f first (ap (slice_get job.list.list) (sym place) ∙ at)
         (ap (slice_get firsts) (sym place) ∙ found))
 
--- the faults of a job are those of its circuit
+-- the faults of a job are its circuit's faults
 pub list_is : (job : Parts) → BelongTogether job
     → job.list.list ≡ faults job.list.model job.circuit
 list_is job together = ap (λ (l : FaultList). l.list) together.list
