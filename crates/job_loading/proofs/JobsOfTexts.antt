@@ -46,7 +46,7 @@ job_of_texts m bench text c tests job accepted has is = (
   is.3,
 )
 
--- a job of the circuit and the tests of two texts is refused of the texts
+-- an error of the job of two files' circuit and tests is an error of the files
 pub pieces_fault : (m : Model) (bench text : List ℕ) (c : List Statement) (tests : TestList)
     → IsAccepted bench c → HasTests text (length (sources c)) tests → (f : SimFault)
     → IsPiecesFault m c tests f → IsJobFault m bench text f
@@ -60,7 +60,7 @@ pieces_fault m bench text c tests accepted has (fault.Order f) h = absurd h
 pieces_fault m bench text c tests accepted has (fault.Run f) h = absurd h
 pieces_fault m bench text c tests accepted has (fault.Report f) h = absurd h
 
--- a job is refused for its pieces, or for want of memory
+-- an error of a job is for its pieces, or for memory
 pub job_refused : (J P : Type 0) (f : JobFault)
     → (◌≡◌ {A = Result J JobFault} (Err f) (Err job_fault.TooManyPieces) ↔ P)
     → (f ≡ job_fault.Memory) ⊎ P

@@ -1,2 +1,2 @@
--- Lemmas on the job of texts. Proofs of the crates above cite these alone.
+-- Lemmas on the job of files. Proofs of the crates above cite only these.
 pub use Rattle.job_loading.proofs.JobsOfTexts.{job_of_texts}
