@@ -1,4 +1,4 @@
--- From the answer for a circuit and tests to that for the texts.
+-- From the result for a circuit and tests to the result for the files.
 use Rattle.std.proofs.Common.{ℕ, List, refl}
 use Rattle.std.specs.Prelude.{Option, Some, None, Result, Ok, Err, IfOk}
 use Rattle.std.specs.declared.alloc.AllocError.{AllocError}
@@ -40,7 +40,7 @@ is_made m c classes tests are fit = (
   refl,
 )
 
--- the answer for the circuit of a text is one for the texts
+-- the result for the circuit of a file is a result for the files
 answer_of : (m : Model) (bench : List ℕ) (tests : Option (List ℕ)) (c : List Statement)
     (given : Answer) → IsAccepted bench c → IsCircuitAnswer m c tests given
     → IsAnswerTo m bench tests given

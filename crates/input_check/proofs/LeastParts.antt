@@ -5,7 +5,7 @@ use Rattle.std.proofs.lemmas.Grind.{div_ceil_times}
 use Rattle.std.proofs.lemmas.Nat.{div-add-mod'}
 use Rattle.std.specs.Int.{div_ceil}
 
--- a part has room for so many classes, and the parts for all
+-- a part has room for a number of classes, and the parts for all
 pub within_limit : (classes blocks limit parts : ℕ) → 0 < parts
     → classes ≤ parts * (limit / blocks) → div_ceil classes parts * blocks ≤ limit
 within_limit classes blocks limit parts some room =
@@ -32,7 +32,7 @@ past_limit classes blocks limit parts block some room =
     let rest : limit % blocks < blocks = omega (arith, block) in
     grind (arith, more, whole, rest)
 
--- so many parts have room for all, and fewer have not
+-- this number of parts has room for all, and fewer have not
 pub room_of : (classes size parts : ℕ) → 0 < size → parts ≡ max (div_ceil classes size) 1
     → classes ≤ parts * size
 room_of classes size parts some is =

@@ -27,7 +27,7 @@ pub record AreCountsOf (m : Model) (c : List Statement) (counts : Counts) : Type
   pub classes : (classes : Collapsed) × AreClassesOf m c classes
       × (counts.classes ≡ length classes.representative)
 
--- the numbers of tests and of blocks are those of the list, and each class makes a piece with each
+-- the list has these numbers of tests and of blocks, and each class makes a piece with each
 -- block
 pub record AreTestCountsOf (classes : ℕ) (list : TestList) (taken : TestCounts) : Type 0 where
   pub tests : taken.tests ≡ length list.tests
