@@ -19,7 +19,7 @@ appends_more (Some s) None c x y p q = absurd p
 appends_more (Some s) (Some t) None x y p q = absurd q
 appends_more (Some s) (Some t) (Some u) x y p q = q ∙ rw (p, append_assoc) refl
 
--- a list is its front, and what is left behind it
+-- a list is its front, and then the rest
 pub rest_split : (front rest : List ℕ) (n : ℕ) → n ≤ length rest
     → front ++ rest ≡ (front ++ take n rest) ++ take (length rest - n) (drop n rest)
 rest_split front rest n le = grind (arith, common_steps)
