@@ -1,4 +1,4 @@
--- The box of what a handle has, and the rows of what holds its pointer.
+-- The box of a handle's contents, and the rows of a holder of its pointer.
 use mathlib.Core.List.{[]}
 use mir.Syntax.{impl, tnil, dnil}
 use denote.Signature.{Slot, plain}

@@ -1,4 +1,4 @@
--- First tests, by the numbers that tell them.
+-- First tests, by their numbers.
 use Rattle.std.proofs.Common.{◌≡◌, ◌≢◌, ◌<◌, ◌≤◌, ◌⊎◌, inl, inr, ℕ, List, length, get_or}
 use Rattle.std.proofs.Common.{Option, Some, None, sym, ap, ◌∙◌, subst, arith}
 use Rattle.std.specs.Prelude.{if◌then◌else◌, nat_eq, true, false}
@@ -13,7 +13,7 @@ use Rattle.workers.specs.Verdict as verdict
 use Rattle.faultsim_c.specs.Calls.{AreFaultFirsts, AreFirsts, AreFirstNumbers, first_of}
 use Rattle.faultsim_c.specs.Calls.{first_number}
 
--- a number that tells a test
+-- a number that stands for a test
 first_some : (n : ℕ) → n ≢ 4294967295 → first_of n ≡ Some n
 first_some n known = go (eqb_tells n 4294967295)
   where
@@ -22,7 +22,7 @@ first_some n known = go (eqb_tells n 4294967295)
     go (inl h) = absurd (known h.1)
     go (inr h) = ap (λ b. if b then None else Some n) h.0
 
--- a first test is that of the number that tells it
+-- a first test is the test of its number
 first_told : (c : List Statement) (ts : List Test) (f : Fault) (o : Option ℕ)
     → length ts ≤ 65536 → IsFirst c ts f o → IsFirst c ts f (first_of (first_number o))
 first_told c ts f None few is = is

@@ -1,4 +1,4 @@
--- The last test of a list, alone.
+-- The last test of a list, by itself.
 use Rattle.std.proofs.Common.{◌≡◌, ◌∙◌, ◌<◌, ◌+◌, ◌-◌, ◌∷◌, [], List, ap, arith, get_or, length}
 use Rattle.std.specs.Prelude.{Bool}
 use Rattle.std.proofs.lemmas.List.{drop_all, drop_more}

@@ -1,4 +1,4 @@
--- What runs lists of classes of a job runs those of the job with other tests.
+-- A runner of lists of classes of a job runs the lists of the job with other tests.
 use Rattle.std.proofs.Common.{◌≡◌, subst, sym}
 use Rattle.std.specs.Prelude.{Result, Ok, Err, IfErr, IfOk}
 use Rattle.patterns.specs.Tests.{TestList}

@@ -19,7 +19,7 @@ use Rattle.list_lemmas.proofs.Members.{mapped_from}
 use Rattle.list_lemmas.proofs.Places.{at_place, numbered_at, place_within}
 use Rattle.faultsim_c.specs.Calls.{observed}
 
--- the numbers of the observed names: those of the outputs, and those of the cells' data pins
+-- the numbers of the observed names: the outputs' numbers, and the cells' data pins'
 outputs_numbered : (c : List Statement) (from : ℕ) (ns : List Name)
     → map (λ (o : Sink × Name). signal c o.1)
     (map (λ at. (sink.Out at.0, at.1)) (enumerate_from from ns)) ≡ map (signal c) ns
@@ -58,7 +58,7 @@ module _ (c : List Statement) (outs : List ℕ) (items : List ScanCell)
     (outs_are : outs ≡ map (signal c) (outputs c))
     (items_are : map {B = ℕ × ℕ} (λ (cell : ScanCell). (cell.q, cell.d)) items
     ≡ map (λ cell. (signal c cell.0, signal c cell.1)) (cells c)) where
-  -- the observed signals are those of the outputs, and then those of the data pins
+  -- the observed signals are the outputs' signals, and then the data pins'
   pub observed_split : observed c ≡ outs ++ map (λ (cell : ScanCell). cell.d) items
   observed_split =
       map-append (λ (o : Sink × Name). signal c o.1)
@@ -71,7 +71,7 @@ module _ (c : List Statement) (outs : List ℕ) (items : List ScanCell)
       ∙ sym (seconds items (cells c) (λ cell. signal c cell.0) (λ cell. signal c cell.1)
       items_are)))
 
-  -- so many are they
+  -- their number
   pub observed_count : length (observed c) ≡ length outs + length items
   observed_count =
       ap (λ (l : List ℕ). length l) observed_split

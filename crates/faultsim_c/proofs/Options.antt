@@ -1,4 +1,4 @@
--- What an option has.
+-- The value of an option.
 use Rattle.std.proofs.Common.{◌≡◌, Some, ap}
 use Rattle.std.specs.Prelude.{unwrap_or}
 

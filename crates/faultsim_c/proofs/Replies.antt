@@ -1,4 +1,4 @@
--- What the status says of why tests in words aren't taken.
+-- The meaning of the status if tests in words aren't taken.
 use Rattle.std.proofs.Common.{◌≡◌, ◌⊎◌, inl, inr, ℕ, Bool, false, List, refl, subst, arith}
 use Rattle.patterns.specs.Making.{IsWordsRefusal}
 use Rattle.patterns.specs.declared.WordsFault.{WordsFault}
@@ -24,7 +24,7 @@ words_fault width count ws f (inl e) three =
     absurd (two_three (subst (λ (g : WordsFault). status_number (refusal.Words g) ≡ 3) e three))
 words_fault width count ws f (inr is) three = is
 
--- they are refused where the status is 3, and the fault tells why
+-- they have an error if the status is 3, and it is written
 pub words_refused : (alone : Bool) (width count : ℕ) (ws : List ℕ) (r : Refusal) (told : FsFault)
     → IsWordsReply alone width count ws r → status_number r ≡ 3 → told ≡ error_numbers r
     → (f : WordsFault) × IsWordsRefusal width count ws f × (told ≡ error_numbers (refusal.Words f))
@@ -41,7 +41,7 @@ two_five e = omega (arith, e)
 three_five : ◌≡◌ {A = ℕ} 3 5 → ⊥
 three_five e = omega (arith, e)
 
--- the status 5 tells of a job that is shared alone
+-- the status 5 comes only for a job that is shared
 is_shared : (r : Refusal) → status_number r ≡ 5 → r ≡ refusal.Shared
 is_shared refusal.Shared five = refl
 is_shared refusal.Memory five = absurd (two_five five)
@@ -61,13 +61,13 @@ is_shared (refusal.Words words.TooMany) five = absurd (three_five five)
 is_shared (refusal.Words words.BadCount) five = absurd (three_five five)
 is_shared (refusal.Words (words.IdleBits source)) five = absurd (three_five five)
 
--- so the handle isn't alone, where words aren't taken
+-- so the handle isn't the only one, if words aren't taken
 pub words_shared : (alone : Bool) (width count : ℕ) (ws : List ℕ) (r : Refusal)
     → IsWordsReply alone width count ws r → status_number r ≡ 5 → alone ≡ false
 words_shared alone width count ws r is five =
     subst (IsWordsReply alone width count ws) (is_shared r five) is
 
--- and where a text isn't
+-- and if a file isn't
 pub tests_shared : (alone : Bool) (width : ℕ) (text : List ℕ) (r : Refusal)
     → IsTestsReply alone width text r → status_number r ≡ 5 → alone ≡ false
 tests_shared alone width text r is five =
@@ -98,7 +98,7 @@ next_fault old width count ws f (inl e) three =
     absurd (two_three (subst (λ (g : WordsFault). status_number (refusal.Words g) ≡ 3) e three))
 next_fault old width count ws f (inr is) three = is
 
--- words are refused behind the last of other tests where the status is 3
+-- words have an error after the last of other tests if the status is 3
 pub next_refused : (alone : Bool) (old : List (List Bool)) (width count : ℕ) (ws : List ℕ)
     (r : Refusal) (told : FsFault) → IsNextReply alone old width count ws r → status_number r ≡ 3
     → told ≡ error_numbers r → (f : WordsFault)
@@ -113,13 +113,13 @@ next_refused alone old width count ws refusal.Shared told is three tells =
 next_refused alone old width count ws (refusal.Bench f) told is three tells = absurd is
 next_refused alone old width count ws (refusal.Tests f) told is three tells = absurd is
 
--- a handle of which the status is 5 then isn't alone
+-- a handle for which the status is then 5 isn't the only one
 pub next_shared : (alone : Bool) (old : List (List Bool)) (width count : ℕ) (ws : List ℕ)
     (r : Refusal) → IsNextReply alone old width count ws r → status_number r ≡ 5 → alone ≡ false
 next_shared alone old width count ws r is five =
     subst (IsNextReply alone old width count ws) (is_shared r five) is
 
--- tests behind the last of others aren't taken
+-- tests after the last of others aren't taken
 pub next_untaken : (alone : Bool) (old : List (List Bool)) (width count : ℕ) (ws : List ℕ)
     (r : Refusal) → IsUntaken alone r → IsNextReply alone old width count ws r
 next_untaken alone old width count ws refusal.Memory is = tt
@@ -137,7 +137,7 @@ next_many alone old width count ws refusal.Shared is = absurd is
 next_many alone old width count ws (refusal.Bench f) is = absurd is
 next_many alone old width count ws (refusal.Tests f) is = absurd is
 
--- words that are refused whatever stands before them
+-- words that have an error whatever comes before them
 pub words_or_many : (old : List (List Bool)) (width count : ℕ) (ws : List ℕ) (f : WordsFault)
     → (f ≡ words.Memory) ⊎ IsWordsRefusal width count ws f
     → (f ≡ words.Memory) ⊎ (IsWordsRefusal width count ws f ⊎ AreTooMany old count f)

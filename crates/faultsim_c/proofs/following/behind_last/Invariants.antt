@@ -3,7 +3,7 @@ use Rattle.patterns.specs.Tests.{IsTestList}
 use Rattle.faultsim_c.specs.Following.{last_of}
 use Rattle.faultsim_c.proofs.following.behind_last.Given as goal
 
--- behind the last of the old tests stand the new ones so far
+-- after the last of the old tests come the new ones so far
 abbrev pub invariant-loop-test : goal.invariant-loop-test
 invariant-loop-test l = record {
   rows : l.tests.tests ≡ last_of l.old.tests ++ take l.test l.new.tests;

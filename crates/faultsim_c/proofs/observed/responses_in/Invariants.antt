@@ -4,7 +4,7 @@ use Rattle.block_sim.specs.Words.{IsFaultFreeWord}
 use Rattle.faultsim_c.specs.Calls.{observed}
 use Rattle.faultsim_c.proofs.observed.responses_in.Given as goal
 
--- the words so far are those of the observers
+-- the words so far are the observers' words
 abbrev pub invariant-loop-place : goal.invariant-loop-place
 invariant-loop-place l = (length l.words ≡ length l.fn.words)
     × ((k : ℕ) → k < l.place → IsFaultFreeWord l.job.circuit l.job.tests.tests (k / l.count)

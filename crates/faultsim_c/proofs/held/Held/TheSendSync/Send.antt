@@ -1,5 +1,5 @@
--- What is held may cross threads: the allocator may, and so may what the handle has and the right
--- to free its box.
+-- The contents may cross threads: the allocator may, and so may a handle's contents and the right
+-- to free their box.
 use mir.Raw.{raw}
 use base.Shift.{Keyless}
 use denote.Memory.{lone}

@@ -1,4 +1,4 @@
--- `open` moves the pointer and the allocator, and where it holds something they own its box.
+-- `open` moves the pointer and the allocator. If it holds something, they own its box.
 use Rattle.std.proofs.Common.{◌≡◌, List, [], ◌∷◌, ◌++◌, refl}
 use Rattle.std.specs.Prelude.{Option, Some}
 use mir.Val.{Val}
