@@ -1,5 +1,5 @@
--- Bench texts that are accepted or refused: the plain program answers it, and its answer is that of
--- the relations.
+-- Bench files that are accepted or have an error: the plain program computes it, and its result is
+-- the result of the relations.
 use Rattle.std.specs.Prelude.{◌≡◌, ℕ, List, [], ◌∷◌, ◌++◌, codes, refl, Ok, Err}
 use Rattle.bench_net.specs.declared.Kind.TheVariants.{And, Nand, Xnor, Not, Buff}
 use Rattle.bench_net.specs.declared.BenchFault.{BenchFault}

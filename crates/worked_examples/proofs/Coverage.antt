@@ -40,7 +40,7 @@ curve_of_and : curve_text (curve 4 four_firsts) four_firsts
 unfolding digits
 curve_of_and = refl
 
--- the same of C17: the classes are those of its listing
+-- for C17: its classes are the classes of its listing
 abbrev c17_firsts : List (List ℕ) → List (Option ℕ)
 c17_firsts rows = map (first_within 4 c17 (tests rows)) (faults StuckAt c17)
 

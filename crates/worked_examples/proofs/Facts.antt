@@ -61,7 +61,7 @@ by_hand = (
   ),
 )
 
--- the last line is at fault, and it is the lowest
+-- the last line has an error, and it is the lowest
 unclosed : IsRefused (codes "INPUT(a") (Syntax 1)
 unclosed = (
   lit≤ tt,

@@ -43,7 +43,7 @@ no_drop_before : replies (shape_of 1 512 8) (after_all (shape_of 1 512 8) [] (cl
 unfolding claims_of
 no_drop_before = refl
 
--- the refusals, each without effect
+-- the errors, each without effect
 refusals : replies (shape_of 1 64 1) []
     (Call.Report 0 outcome.Clear ∷ Call.Claim 0 ∷ Call.Claim 0 ∷ Call.Claim 1 ∷ Call.Report 0
     (outcome.Hit 64) ∷ Call.Drop 0 ∷ Call.Report 0 outcome.Clear ∷ Call.Claim 0 ∷ Call.Status

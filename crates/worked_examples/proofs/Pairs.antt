@@ -1,4 +1,4 @@
--- Launch and capture pairs at the worked circuits: the second of a pair alone detects, by the plain
+-- Launch and capture pairs at the worked circuits: only the second of a pair detects, by the plain
 -- program and at the relation.
 use Rattle.std.proofs.Common.{◌*◌, ◌+◌, arith}
 use Rattle.std.specs.Prelude.{◌≡◌, ℕ, true, false, List, [], ◌∷◌, ◌++◌, map, length, codes, refl}
@@ -59,7 +59,7 @@ c17_firsts :
     5 ∷ Some 1 ∷ Some 3 ∷ None ∷ []
 c17_firsts = refl
 
--- the classes are those of transition faults
+-- the classes are the classes of transition faults
 output_and_inverter_classes : map (class_of output_and_inverter)
     (faults TransitionPairs output_and_inverter) ≡ 0 ∷ 1 ∷ 5 ∷ 4 ∷ 2 ∷ 3 ∷ 4 ∷ 5 ∷ []
 output_and_inverter_classes = refl

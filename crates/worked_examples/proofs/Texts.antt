@@ -1,4 +1,4 @@
--- Test texts and order texts of the worked circuits.
+-- Test files and order files of the worked circuits.
 use Rattle.std.specs.Prelude.{◌≡◌, ℕ, true, false, List, [], ◌∷◌, ◌++◌, map, flat_map, replicate}
 use Rattle.std.specs.Prelude.{codes, refl}
 use Rattle.patterns.specs.Tests.{test_faults, HasTests, IsTestRefusal}
@@ -46,7 +46,7 @@ only_comments : HasTests (text (codes "# a" ∷ codes "" ∷ codes " # b" ∷ []
 })
 only_comments = (refl, refl, refl)
 
--- the first row at fault decides, also past block 63
+-- the first row with an error decides, also past block 63
 late_byte : test_faults (text (replicate 4096 (codes "00") ++ codes "2" ∷ [])) 2
     ≡ fault.BadByte 4097 ∷ []
 late_byte = refl
