@@ -10,5 +10,5 @@ returns-in-Ok-clause-done c = λ low other. (
   c.in-Ok.ensures.report,
   subst (λ (bytes : List ℕ). IsCopied bytes c.args.text.now c.copy_text.new.text
       c.copy_text.new.wanted c.copy_text.result) c.as_slice.ensures.value
-    c.copy_text.ensures.copied,
+      c.copy_text.ensures.copied,
 )
