@@ -145,8 +145,8 @@ impl Circuit {
     }
 }
 
-/// Makes the circuit of numbered statements. It fails if there are no lines, and if a gate is on a
-/// cycle of gates or fed by one, with the lowest such line by its number.
+/// Makes the circuit of numbered statements. It fails if there are no lines, or if a gate is on a
+/// cycle of gates or fed by one: with the number of the lowest such line.
 pub fn circuit_of(alloc: Global, lines: Lines) -> Result<Circuit, BenchFault>
     requires { AreStatements (map string_bytes lines.names.items) lines.lines.items lines.at.items }
     ensures accepted { IfOk result (λ c.

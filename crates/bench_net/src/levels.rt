@@ -160,7 +160,7 @@ fn level_in(mark: &Mark) -> u32
 /// Returns the level of each signal: 0 for a source, and for a gate one more than the greatest
 /// level of its inputs. The signals get their levels in order, each after the signals that it
 /// needs. A gate goes past each of its pins once, so the time is linear in the number of pins. A
-/// path that meets itself is on a cycle, which feeds the signal where the path started.
+/// path that meets itself is on a cycle, which feeds the first signal of the path.
 fn signal_levels(
     alloc: Global,
     lines: &[NumberedLine],

@@ -67,8 +67,8 @@ fn said_of(is_all: bool) -> (&'static str, u8) {
     if is_all { ("", 0) } else { (CANNOT_WRITE, 3) }
 }
 
-/// Returns whether words write this to an output with a limit of bytes, and of bytes a call, and
-/// report on standard error if that was not all.
+/// Returns whether words write this to an output with a limit of bytes, and of bytes a call. If
+/// that was not all, they report it on standard error.
 fn write_so<R: AllocGlobal + Threads + Wait>(
     rt: &R,
     words: &[&str],

@@ -435,8 +435,8 @@ impl SharedLedger {
     }
 
     /// Closes the ledger, and returns the state of each piece. Seats may be missing. The states
-    /// then include their reports, but the contract ties the states only to what the given seats
-    /// have seen.
+    /// then include their reports, but the contract ties the states only to the histories of the
+    /// given seats.
     ///
     /// It fails only with [`LedgerFault::Memory`]; the ledger and the seats are gone then, too.
     pub fn close(self, alloc: Global, seats: Vec<Seat>) -> Result<Closed, LedgerFault>

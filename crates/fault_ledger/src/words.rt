@@ -67,8 +67,8 @@ pub(crate) const SKIPPED: u64 = 2;
 /// The code of a hit at test 0 of its block; a hit at test k has `HIT + k`.
 const HIT: u64 = 128;
 
-/// The post of a token: a worker that it represents, whether the worker has seen that all pieces
-/// are claimed, and the history that it has seen, the newest event first.
+/// A worker that a token represents: whether it has seen that all pieces are claimed, and the
+/// history that it has seen, the newest event first.
 pub(crate) struct Post {
     pub(crate) worker: u32,
     pub(crate) told: bool,

@@ -226,7 +226,7 @@ impl Session {
 
 /// Replaces a job's tests, unless another session shares the job.
 ///
-/// The contract of `Arc::get_mut` doesn't say when it returns none. If it returned none for a job
+/// The contract of `Arc::get_mut` doesn't fix when it returns none. If it returned none for a job
 /// of only one session, this call would report that memory ran out, and not that another session
 /// shares the job.
 fn replace_tests(

@@ -21,7 +21,7 @@ const SHAPE: Shape = Shape {
     workers: 2,
 };
 
-/// 65 tests of C17: 64 of them are all ones, and the last is all zeros.
+/// Returns 65 tests of C17: 64 of them are all ones, and the last is all zeros.
 pub(crate) fn tests_of_c17(alloc: Global) -> Result<Vec<u8>, AllocError> {
     let mut text = Vec::new(alloc);
     for _ in 0..64 {

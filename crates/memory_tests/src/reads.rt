@@ -166,8 +166,8 @@ fn calls_that_read(rt: HostRuntime) {
     assert!(rt; are_read(rt.alloc()) == Ok(true));
 }
 
-/// Returns whether two seats of a ledger of one class and two blocks have the right results, if the
-/// first reports a hit at the first block and the second drops the other.
+/// Returns whether two seats of a ledger of one class and two blocks have the right results. The
+/// first reports a hit at the first block, and the second drops the other.
 fn seats_answer(ledger: &SharedLedger, first: &mut Seat, second: &mut Seat) -> bool
     requires shape { (ledger.now.shape.classes ≡ 1) × (ledger.now.shape.tests ≡ 65) }
     requires seats { (first.old.place ≡ ledger.now) × (second.old.place ≡ ledger.now) }
@@ -221,8 +221,8 @@ const SHAPE: Shape = Shape {
     workers: 1,
 };
 
-/// Returns whether a ledger of this shape has the right results, if the first piece is reported as
-/// a hit and the second is held, and then dropped.
+/// Returns whether a ledger of this shape has the right results. The first piece is reported as a
+/// hit; the second is held, and then dropped.
 fn ledger_answers(ledger: &mut Ledger) -> bool
     requires { ledger.old.shape ≡ shape_of 1 65 1 }
 {

@@ -134,9 +134,9 @@ fn read_stretch(
     Ok(Stretch { start, end, tests })
 }
 
-/// Reads the tests of the file in a number of threads, each of which reads the lines after those of
-/// the thread before. If a thread cannot start, the following ones aren't started either, and the
-/// tests of their lines are missing.
+/// Reads the tests of the file in a number of threads, each with the lines after the lines of the
+/// thread before. If a thread cannot start, the following ones aren't started either, and the tests
+/// of their lines are missing.
 fn read_stretches<R: Threads + Wait>(
     rt: &R,
     alloc: Global,

@@ -48,8 +48,8 @@ impl<'a> Rows<'a> {
         }
     }
 
-    /// The rows of a text from a place on, at which a line begins, counted from 0 in bytes. They
-    /// have the numbers of their lines in the whole text, of which those before the place are
+    /// Makes the rows of a file from a place on, at which a line begins, counted from 0 in bytes.
+    /// They have the numbers of their lines in the whole file: the lines before the place are
     /// counted.
     pub fn from_place(text: &'a [u8], place: usize, likely: usize) -> Self
         requires { IsLineStart text.now place }
@@ -127,8 +127,8 @@ fn count_line_feeds(bytes: &[u8]) -> u64
     count
 }
 
-/// Returns the first place of a text, from `place` on, at which a line begins, and the end of the
-/// text if there is none. Places are counted from 0 in bytes.
+/// Returns the first place of a file, from `place` on, at which a line begins, and the end of the
+/// file if there is none. Places are counted from 0 in bytes.
 pub fn line_start_from(text: &[u8], place: usize) -> usize
     requires { place ≤ length text.now }
     ensures { IsLineStartFrom text.now place result }
@@ -142,7 +142,7 @@ pub fn line_start_from(text: &[u8], place: usize) -> usize
     }
 }
 
-/// Returns whether each byte is `0` or `1`. It checks all of them, so that a processor may take
+/// Returns whether each byte is `0` or `1`. It checks all of them, because a processor then takes
 /// many at a time.
 pub fn are_bits(bytes: &[u8]) -> bool
     ensures { result ≡ list_all is_bit bytes.now }

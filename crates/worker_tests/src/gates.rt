@@ -89,9 +89,9 @@ impl Gate for Counter {
     }
 }
 
-/// A gate that holds the worker of one piece until a second piece has arrived, and, if both are
-/// held, also the worker of the second until the first has arrived. It gives up after 10,000 turns
-/// of 1 ms.
+/// A gate that holds the worker of one piece until a second piece has arrived. If it holds both, it
+/// also holds the worker of the second piece until the first has arrived. It gives up after 10,000
+/// turns of 1 ms.
 #[derive(Drop)]
 pub(crate) struct Meeting<'a, C> {
     clock: &'a C,

@@ -65,7 +65,7 @@ fn are_refused(alloc: Global, job: &Job) -> bool {
     true
 }
 
-/// Sixty moves of seven workers, and the seed of the next.
+/// Returns sixty moves of seven workers, and updates the seed for the next ones.
 fn random_moves(seed: &mut u32) -> [u32; 60] {
     let mut moves = [0; 60];
     for place in 0..60 {

@@ -27,7 +27,8 @@ fn is_run<R: Threads + Wait, G: Gate + Sync>(
     Ok(has_firsts(&verdicts, &C17_FIRSTS))
 }
 
-/// Makes a run of two workers, each of which waits in a part of its own until the other has come.
+/// Returns whether a run of two workers has its verdicts. Each waits in a part of its own until the
+/// other has come.
 fn is_run_by_meeting<R: Threads + Wait + Clock + Sync>(
     rt: &R,
     alloc: Global,
@@ -36,8 +37,8 @@ fn is_run_by_meeting<R: Threads + Wait + Clock + Sync>(
     is_run(rt, alloc, job, 2, &Meeting::new(rt, (2, 0), (21, 0), true))
 }
 
-/// Makes a run whose four workers wait for each other: each has a thread of its own, and its gate
-/// is called with its own number.
+/// Returns whether a run of four workers has its verdicts. They wait for each other: each has a
+/// thread of its own, and its gate is called with its own number.
 fn is_run_by_roll<R: Threads + Wait + Clock + Sync>(
     rt: &R,
     alloc: Global,
@@ -46,8 +47,8 @@ fn is_run_by_roll<R: Threads + Wait + Clock + Sync>(
     is_run(rt, alloc, job, 4, &Roll::new(rt))
 }
 
-/// Makes a run of two workers. The worker that comes first is held in its first part until the
-/// other has passed all classes of the other seven parts, at least 19.
+/// Returns whether a run of two workers has its verdicts. The first one is held in its first part
+/// until the other has passed all classes of the other seven parts, at least 19.
 fn is_run_by_holding<R: Threads + Wait + Clock + Sync>(
     rt: &R,
     alloc: Global,
@@ -56,9 +57,9 @@ fn is_run_by_holding<R: Threads + Wait + Clock + Sync>(
     is_run(rt, alloc, job, 2, &Holding::new(rt, 19))
 }
 
-/// Makes a run of two workers, of which worker 0 is stopped at once. It keeps its part, if it
-/// claims one before worker 1 has claimed all. The error then names that part's lowest class, which
-/// waits for block 0.
+/// Returns whether a run of two workers ends well in which worker 0 is stopped at once. It keeps
+/// its part, if it claims one before worker 1 has claimed all. The error then names that part's
+/// lowest class, which waits for block 0.
 fn leaves_the_seat<R: Threads + Wait>(rt: &R, alloc: Global, job: &Job) -> Result<bool, RunFault> {
     match run_in_parts(rt, alloc, job, PARTS, 2, &ShutForWorker { worker: 0 }) {
         Ok(verdicts) => Ok(has_firsts(&verdicts, &C17_FIRSTS)),
@@ -67,7 +68,7 @@ fn leaves_the_seat<R: Threads + Wait>(rt: &R, alloc: Global, job: &Job) -> Resul
     }
 }
 
-/// Makes a run of two workers whose ledger has eight parts, each of them settled.
+/// Returns whether a run of two workers has its verdicts and a ledger of eight settled parts.
 fn closes_the_ledger<R: Threads + Wait>(
     rt: &R,
     alloc: Global,

@@ -133,8 +133,8 @@ fn is_lowest_named<R: Threads + Wait>(rt: &R, alloc: Global, job: &Job) -> bool 
     true
 }
 
-/// Returns whether a run ends well whose gate is shut for a piece after a hit, and then a run of
-/// the same job whose gate is open.
+/// Returns whether two runs of a job end well: the first has a gate that is shut for a piece after
+/// a hit, and the second an open gate.
 fn may_stay_open<R: Threads + Wait>(rt: &R, alloc: Global, job: &Job) -> Result<bool, RunFault> {
     let gate = ShutFor { class: 1, block: 1 };
     Ok(
@@ -143,8 +143,8 @@ fn may_stay_open<R: Threads + Wait>(rt: &R, alloc: Global, job: &Job) -> Result<
     )
 }
 
-/// Makes runs of two workers whose gate holds pieces until others have been claimed: the first two
-/// until both have been, or the first until the last has been.
+/// Returns whether a run of two workers has its verdicts. Its gate holds the first two pieces until
+/// both have been claimed, or the first until the last has been.
 fn is_run_by_meeting<R: Threads + Wait + Clock + Sync>(
     rt: &R,
     alloc: Global,
@@ -157,8 +157,8 @@ fn is_run_by_meeting<R: Threads + Wait + Clock + Sync>(
     is_run(rt, alloc, job, 2, &gate, firsts)
 }
 
-/// Makes a run whose gate holds the four workers until all have come: each has a thread of its own,
-/// and its gate is called with its own number.
+/// Returns whether a run of four workers has its verdicts. Its gate holds them until all have come:
+/// each has a thread of its own, and its gate is called with its own number.
 fn is_run_by_roll<R: Threads + Wait + Clock + Sync>(
     rt: &R,
     alloc: Global,
@@ -167,7 +167,7 @@ fn is_run_by_roll<R: Threads + Wait + Clock + Sync>(
     is_run(rt, alloc, job, 4, &Roll::new(rt), &BUFFER_FIRSTS)
 }
 
-/// Makes a run in which worker 1 surely rests.
+/// Returns whether a run in which worker 1 surely rests has its verdicts.
 ///
 /// The workers hold pieces two by two, so at most one of two claims of a worker comes right after
 /// the other. Nearly all pieces take no evaluation: class 0 is dropped after its hit, and class 1
@@ -250,8 +250,8 @@ fn in_threads<G: Gate + Sync, R: Threads + Sync>(
     )
 }
 
-/// Returns whether two seats that come back close their ledger of two classes with class 0 settled
-/// at test 64, and class 1 at test 0.
+/// Returns whether two seats that come back close their ledger of two classes. Class 0 is then
+/// settled at test 64, and class 1 at test 0.
 fn is_settled(alloc: Global, ledger: SharedLedger, seats: Vec<Seat>) -> Result<bool, LedgerFault>
     requires classes { ledger.shape.classes ≡ 2 }
     requires places { All (λ seat. seat.place ≡ ledger) seats.items }

@@ -23,10 +23,10 @@ const LONGEST: u32 = 8;
 
 /// The backoff of a worker.
 ///
-/// If most pieces are dropped, or take few evaluations, several workers are slower than one,
-/// because each waits for what the others have just claimed and changed. So a worker owes the price
-/// of each claim if others claimed since its last one, and pays with its evaluations. If it owes
-/// much, it rests, and most of the time only one worker claims. Worker 0 never rests.
+/// If most pieces are dropped, or take few evaluations, several workers are slower than one: each
+/// waits for the data that the others have just changed. So a worker owes the price of each claim
+/// if others claimed since its last one, and pays with its evaluations. If it owes much, it rests,
+/// and most of the time only one worker claims. Worker 0 never rests.
 #[derive(Drop)]
 pub(crate) struct Backoff {
     // The rest of this worker, in pauses.

@@ -4,7 +4,7 @@
 //! tests. It drops the piece if an earlier block of the class is known to detect it, else it
 //! simulates the piece and reports. The verdict of a fault is the first test that detects it, or
 //! none, as in serial fault simulation (Bushnell and Agrawal, Essentials of Electronic Testing). It
-//! doesn't depend on what the workers do, nor on the order.
+//! depends neither on the workers' choices nor on their order.
 //!
 //! [`run_schedule`] is a run of one thread, which makes the moves of all workers in the caller's
 //! order. [`run`] has a thread for each worker, and [`work`] is the work of one. [`run_in_parts`]
