@@ -311,7 +311,7 @@ module _ (ns : List Name) (lines : List NumberedLine) (at : List ℕ)
       let below = signal_below c from.0 (named c st.0 from.0 st.1 st.2) in
       omega (arith, below, from.2, name_count, count)
 
-  -- the pins of a signal are what a line reads
+  -- the pins of a signal are the names that a line reads
   reads : (s : ℕ) → (length (gate_pins lines s) ≤ length (flat_map read_numbers lines))
       × ((p : ℕ) → Among p (gate_pins lines s) → Among p (flat_map read_numbers lines))
   reads s = go (slice_get (filter defines_number lines) s) refl

@@ -63,7 +63,7 @@ stated_at (None ∷ stated) s a = let f = stated_at stated s a in (suc f.0, f.1)
 stated_at (Some t ∷ stated) s (inl e) = (0, ap (λ x. Some (Some x)) e)
 stated_at (Some t ∷ stated) s (inr a) = let f = stated_at stated s a in (suc f.0, f.1)
 
--- ---- what is known of words and of gates: they are UTF-8, and have the arity of their kind
+-- ---- properties of words and of gates: they are UTF-8, and have the arity of their kind
 
 -- a word is UTF-8
 pub word_utf8 : (w : List ℕ) → list_all is_word_byte w ≡ true → IsUtf8 w

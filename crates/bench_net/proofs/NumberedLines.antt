@@ -167,7 +167,7 @@ reads_numbers ns (l ∷ lines) =
     rw (reads_of ns l, reads_numbers ns lines)
     (sym (map-append (name_at ns) (read_numbers l) (flat_map read_numbers lines)))
 
--- what lines read, they hold
+-- lines hold the numbers that they read
 pub reads_held : (ls : List NumberedLine) (k : ℕ) → Among k (flat_map read_numbers ls)
     → Among k (flat_map numbers ls)
 reads_held ls k a =

@@ -93,7 +93,7 @@ IsFirst Faulty (Some line) = IsLowest Faulty line
 first_one : (F : ℕ → Type 0) (o p : Option ℕ) → IsFirst F o → IsFirst F p → o ≡ p
 first_one F _ _ a b = grind (arith, a, b)
 
--- what holds of the place before all lines, and of each line, holds of each number
+-- a property of the place before all lines, and of each line, holds of each number
 from_zero : (P : ℕ → Type 0) → P 0 → ((i : ℕ) → P (suc i)) → (line : ℕ) → P line
 from_zero P none some zero = none
 from_zero P none some (suc i) = some i

@@ -1,4 +1,4 @@
--- What several pieces, one after another, leave in an output.
+-- The effect of several pieces, one after another, on an output.
 use Rattle.std.proofs.Common.{◌≡◌, ◌≤◌, ◌-◌, ℕ, Bool, false, List, ◌++◌, length, take, drop, ◌∙◌}
 use Rattle.std.proofs.Common.{append_assoc, arith, refl, subst}
 use Rattle.std.proofs.Common.{◌<◌, ◌+◌, suc, ap, get_or, ◌∷◌, [], append-nil}
@@ -75,6 +75,6 @@ pub writes_then : {T E : Type 0} (r : Result T E) (a b c : Output) (x y : List �
 writes_then (Ok v) a b c x y p w = takes_more a b c x y p w
 writes_then (Err e) a b c x y p w = stopped_after x y a b c p w
 
--- what is left of a text after a part that was not taken whole
+-- the rest of a text after a part that was not taken whole
 pub stopped_before : (x y : List ℕ) (a b : Output) → TakesFront a b x → TakesFront a b (x ++ y)
 stopped_before x y a b w = (w.0, w.1 ++ y, rw (w.2, append_assoc w.0 w.1 y) refl, w.3, w.4)

@@ -231,7 +231,7 @@ word_within words w some = go (split w (length words))
     go (inl lt) = lt
     go (inr le) = absurd (some (get_or_past words w 0 le))
 
--- what is 0 stays so
+-- zeros stay
 pub low_less : (words : List ℕ) (from at : ℕ) → ((w : ℕ) → slice_index_or words w 0 ≢ 0 → from ≤ w)
     → (w : ℕ) → slice_index_or (set words at 0) w 0 ≢ 0 → from ≤ w
 low_less words from at low w some = go (cases_eq w at) (split at (length words))

@@ -1,4 +1,4 @@
--- What contracts see of a set of places, and how the summary keeps which words have any.
+-- A set of places as contracts see it, and the summary of the words that have any.
 use Rattle.std.specs.Prelude.{◌≡◌, ◌≢◌, ℕ, ◌*◌, ◌/◌, ◌%◌, ◌^◌, ◌<◌, ◌≤◌, List, length}
 use Rattle.std.specs.Prelude.{map, slice_index_or}
 use Rattle.std.specs.Int.{bit_at}

@@ -39,7 +39,7 @@ blanks_at zero i = refl
 blanks_at (suc n) zero = refl
 blanks_at (suc n) (suc i) = blanks_at n i
 
--- what the seat of a newcomer keeps, who remembers nothing
+-- the data of a newcomer's seat, which remembers nothing
 pub deal_seat : (p : Place) (s : Shape) (w n : ℕ) (clear : List Remembered) (a : Sitter)
     → a ≡ newcomer p w → p.shape ≡ s → shape_fault s ≡ None → w < s.workers
     → clear ≡ replicate n nothing_seen
@@ -67,7 +67,7 @@ pub deal_more : (p : Place) (w : ℕ) (seats now : List Sitter) (a : Sitter)
 deal_more p w seats now a e all pushed =
     more_below (newcomer p) w seats now a all e pushed
 
--- what holds of each post holds of each seat
+-- a property of each post is a property of each seat
 pub of_each : (P : Post → Type 0) (seats : List Sitter) → ForEach P (map post_of seats)
     → All (λ a. P (post_of a)) seats
 of_each P [] f = All-nil (λ (a : Sitter). P (post_of a))

@@ -60,7 +60,7 @@ pub states-length : (f : Face) (h : History) → f ≡ face f.shape h
 states-length f h e = ap (λ (l : List PieceState). length l) (states-is f h e)
     ∙ length-map-below (λ p. entry p h) (piece_count f.shape)
 
--- a worker whose place is found is one of the ledger, and holds what is found there
+-- a worker whose place is found is one of the ledger, and holds the piece at it
 pub found-worker : (f : Face) (h : History) (w : ℕ) (x : Option ℕ) → f ≡ face f.shape h
     → slice_get f.holding w ≡ Some x → w < f.shape.workers
 found-worker f h w x e g = let a = slice_get_within f.holding w x g in
@@ -85,7 +85,7 @@ pub answered : (f g : Face) (c : Call) (r : Reply) → ((h : History) → IsLega
 answered f g c r i h l e = let x = i h l e in
     (x.0, subst (λ (y : Reply). g ≡ face f.shape (events_of c y ++ h)) x.0 x.1)
 
--- what every ledger is
+-- the invariant of a ledger
 pub ledger-holding : (f : Face) → IsLedger f → length f.holding ≡ f.shape.workers
 ledger-holding f i = holding-length f i.history.0 i.history.2
 
@@ -107,7 +107,7 @@ ledger-after f n holding states c r i a = record {
   );
 }
 
--- what a place of the workers holds
+-- the piece at a place of the workers
 pub none_of : (o : Option ℕ) → is_some o ≡ false → o ≡ None
 none_of None e = refl
 none_of (Some p) e = absurd (cc)
@@ -174,7 +174,7 @@ claim-piece f w g l = answered f (faced f.shape (f.claimed + 1)
           (states-is f h e i),
     ))
 
--- why no piece was found to report or drop
+-- the error if no piece was found to report or drop
 abbrev pub FoundNone : Face → ℕ → Refusal → Type 0
 FoundNone f w r = ((r ≡ NoSuchWorker) × (length f.holding ≤ w))
     ⊎ ((r ≡ NothingHeld) × (slice_get f.holding w ≡ Some None))

@@ -23,7 +23,7 @@ pub reply-at : (s : Shape) (f g : Face) (h : History) (c : Call) (r : Reply) →
     → IsLegal s h → f ≡ face s h → (r ≡ answer s h c) × (g ≡ face s (after s h c))
 reply-at s f g h c r a legal e = let b = subst (λ (x : Face). Answers x c r g) e a in b h legal refl
 
--- what calls add to a legal history leaves it legal
+-- the events that calls add to a legal history leave it legal
 pub legal-after_all : (s : Shape) (h : History) (calls : List Call) → IsLegal s h
     → IsLegal s (after_all s h calls)
 legal-after_all s h [] l = l

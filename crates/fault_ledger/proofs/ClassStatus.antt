@@ -45,7 +45,7 @@ pub status-none : (g : ℕ → PieceState) (n : ℕ) → ((j : ℕ) → j < n �
     → status_from 0 (map g (below n)) ≡ status_is.Settled None
 status-none g n clear = status-past g 0 n 0 n n (omega arith) (omega arith) (λ j _ o. clear j o)
 
--- what is found at the place of a class and a block
+-- the state at the place of a class and a block
 pub found-entry : (s : Shape) (states : List PieceState) (h : History) (class block : ℕ)
     (d : PieceState) → states ≡ states_of s h → class < s.classes → block < block_count s
     → slice_index_or states (class + s.classes * block) d ≡ entry (piece_at s class block) h

@@ -1,4 +1,4 @@
--- Facts about histories: who holds a piece, and what becomes of it.
+-- Facts about histories: the holder of a piece, and the piece's states.
 use Rattle.std.proofs.Common.{◌≡◌, ◌≢◌, ℕ, ◌+◌, ◌<◌, ◌≤◌, Bool, true, false, if◌then◌else◌, eqb, []}
 use Rattle.std.proofs.Common.{◌∷◌, ◌++◌, Option, Some, None, refl, sym, ap, ◌∙◌, arith, ne_eqb}
 use Rattle.std.proofs.Common.{eqb-true, eq-eqb, append_assoc}
@@ -117,7 +117,7 @@ held_open w p (Event.Drop v ∷ h) e = go (eqb w v) (held_open w p h) refl e
     go false i x e =
         rw (holds-not v p h (λ f. let q = eq-eqb w v (held_once w v p h e f) in absurd (cc))) (i e)
 
--- what was made of a piece stays
+-- the state of a reported or dropped piece stays
 pub entry_past : (p : ℕ) (d h : History) → entry p h ≢ state.Open → entry p (d ++ h) ≡ entry p h
 entry_past p [] h n = refl
 entry_past p (Event.Claim w ∷ d) h n = entry_past p d h n
@@ -128,7 +128,7 @@ entry_past p (Event.Drop w ∷ d) h n =
     let i = entry_past p d h n in
     rw (holds-not w p (d ++ h) (λ e. n (sym i ∙ held_open w p (d ++ h) e))) i
 
--- what others did does not change what a worker holds
+-- the events of others don't change the piece that a worker holds
 pub held_past : (w : ℕ) (d h : History) → NoneOf w d → held_by w (d ++ h) ≡ held_by w h
 held_past w [] h n = refl
 held_past w (Event.Claim v ∷ d) h n = rw (ne_eqb w v (λ e. n.0 (sym e))) (held_past w d h n.1)
@@ -162,7 +162,7 @@ goes_on_twice w last later earlier a b = (
 pub goes_on_same : (w : ℕ) (h : History) → ContinuesWithout w h h
 goes_on_same w h = ([], refl, tt)
 
--- what was made of a piece stays
+-- the state of a reported or dropped piece stays
 pub entry_goes_on : (w p : ℕ) (later earlier : History) → ContinuesWithout w later earlier
     → entry p earlier ≢ state.Open → entry p later ≡ entry p earlier
 entry_goes_on w p later earlier c n = ap (entry p) c.1 ∙ entry_past p c.0 earlier n

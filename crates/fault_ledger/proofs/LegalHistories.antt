@@ -30,7 +30,7 @@ use Rattle.fault_ledger.proofs.PieceNumbers.{class_of-at, block_of-at}
 grew : (h : History) (e : Event) → h ≡ e ∷ h → ⊥
 grew h e p = let q = ap (λ (l : History). length l) p in omega arith
 
--- what holds before an accepted event
+-- the facts before an accepted event
 pub claim_accepted : (s : Shape) (h : History) (w : ℕ) → after s h (call.Claim w)
     ≡ Event.Claim w ∷ h → (w < s.workers) × (held_by w h ≡ None) × (claims h < piece_count s)
 claim_accepted s h w e = go (nat_lt w s.workers) (held_by w h) refl refl e
@@ -101,7 +101,7 @@ legal_after s h c l = go c (answer s h c) refl
     go (call.Drop w) Done e = (ap (λ r. events_of (call.Drop w) r ++ h) e, l)
     go c r e = l
 
--- what a legal history begins with is legal
+-- each beginning of a legal history is legal
 pub legal_before : (s : Shape) (d h : History) → IsLegal s (d ++ h) → IsLegal s h
 legal_before s [] h l = l
 legal_before s (e ∷ d) h l = legal_before s d h l.1

@@ -5,7 +5,7 @@ use Rattle.std.proofs.Common.{slice_index, refl, sym, ap, ◌∙◌, arith}
 use Rattle.std.specs.List.{list_any}
 use Rattle.patterns.specs.Least.{from_up, below}
 
--- a place of a list is given what stands there
+-- a place of a list is given its own element
 pub set_same : (xs : List ℕ) (i : ℕ) → set xs i (slice_index xs i) ≡ xs
 set_same [] i = refl
 set_same (x ∷ xs) zero = refl

@@ -49,7 +49,7 @@ look_keeps s h words views kept id v at ps now len marked counted bounded long t
       known = set_known s h views id w' (λ j u n there. kept.known j u there) own;
     }
 
--- what the posts of a view know when they see the whole history
+-- the knowledge of a view's posts when they see the whole history
 see_knows : (s : Shape) (h : History) (words : List ℕ) (views : List View)
     → IsKeptBy s h words views → (shape : Shape) (ps : List Post) → ForEach (Knows s h shape) ps
     → ForEach (Knows s h shape) (see h ps)

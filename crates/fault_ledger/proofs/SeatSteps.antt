@@ -1,4 +1,4 @@
--- What a step of a seat's token means for the seat.
+-- The meaning of a step of a seat's token for the seat.
 use Rattle.std.proofs.Common.{◌≡◌, ℕ, zero, suc, ◌<◌, ◌≤◌, Bool, true, false, true≢false}
 use Rattle.std.proofs.Common.{if◌then◌else◌, eqb, eqb-true, eq-eqb, List, [], ◌∷◌, set}
 use Rattle.std.proofs.Common.{slice_index_or, Option, Some, None, refl, sym, ap, ◌∙◌, subst, arith}
@@ -36,7 +36,7 @@ all_claimed : (s : Shape) (w : ℕ) (later earlier : History) → ContinuesWitho
 all_claimed s w later earlier c l e = let a = legal_claims s later l in
     let b = claims_go_on w later earlier c in omega arith
 
--- what was clear stays clear
+-- clear blocks stay clear
 pub clear_goes_on : (s : Shape) (w class n : ℕ) (later earlier : History)
     → ContinuesWithout w later earlier → AreClear s earlier class n → AreClear s later class n
 clear_goes_on s w class n later earlier c clear k l =
@@ -285,7 +285,7 @@ exhausted_at a h i e all =
     (λ b. if b then Claimed (claim_is.Piece (class_of s (claims h)) (block_of s (claims h)))
     else Claimed claim_is.Exhausted) (le-ltb (claims h) (piece_count s) few))
 
--- what a seat holds after it has seen more
+-- the piece of a seat after it has seen more
 pub held_sees : (a b : Sitter) → Sees a a.told b → held_by b.worker b.seen ≡ held_by a.worker a.seen
 held_sees a b s = let h = b.seen in ap (λ (x : Sitter). held_by x.worker h) s.seat
     ∙ held_goes_on a.worker h a.seen s.newer

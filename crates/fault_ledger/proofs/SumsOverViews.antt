@@ -71,7 +71,7 @@ pub for_append : (P : Post → Type 0) (ps qs : List Post) → ForEach P ps → 
 for_append P [] qs a b = b
 for_append P (p ∷ ps) qs a b = (a.0, for_append P ps qs a.1 b)
 
--- what is true of each view, after one has changed
+-- a property of each view, after one has changed
 pub set_known : (s : Shape) (h : History) (views : List View) (id : ℕ) (w : View)
     → ((j : ℕ) (u : View) → j ≢ id → get_elem? views j ≡ some u
     → ForEach (Knows s h u.shape) u.posts) → ForEach (Knows s h w.shape) w.posts

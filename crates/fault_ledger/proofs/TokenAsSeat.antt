@@ -1,4 +1,4 @@
--- What a token of a ledger becomes as a table seat, and what the seat becomes as a token again.
+-- A token of a ledger as a table seat, and the seat as a token again.
 use Rattle.std.proofs.Common.{◌≡◌, ℕ, Bool, List, [], ◌∷◌, sym, ap, ◌∙◌}
 use Rattle.atomic_table.specs.Seated.{TableId}
 use Rattle.atomic_table.specs.Table.{Me}

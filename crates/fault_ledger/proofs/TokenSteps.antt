@@ -49,7 +49,7 @@ module _ {shape : Shape} {table : TableId} {a : Sitter} {t : TableId} {me : Me �
       (Looks (step slots i 0 0 none) m)) (sym is.me_is)
       (looks_allowed shape slots id i shape (post a.worker a.told a.seen) [] [])
 
-  -- what a look at a piece found
+  -- the result of a look at a piece
   pub look_done : (slots p i n : ℕ) {now_t : TableId} (now : Me ℕ View) (b : Badge View)
       → i ≡ word_with p → now_t ≡ t → Looks (step slots i 0 0 none) me n now → b.table_id ≡ now_t
       → b.views ≡ now.0 ∷ [] → p < piece_count shape
@@ -83,8 +83,8 @@ module _ {shape : Shape} {table : TableId} {a : Sitter} {t : TableId} {me : Me �
         ∙ ap (λ (q : Place). answer q.shape adds.0 (call_of e)) (sym is.place_is);
   }
 
-  -- what is so of the step on a piece's field is so of the word's number and the bits that the call
-  -- computed
+  -- a property of the step on a piece's field is a property of the word's number and the bits that
+  -- the call computed
   at_bits : (P : Me ℕ View → ℕ → ℕ → Type 0) {i j k l : ℕ} → i ≡ j → k ≡ l
       → P (one shape a.worker a.told a.seen, []) j l → P me i k
   at_bits P {i} {j} {k} {l} place bits so =

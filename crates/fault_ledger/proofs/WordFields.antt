@@ -1,5 +1,5 @@
--- Eight fields of eight bits in a word: what is added to one that is 0 is set in it, and the others
--- stay.
+-- Eight fields of eight bits in a word: a code that is added to a field of 0 is set in it, and the
+-- others stay.
 use Rattle.std.proofs.Common.{◌≡◌, ◌≢◌, ℕ, ◌+◌, ◌-◌, ◌*◌, ◌/◌, ◌%◌, ◌^◌, ◌<◌, ◌≤◌, bit_or, bit_and}
 use Rattle.std.proofs.Common.{sym, ap, ◌∙◌, subst, arith, mod-eq_of_lt, mul_assoc, mul-div_cancel}
 use Rattle.std.proofs.Common.{pow-add, pow_pos, pow_mono, lt_of_lt_of_le, mul-lt-mul_of_pos_right}

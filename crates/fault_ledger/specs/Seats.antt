@@ -1,4 +1,4 @@
--- How clients see a shared ledger, its seats, and what a call on a seat does.
+-- A shared ledger and its seats as clients see them, and the effect of a call on a seat.
 use Rattle.std.specs.Prelude.{◌≡◌, ◌≢◌, ◌<◌, ◌≤◌, ℕ, Bool, true, false, List, [], ◌∷◌, All, map}
 use Rattle.std.specs.Prelude.{slice_index_or, Option, Some, None}
 use Rattle.atomic_table.specs.Seated.{TableId}
@@ -32,8 +32,8 @@ pub record Sitter : Type 0 where
   pub told : Bool
   pub seen : History
 
--- What every seat is: its worker is one of the ledger's, and the history that it has seen is legal.
--- If it has got that all pieces are claimed, they are, and it holds none.
+-- The invariant of a seat: its worker is one of the ledger's, and the history that it has seen is
+-- legal. If it has got that all pieces are claimed, they are, and it holds none.
 pub record IsSitter (a : Sitter) : Type 0 where
   pub limits : shape_fault a.place.shape ≡ None
   pub among : a.worker < a.place.shape.workers
@@ -50,12 +50,12 @@ pub record Recalls (shape : Shape) (h : History) (class : ℕ) (known : Remember
 abbrev pub nothing_seen : Remembered
 nothing_seen = record { clear = 0; hit = false }
 
--- what is remembered of each class is so in what was seen
+-- the memory of each class is true in the history that was seen
 abbrev pub Remembers : Sitter → List Remembered → Type 0
 Remembers a remembered = (class : ℕ)
     → Recalls a.place.shape a.seen class (slice_index_or remembered class nothing_seen)
 
--- what a seat keeps beside its token
+-- the data of a seat beside its token
 pub record IsSeated (a : Sitter) (worker : ℕ) (told : Bool) (classes : ℕ) (piece : Option ℕ)
     (remembered : List Remembered) : Type 0 where
   pub sitter : IsSitter a

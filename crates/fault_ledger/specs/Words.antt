@@ -20,7 +20,7 @@ use Rattle.fault_ledger.specs.Answer.{IsLegal}
 use Rattle.fault_ledger.specs.Face.{shape_fault}
 use Rattle.fault_ledger.specs.Seats.{Place, Sitter}
 
--- a word has eight fields of eight bits, the first its lowest bits: what stands in one
+-- a field of a word, which has eight fields of eight bits, the first its lowest bits
 abbrev pub field : ℕ → ℕ → ℕ
 field n j = n / 2 ^ (8 * j) % 2 ^ 8
 
@@ -37,7 +37,7 @@ word_count shape = (piece_count shape + 7) / 8 + 1
 abbrev pub in_field : ℕ → ℕ → ℕ
 in_field piece code = code * 2 ^ (8 * (piece % 8))
 
--- what stands in the field of a piece
+-- the field of a piece
 abbrev pub field_in : List ℕ → ℕ → ℕ
 field_in words piece = field (slice_index words (word_with piece)) (piece % 8)
 

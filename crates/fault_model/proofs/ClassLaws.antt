@@ -61,7 +61,7 @@ classes_show_same c well arities f g both =
     let from : ShowSame c f q.0 = subst (ShowSame c f) one (along both.0 well arities p.1 p.2.0) in
     same_through c f q.0 g well from (same_turned c g q.0 (along both.0 well arities q.1 q.2.0))
 
--- what shows the same is detected by the same tests
+-- faults that show the same are detected by the same tests
 detects_too : (c : List Statement) (f g : Fault) (t : Test) → IsWellFormed c → ShowSame c f g
     → Detects c t f → Detects c t g
 detects_too c f g t well same d =

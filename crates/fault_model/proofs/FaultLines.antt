@@ -63,7 +63,7 @@ length_both m [] = refl
 length_both m (l ∷ ls) =
     let h : length (flat_map (both m) ls) ≡ 2 * length ls = length_both m ls in omega (arith, h)
 
--- what stands at an even place, and at an odd one
+-- the entry at an even place, and at an odd one
 pub at_even : (m : Model) (ls : List Line) (i : ℕ)
     → slice_get (flat_map (both m) ls) (i + i)
     ≡ option_map (λ l. fault_on m l false) (slice_get ls i)
@@ -188,7 +188,7 @@ distinct_filter {X} test (x ∷ xs) d = go (test x) (distinct_filter test xs d.1
     go true later = ((λ a. d.0 (filtered_from test xs x a).0), later)
     go false later = later
 
--- how many lines there are
+-- the number of lines
 few_branches : (c : List Statement) (n : Name) → length (branches c n) ≤ length (sinks c n)
 few_branches c n = go (nat_le 2 (length (sinks c n)))
   where
@@ -223,7 +223,7 @@ lines_within c is =
     sinks_counted c is.well_formed in
     omega (arith, all, read, is.signals, is.sinks)
 
--- and so how many faults
+-- and so the number of faults
 pub faults_within : (m : Model) (c : List Statement) → IsCircuit c
     → length (faults m c) ≤ 2 * (max_signals + max_sinks)
 faults_within m c is =

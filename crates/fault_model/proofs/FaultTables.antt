@@ -1,4 +1,4 @@
--- What the tables of the fault list hold: two faults for each line, and the place of each stem.
+-- The tables of the fault list: two faults for each line, and the place of each stem.
 use Rattle.std.proofs.Common.{◌≡◌, ◌<◌, ℕ, zero, suc, ◌+◌, ◌*◌, ◌/◌, ◌%◌, refl, sym, ◌∙◌, ap, subst}
 use Rattle.std.proofs.Common.{Bool, true, false, List, length, get_or, arith, inl, inr}
 use Rattle.std.specs.Prelude.{Contains, Option, Some, None, slice_get, flat_map, option_map}

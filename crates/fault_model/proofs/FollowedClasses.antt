@@ -1,4 +1,4 @@
--- A fault has the class of its next fault, and what a table knows once that class is written.
+-- A fault has the class of its next fault, and a table with that class written.
 use Rattle.std.proofs.Common.{◌≡◌, ◌<◌, ℕ, zero, suc, refl, sym, ◌∙◌, ap, subst, List, [], ◌∷◌}
 use Rattle.std.proofs.Common.{length, set, get_or, arith, inl, inr, ◌⊎◌}
 use Rattle.std.specs.Prelude.{Contains, Some, slice_get, map, option_map, option_and_then}

@@ -1,4 +1,4 @@
--- The faults of the list, and what a fault's next fault is.
+-- The faults of the list, and their next faults.
 use Rattle.std.proofs.Common.{◌≡◌, ℕ, refl, sym, ◌∙◌, ap, subst, Bool, true, false, List, [], ◌∷◌}
 use Rattle.std.proofs.Common.{inl, inr, ◌⊎◌, eqb-true, eq-eqb}
 use Rattle.std.specs.Prelude.{Contains, Option, Some, None, slice_get, flat_map, length, nat_le}
@@ -160,7 +160,7 @@ abbrev pub IsReadBy : List Statement → Line → Name → ℕ → ℕ → Type 
 IsReadBy c l n gate pin =
     ((l ≡ line.Stem (signal c n)) × (sinks c n ≡ sink.Pin gate pin ∷ [])) ⊎ (l ≡ line.Pin gate pin)
 
--- what a fault with a next fault is made of
+-- the parts of a fault with a next fault
 record NextParts (c : List Statement) (f g : Fault) : Type 0 where
   gate : ℕ
   pin : ℕ

@@ -106,7 +106,7 @@ gate_is_signal m c f gate at e =
         subst (λ k. Among k (sinks c n)) own (branch_among c n b.0 b.1) in
         read n pin (pin_reads c n gate pin there)
 
--- the fault at a place of the list, with what was read of it
+-- the fault at a place of the list, with its line and its bit
 pub record FaultAt (m : Model) (c : List Statement) (i : ℕ) (l : Line) (b : Bool) : Type 0 where
   pub there : slice_get (faults m c) i ≡ Some (fault_on m l b)
   pub listed : Contains (faults m c) (fault_on m l b)

@@ -91,7 +91,7 @@ module _ (m n : Model) (c : List Statement) (rows : HaveSameRows m n) where
       over_with f.stuck (readers c f.line)
       ∙ ap (λ x. option_map (with_model n) (next_over c x f.stuck (readers c f.line))) (sym of)
 
-  -- what is reached
+  -- the faults that are reached
   reached_with : {f r : Fault} → f.model ≡ m → Reaches c f r
       → Reaches c (with_model n f) (with_model n r) × (r.model ≡ m)
   reached_with of here = (here, of)

@@ -77,7 +77,7 @@ first_from k c f second before (t ∷ tests) =
 abbrev pub first_within : ℕ → List Statement → List Test → Fault → Option ℕ
 first_within k c tests f = first_from k c f false None tests
 
--- what the program follows is a chain of next faults
+-- the program follows a chain of next faults
 reaches_within : (n : ℕ) (c : List Statement) (f : Fault) → Reaches c f (rep_within n c f)
 reaches_within zero c f = here
 reaches_within (suc n) c f = go (reaches_within n c) (next c f) refl

@@ -16,7 +16,7 @@ use Rattle.list_lemmas.proofs.Members.{Among, among, contained, among_joined, jo
 use Rattle.list_lemmas.proofs.Distinct.{Distinct, distinct_from_pairs}
 use Rattle.bench_net.proofs.Public.{bytes_refl, same_bytes}
 
--- ---- what the statements give one after another, in another order
+-- ---- the values of the statements one after another, in another order
 
 pub length_reordered : {X Y : Type 0} (f : X → List Y) (xs ys : List X) → IsPermutation xs ys
     → length (flat_map f ys) ≡ length (flat_map f xs)
@@ -31,7 +31,7 @@ given_reordered f xs ys y p at =
     let there = Contains-permutation xs ys from.0 p (contained xs from.0 from.1) in
     contained (flat_map f ys) y (among_joined f ys from.0 y (among ys from.0 there) from.2)
 
--- ---- how often a name stands in a list
+-- ---- the number of times that a name is in a list
 
 abbrev is_it : Name → Name → ℕ
 is_it n m = cond (bytes_eq n m) 1 0

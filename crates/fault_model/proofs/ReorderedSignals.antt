@@ -115,7 +115,7 @@ module _ (c d : List Statement) (well : IsWellFormed c) (is : IsReordered c d) w
         sym (signal-name_of d s at.0 well_there.once at.1 there) ∙ numbered at.0 here,
       )
 
-  -- ---- what defines a signal
+  -- ---- the definition of a signal
 
   pub same_definition : (s : ℕ) → definition d (place c d s) ≡ definition c s
   same_definition s = go (definition c s) (definition d (place c d s)) refl refl

@@ -12,7 +12,7 @@ use Rattle.list_lemmas.proofs.Members.{Among}
 use Rattle.bench_net.proofs.Public.{same_bytes}
 use Rattle.list_lemmas.proofs.Distinct.{Distinct, distinct_from_pairs}
 
--- how often a name stands in a list
+-- the number of times that a name is in a list
 abbrev count : Name → List Name → ℕ
 count n [] = 0
 count n (m ∷ ns) = if bytes_eq n m then 1 + count n ns else count n ns

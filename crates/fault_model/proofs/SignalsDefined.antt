@@ -1,4 +1,4 @@
--- What defines a name: the definition of a name's number is the one statement that defines the
+-- The definitions of names: the definition of a name's number is the one statement that defines the
 -- name.
 use Rattle.std.proofs.Common.{◌≡◌, ℕ, refl, sym, ◌∙◌, ap, subst, Bool, true, false, List, [], ◌∷◌}
 use Rattle.std.proofs.Common.{inl, inr, ◌⊎◌}

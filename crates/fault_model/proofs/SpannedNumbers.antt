@@ -180,7 +180,7 @@ same_ordered {X} R one_way (x ∷ xs) (y ∷ ys) up also into from =
             let own : R y y = subst (R y) (sym h ∙ e) (also.0 z a) in
             absurd (one_way y y own own)
 
--- ---- what is kept of such lists
+-- ---- the parts of such lists that pass
 
 pub kept_all : {Y : Type 0} (h : ℕ → Option Y) (f : ℕ → Y) (xs : List ℕ)
     → ((s : ℕ) → Among s xs → h s ≡ Some (f s)) → filter_map h xs ≡ map f xs

@@ -1,4 +1,4 @@
--- What the parts of collapsing compute.
+-- The results of the parts of collapsing.
 use Rattle.std.specs.Prelude.{◌≡◌, ℕ, ◌<◌, Bool, List, [], ◌∷◌, length, Option, Some, None}
 use Rattle.std.specs.Prelude.{option_and_then, option_map, slice_get, slice_index_or}
 use Rattle.bench_net.specs.declared.Kind.{Kind}
@@ -54,6 +54,6 @@ pub record HaveNexts (m : Model) (c : List Statement) (n : ℕ) (nexts : List (O
     pub each : (i : ℕ) → i < n → option_map (slice_get (faults m c)) (slice_index_or nexts i None)
         ≡ option_map Some (option_and_then (next c) (slice_get (faults m c) i))
 
--- what is known of one table is known of the other
+-- the second table has all classes that the first has
 abbrev pub KeepsClasses : Model → List Statement → List ℕ → List ℕ → Type 0
 KeepsClasses m c before after = (i : ℕ) → HasClassAt m c before i → HasClassAt m c after i

@@ -1,4 +1,4 @@
--- What the tables of the fault list keep.
+-- The invariant of the tables of the fault list.
 use Rattle.std.specs.Prelude.{◌≡◌, ◌≤◌, ◌+◌, ℕ, List, length, Contains, Some, slice_get}
 use Rattle.std.specs.Prelude.{option_and_then}
 use Rattle.bench_net.specs.Circuit.{max_signals, max_sinks}

@@ -93,7 +93,7 @@ abbrev pub IsDetectedSameAt : List Statement → List Statement → Type 0
 IsDetectedSameAt c d = (tests : List Test) (f : Fault) (t : ℕ)
     → DetectsAt c tests f t ↔ DetectsAt d tests (moved_fault c d f) t
 
--- the statements in an order of signals: the outputs, and then what defines each signal
+-- the statements in an order of signals: the outputs, and then the definition of each signal
 abbrev pub in_order : List Statement → List ℕ → List Statement
 in_order c order = filter (λ s. not (defines s)) c ++ filter_map (definition c) order
 

@@ -16,7 +16,7 @@ last_some tests some =
     drop_more tests last [] (omega (arith, some))
     ∙ ap (λ rest. get_or tests last [] ∷ rest) (drop_all (last + 1) tests (omega (arith, some)))
 
--- how many that is
+-- their number
 pub none_kept : (tests : List (List Bool)) → length tests ≡ 0 → length (last_of tests) ≡ 0
 none_kept tests none = ap length (last_none tests none)
 

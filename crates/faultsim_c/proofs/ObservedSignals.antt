@@ -93,7 +93,7 @@ module _ (c : List Statement) (outs : List ℕ) (items : List ScanCell)
       (slice_get-map (λ (cell : ScanCell). cell.d) items (i - length outs)
       ∙ ap (option_map (λ (cell : ScanCell). cell.d)) at)))
 
--- what is observed is read by a statement
+-- a statement reads each observed signal
 output_read : (c : List Statement) (n : Name) → Among n (outputs c) → Among n (flat_map read c)
 output_read [] n a = a
 output_read (Input m ∷ c) n a = output_read c n a

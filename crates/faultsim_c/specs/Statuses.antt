@@ -30,7 +30,7 @@ status_number _ = 3
 abbrev fault : ℕ → ℕ → FsFault
 fault kind place = record { kind = kind; place = place }
 
--- why, by a kind and a place; 0 if no text and no words are wrong
+-- the error by a kind and a place; 0 if no file and no words are wrong
 abbrev pub error_numbers : Refusal → FsFault
 error_numbers (refusal.Bench (bench.TooLarge limit.Bytes)) = fault 1 0
 error_numbers (refusal.Bench (bench.TooLarge limit.Signals)) = fault 2 0
@@ -52,7 +52,7 @@ error_numbers (refusal.Words words.Memory) = fault 0 0
 error_numbers refusal.Shared = fault 0 0
 error_numbers refusal.Memory = fault 0 0
 
--- why a circuit isn't read
+-- the error of a circuit
 abbrev pub IsBenchReply : List ℕ → Refusal → Type 0
 IsBenchReply netlist (refusal.Bench f) = (f ≡ bench.Memory) ⊎ IsRefused netlist f
 IsBenchReply netlist refusal.Memory = ⊤
@@ -64,14 +64,14 @@ IsUntaken alone refusal.Memory = ⊤
 IsUntaken alone refusal.Shared = alone ≡ false
 IsUntaken alone _ = ⊥
 
--- why the tests of a text aren't taken
+-- the error of the tests of a file
 abbrev pub IsTestsReply : Bool → ℕ → List ℕ → Refusal → Type 0
 IsTestsReply alone width text (refusal.Tests f) = (f ≡ tests.Memory) ⊎ IsTestRefusal text width f
 IsTestsReply alone width text refusal.Memory = ⊤
 IsTestsReply alone width text refusal.Shared = alone ≡ false
 IsTestsReply alone width text _ = ⊥
 
--- why tests in words aren't taken
+-- the error of tests in words
 abbrev pub IsWordsReply : Bool → ℕ → ℕ → List ℕ → Refusal → Type 0
 IsWordsReply alone width count ws (refusal.Words f) =
     (f ≡ words.Memory) ⊎ IsWordsRefusal width count ws f
@@ -102,7 +102,7 @@ abbrev pub IsRefusedFor : List ℕ → List ℕ → TestFault → Type 0
 IsRefusedFor netlist text f = (c : List Statement) × IsAccepted netlist c
     × IsTestRefusal text (length (sources c)) f
 
--- why a circuit and its tests aren't read
+-- the error of a circuit and its tests
 abbrev pub IsTextsReply : List ℕ → List ℕ → Refusal → Type 0
 IsTextsReply netlist text (refusal.Bench f) = (f ≡ bench.Memory) ⊎ IsRefused netlist f
 IsTextsReply netlist text (refusal.Tests f) = (f ≡ tests.Memory) ⊎ IsRefusedFor netlist text f

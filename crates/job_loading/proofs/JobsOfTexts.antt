@@ -1,4 +1,4 @@
--- What is made of the circuit and the tests of accepted texts is a job of the texts.
+-- A job of the circuit and the tests of accepted files is a job of the files.
 use Rattle.std.proofs.Common.{◌≡◌, ◌⊎◌, ℕ, List, length, refl, sym, ap, subst, inl, inr}
 use Rattle.std.specs.Prelude.{Result, Err, ◌↔◌}
 use Rattle.bench_net.specs.Statement.{Statement}

@@ -1,4 +1,4 @@
--- Into how many parts a run is cut.
+-- The number of parts into which a run is cut.
 use Rattle.std.specs.Prelude.{◌≡◌, ⊤, ℕ, ◌<◌, ◌≤◌, List}
 use Rattle.fault_model.specs.declared.Model.{Model}
 use Rattle.patterns.specs.Tests.{max_pieces}

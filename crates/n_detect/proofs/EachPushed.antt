@@ -1,4 +1,4 @@
--- What holds of each element of a list, each at its place, holds of a list with one more.
+-- A property of each element of a list, each at its place, holds of a list with one more.
 use Rattle.std.proofs.Common.{◌≡◌, ℕ, zero, suc, List, [], ◌∷◌, ◌++◌, length, None, Some, ap, subst}
 use Rattle.std.specs.Prelude.{slice_get, unwrap_or}
 

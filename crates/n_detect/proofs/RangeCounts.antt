@@ -1,4 +1,4 @@
--- How many numbers of a range have a property, and how many bits of a word are set.
+-- The number of numbers of a range with a property, and the number of set bits of a word.
 use Rattle.std.proofs.Common.{◌≡◌, ◌<◌, ◌≤◌, ◌+◌, ◌-◌, ◌*◌, ◌/◌, ◌%◌, ◌^◌, ◌==◌, ℕ, zero, suc, Bool}
 use Rattle.std.proofs.Common.{true, false, List, length, cond, refl, sym, ap, ◌∙◌, arith}
 use Rattle.std.specs.Prelude.{count_by, count_ones}

@@ -19,7 +19,7 @@ use Rattle.patterns.specs.Tests.{TestList}
 use Rattle.block_sim.specs.Responses.{AreResponses}
 use Rattle.pairs.specs.Pairs.{AreLaunchPairs, ArePairRows, captured}
 
--- ---- what the observers show
+-- ---- the bits that the observers show
 
 abbrev at_outputs : List (ℕ × Name) → List (Sink × Name)
 at_outputs ats = map (λ at. (sink.Out at.0, at.1)) ats
@@ -39,7 +39,7 @@ shown_cells : (v : Name → Bool) (first : ℕ) (qds : List (Name × Name))
 shown_cells v first [] = refl
 shown_cells v first (qd ∷ qds) = ap (λ bits. v qd.1 ∷ bits) (shown_cells v (first + 1) qds)
 
--- the observers after the outputs show what the cells capture
+-- the observers after the outputs show the bits that the cells capture
 shown_behind : (c : List Statement) (v : Name → Bool)
     → drop (length (outputs c)) (map (shows None v) (observers c)) ≡ captured c v
 shown_behind c v =
@@ -50,7 +50,7 @@ shown_behind c v =
     ∙ (ap (λ n. drop n (outs ++ rest)) (sym (shown_outputs c v))
     ∙ (drop-append_seam outs rest ∙ shown_cells v 0 (cells c)))
 
--- how many sources and observers there are
+-- the numbers of sources and observers
 pub source_count : (c : List Statement)
     → length (sources c) ≡ length (inputs c) + length (cells c)
 source_count c = length-append (inputs c) (map (λ cell. cell.0) (cells c))

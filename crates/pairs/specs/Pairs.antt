@@ -8,7 +8,7 @@ use Rattle.patterns.specs.declared.TestFault.{TestFault}
 use Rattle.patterns.specs.declared.TestFault.TheVariants as test_fault
 use Rattle.patterns.specs.Tests.{max_tests}
 
--- what the flip-flops capture at their data pins, in the order of the cells
+-- the bits that the flip-flops capture at their data pins, in the order of the cells
 abbrev pub captured : List Statement → (Name → Bool) → List Bool
 captured c v = map (λ cell. v cell.1) (cells c)
 

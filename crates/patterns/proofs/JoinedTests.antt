@@ -12,7 +12,7 @@ use Rattle.patterns.specs.Least.{below}
 use Rattle.patterns.specs.Words.{word_at, bit_of, tests_of, AreWords}
 use Rattle.patterns.proofs.NumbersBelow.{map-below_more, map-below_same}
 
--- what a function gives of the numbers below a sum
+-- the values of a function on the numbers below a sum
 pub map-below_sum : {X : Type 0} (f : ℕ → X) (m n : ℕ)
     → map f (below (m + n)) ≡ map f (below m) ++ map (λ i. f (m + i)) (below n)
 map-below_sum f m zero =

@@ -140,8 +140,7 @@ AreClear-from_least table blocks class is =
 
 -- ---- over a table of first hits the least test is the first at which it holds
 
--- what holds at the first hit of its block, with the blocks before Clear, holds there first of all
--- tests
+-- the first hit of its block, with the blocks before Clear, is the first of all tests
 first_from_hit : (Holds : ℕ → Type 0) (table : Table) (tests class t : ℕ)
     → IsLeastHit table (blocks tests) class t
     → ((block : ℕ) → block < blocks tests → IsFirstOfBlock Holds tests block (table class block))

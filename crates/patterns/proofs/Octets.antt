@@ -83,7 +83,7 @@ IsWord-from_bytes width count bytes source are in_width k in_word =
     (get_or-map-below_past _ count k [] past)))
     (cases_lt k count))
 
--- what contracts see of the tests that these bytes hold
+-- the tests in these bytes, as contracts see them
 pub octet-count : (width count : ℕ) (bytes : List ℕ) (value : TestList)
     → record { width = width; tests = tests_in_bytes width count bytes } ≡ value
     → length value.tests ≡ count

@@ -99,7 +99,7 @@ block_width width count words b block are within read =
     ap length (sym (word_lists-read words b block within read))
     ∙ are.each b [] (omega (arith, length-map words (λ (v : Vec ℕ _). v.items)))
 
--- what contracts see of the tests that these words hold
+-- the tests in these words, as contracts see them
 abbrev pub seen : {Z : Type 0} → ℕ → ℕ → List (Vec ℕ Z) → TestList
 seen width count words = record { width = width; tests = tests_of width count (word_lists words) }
 

@@ -14,7 +14,7 @@ use Rattle.fault_model.proofs.Public.{carries}
 use Rattle.block_sim.specs.Parts.{BelongTogether, Parts}
 use Rattle.undetected.specs.Reasons.{IsLineIn}
 
--- what has an argument is a gate, and has the number of a signal
+-- a name with an argument is a gate's, and has the number of a signal
 gate_in : (c : List Statement) (gate pin : ℕ) (n : Name)
     → argument (definition c gate) pin ≡ Some n → gate < length (names c)
 gate_in c gate pin n named = go (definition c gate) refl named

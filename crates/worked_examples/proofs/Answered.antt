@@ -13,7 +13,7 @@ use Rattle.block_sim.specs.Responses.{AreResponses}
 use Rattle.worked_examples.proofs.Circuits.{c17, scan_cell}
 use Rattle.worked_examples.proofs.Listings.{tests, text}
 
--- y = AND(a, q) is the output, and q captures it: what both show in the solution
+-- y = AND(a, q) is the output, and q captures it: the bits of both in the solution
 shown : (t : Test) (v : Name → Bool) → Solves scan_cell t None v
     → map (shows None v) (observers scan_cell)
     ≡ value And (slice_index_or t 0 false ∷ slice_index_or t 1 false ∷ []) ∷ value And
@@ -49,7 +49,7 @@ scan_cell_responses = record { width = refl; count = refl; each = each }
 scan_cell_response_text : test_text answers.tests ≡ text (codes "11" ∷ codes "00" ∷ codes "00" ∷ [])
 scan_cell_response_text = refl
 
--- C17: what its two outputs show in the solution, gate after gate
+-- C17: the bits of its two outputs in the solution, gate after gate
 abbrev bit_of : Test → ℕ → Bool
 bit_of t k = slice_index_or t k false
 

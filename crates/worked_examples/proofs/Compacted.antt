@@ -1,4 +1,5 @@
--- A compaction of three tests of a buffer: the third finds what the first finds, so it is left out.
+-- A compaction of three tests of a buffer: the third detects the same faults as the first, so it is
+-- left out.
 use Rattle.std.proofs.Common.{arith, inl, inr, subst, sym}
 use Rattle.std.specs.Prelude.{◌≡◌, ◌<◌, ℕ, zero, suc, Bool, true, false, List, [], ◌∷◌, codes, refl}
 use Rattle.std.specs.Prelude.{Contains, Some, None, slice_get, unwrap_or}

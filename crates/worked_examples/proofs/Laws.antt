@@ -17,7 +17,7 @@ abbrev all_tests : ℕ → List Test
 all_tests zero = [] ∷ []
 all_tests (suc n) = map (λ t. false ∷ t) (all_tests n) ++ map (λ t. true ∷ t) (all_tests n)
 
--- what each observer shows
+-- the bit that each observer shows
 abbrev shown : List Statement → Test → Fault → List Bool
 shown c t f = map (shows (Some f) (bit_within 5 c t (Some f))) (observers c)
 
@@ -26,7 +26,7 @@ all_same [] [] = true
 all_same (a ∷ more) (b ∷ others) = same_bit a b && all_same more others
 all_same _ _ = false
 
--- under these tests each fault shows what its representative shows, and the valuation used solves
+-- under these tests each fault shows the same as its representative, and the valuation used solves
 abbrev shows_as_rep : List Statement → List Test → Bool
 shows_as_rep c ts = list_all (λ f.
     list_all (λ t. is_solved c t (Some f) (bit_within 5 c t (Some f)) && all_same (shown c t f)

@@ -35,7 +35,7 @@ in_pairs : report TransitionPairs buffer (firsts buffer two_pairs) Omitted
 unfolding digits
 in_pairs = refl
 
--- one pair gives what a run of two tests in a row gives
+-- one pair has the result of a run of two tests in a row
 one_pair : firsts buffer (tests (codes "0" ∷ codes "1" ∷ [])) ≡ Some 1 ∷ None ∷ Some 1 ∷ None ∷ []
 one_pair = refl
 

@@ -1,4 +1,4 @@
--- Parts that workers took, and what was found in them.
+-- Parts that workers took, and the results for them.
 use Rattle.std.proofs.Common.{◌≡◌, ◌<◌, ℕ, List, length, All, Option, Some, None, sym, ◌∙◌}
 use Rattle.std.proofs.Common.{subst, get_or, ap, arith}
 use Rattle.std.specs.Prelude.{Result, Ok, Err, IfOk}
@@ -17,7 +17,7 @@ use Rattle.workers.specs.Stretches.{HasServed}
 use Rattle.workers.specs.Stops.{Stops}
 use Rattle.workers.proofs.StretchRuns.{found_none}
 
--- what is found at first
+-- the results at first
 pub none_found : (job : Parts) (classes : List ℕ) (firsts : List (Option ℕ))
     → length firsts ≡ length classes → All (λ first. first ≡ None) firsts
     → AreFoundUpTo job classes 0 0 firsts
@@ -26,7 +26,7 @@ none_found job classes firsts count none =
     (λ k first at. sym (get_or_from_slice_get firsts k first first at)
     ∙ none k first (slice_get_within firsts k first at))
 
--- what a worker found, under other gates of the same
+-- the results of a worker, under other gates of the same
 pub done_along : (job : Parts) (size : ℕ) (classes : List ℕ) (w : ℕ) (P P' : Type 0)
     (S S' : Stops) (done : Done) → (P' → P) → ((u k b : ℕ) → S.may u k b → S'.may u k b)
     → ((u k b : ℕ) → S'.must u k b → S.must u k b)
@@ -54,7 +54,7 @@ done_along job size classes w P P' S S' done q t v is = record {
       λ k class b at lt still must. e.2 k class b at lt still (v w class b must),
     )
 
--- what a thread gives back, under other names of the same
+-- the result of a thread, under other names of the same
 pub served_along : {E : Type 0} (r r' : Result Served E) (j j' : Parts) (u u' : Cut) (p p' : Place)
     (w w' : ℕ) (P P' : Type 0) (S S' : Stops) → r ≡ r' → j ≡ j' → u ≡ u' → p ≡ p' → w ≡ w'
     → (P' → P) → ((v k b : ℕ) → S.may v k b → S'.may v k b)
@@ -95,7 +95,7 @@ served_along {E} r r' j j' u u' p p' w w' P P' S S' er ej eu ep ew q t v is =
           ended = h.ended;
         }))))
 
--- how many seats there are
+-- the number of seats
 pub seats_count : (seats : List Sitter) (p : Place) → seats ≡ newcomers p
     → length seats ≡ p.shape.workers
 seats_count seats p e = ap (λ (l : List Sitter). length l) e

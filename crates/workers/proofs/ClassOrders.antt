@@ -33,7 +33,7 @@ rank_total = then_total (on_total (λ (r : Ranked). r.visit) nat_cmp_total)
 weak : IsStrictWeakOrder (λ (x y : Ranked). is_lt (rank_cmp x y))
 weak = ranks_by rank_total (λ (x : Ranked). x)
 
--- what is not sorted before another comes after it, or is of the same class
+-- a class that is not sorted before another comes after it, or is the same class
 not_after : (a b : Ranked) → is_lt (rank_cmp b a) ≡ false → a.class ≢ b.class → RanksBefore a b
 not_after a b e d =
     by_ranked (b.visit < a.visit) (b.visit ≡ a.visit) (a.visit < b.visit)
@@ -209,7 +209,7 @@ numbered_more job visits n xs at was is own = record {
 
 -- ---- the classes of a part
 
--- what is kept stood there before
+-- each kept class was there before
 pub kept_place : {X : Type 0} (p : X → Bool) (xs : List X) (k : ℕ) (x : X)
     → slice_get (filter p xs) k ≡ Some x
     → (j : ℕ) × (k ≤ j) × (slice_get xs j ≡ Some x) × (p x ≡ true)
@@ -248,7 +248,7 @@ kept_order {X} p (z ∷ xs) i k x y lt e f =
     go false i (suc k) low e f rest = let h = rest i (suc k) low e f in
         (suc h.0, suc h.1, omega (arith, h.2), h.3, h.4)
 
--- what is to be kept is
+-- each class that is to be kept is there
 pub is_kept : {X : Type 0} (p : X → Bool) (xs : List X) (j : ℕ) (x : X) → slice_get xs j ≡ Some x
     → p x ≡ true → (k : ℕ) × (slice_get (filter p xs) k ≡ Some x)
 is_kept p [] j x e is = let bad : None ≡ Some x = e in absurd (cc)

@@ -166,7 +166,7 @@ waits_for g a (suc n) c b e = go (g a) refl e (waits_for g (a + 1) n c b)
         let y : k ≡ b = cc in
         (omega arith, ap g (sym x) ∙ q ∙ ap status_is.Waiting y)
 
--- what a ledger that isn't finished names
+-- the class and block that an unfinished ledger names
 pub waiting_range : (s : Shape) (h : History) (c b : ℕ) → IsLegal s h
     → finish s h ≡ finish_is.Waiting c b → (c < s.classes) × (b < block_count s)
 waiting_range s h c b l e =
@@ -196,7 +196,7 @@ module _ (job : Parts) (over : ClassSelection) (workers : ℕ) (p : Place) (P : 
       → w < workers → R (shape_over job over workers) w
   each_worker R each = subst (λ (s : Shape). (w : ℕ) → w < s.workers → R s w) is each
 
-  -- what a run that isn't finished names, and that its gate stopped a worker
+  -- the class and block that an unfinished run names, and that its gate stopped a worker
   pub closed_waiting : (class block : ℕ) → ((h : History) → IsLegal closed.shape h
       → closed ≡ closed_face closed.shape h → finish_is.Waiting class block ≡ finish closed.shape h)
       → (class < over.count) × (block < blocks (length job.tests.tests)) × (¬ P)

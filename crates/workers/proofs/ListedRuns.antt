@@ -1,4 +1,4 @@
--- What a runner finds for any list of classes.
+-- The results of a runner for any list of classes.
 use Rattle.std.proofs.Common.{◌≡◌, ◌<◌, ◌≤◌, inl, inr, ℕ, List, length, map, All}
 use Rattle.std.proofs.Common.{Option, Some, true, false, sym, ap, ◌∙◌, subst, get_or, arith}
 use Rattle.std.specs.Prelude.{Bool, filter, slice_get}
@@ -19,7 +19,7 @@ use Rattle.workers.proofs.ClassOrders.{is_kept, kept_few}
 use Rattle.workers.proofs.PartsOfClasses.{all_within}
 
 module _ (job : Parts) (order : List ℕ) (all : AreAllByRegion job order) where
-  -- what is kept of all classes are classes of the job
+  -- the kept classes of all classes are classes of the job
   pub listed_within : (p : ℕ → Bool)
       → All (λ class. class < length job.classes.representative) (filter p order)
   listed_within p = All-filter p (λ class. class < length job.classes.representative) order

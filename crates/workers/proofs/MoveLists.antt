@@ -1,4 +1,4 @@
--- What lists of moves leave: how many events there can be, and that the workers' turns end.
+-- Lists of moves: the number of their events is bounded, and the workers' turns end.
 use Rattle.std.proofs.Common.{◌≡◌, ◌≢◌, ◌<◌, ◌≤◌, ◌+◌, ◌-◌, ◌*◌, ◌⊎◌, inl, inr, ℕ, zero, suc, Bool}
 use Rattle.std.proofs.Common.{true, false, cond, List, [], ◌∷◌, ◌++◌, length, map, All, Option}
 use Rattle.std.proofs.Common.{Some, None, refl, sym, ap, ◌∙◌, subst, arith, le-ltb, lt-ltb, eq-eqb}
@@ -32,7 +32,7 @@ pub moved_append : (t : Table) (s : Shape) (h : History) (xs ys : List ℕ)
 moved_append t s h [] ys = refl
 moved_append t s h (x ∷ xs) ys = moved_append t s (move t s h x) xs ys
 
--- what each of the moves keeps
+-- the invariant of each move
 pub moved_legal : (job : Parts) (t : Table) (s : Shape) (h : History) (xs : List ℕ)
     → BelongTogether job → IsShapeOf job s → IsTableOf job t → IsLegal s h
     → All (λ w. w < s.workers) xs → IsLegal s (after_moves t s h xs)
@@ -58,7 +58,7 @@ below_more n = last 0 n n (omega arith)
 pub below_last : (n : ℕ) → below n ++ n ∷ [] ≡ below (n + 1)
 below_last n = below_more n ∙ ap below (sym (add-one n))
 
--- how many of the workers below n hold a piece
+-- the number of workers below n that hold a piece
 abbrev is_one : Option ℕ → ℕ
 is_one None = 0
 is_one (Some p) = 1
@@ -368,7 +368,7 @@ over_moved t s h (x ∷ xs) all free a =
     ap (λ g. after_moves t s g xs) e ∙ over_moved t s h xs all free
     (λ k d lt. a (suc k) d (omega (arith, lt)))
 
--- After some turns: how many there were is at most the number of their events.
+-- After some turns: their number is at most the number of their events.
 pub record Turned (t : Table) (s : Shape) (h : History) (f : Face) (skipped : ℕ) : Type 0 where
   pub turns_done : ℕ
   pub shows : f ≡ face s (after_moves t s h (turns s.workers turns_done))
@@ -477,7 +477,7 @@ pub turned_on : (job : Parts) (t : Table) (s : Shape) (f new : Face) (g : Histor
 turned_on job t s f new g n e is l shows over =
     subst (λ (x : Shape). IsLegal x g → f ≡ face x g → Over t x g new n) e (over t g is) l shows
 
--- what a step does, under another name of the shape
+-- a step, under another name of the shape
 pub stepped : (job : Parts) (t : Table) (s : Shape) (f new : Face) (g : History) (w : ℕ)
     (r : Option Event) → f.shape ≡ s → BelongTogether job → IsShapeOf job s → IsTableOf job t
     → w < s.workers → IsLegal s g → f ≡ face s g
@@ -509,7 +509,7 @@ skipped_few job s h before n is few l e =
     let b = pieces_few job s is few in
     omega (arith, a, b, e)
 
--- what a schedule leaves: the ledger shows its history
+-- the end of a schedule: the ledger shows its history
 pub scheduled : (job : Parts) (t : Table) (s : Shape) (moves : List ℕ) (f second third : Face)
     (n m : ℕ) (changed : Bool) → IsTableOf job t → f ≡ face s []
     → ((table : Table) (h : History) → IsTableOf job table → IsLegal f.shape h → f ≡ face f.shape h

@@ -16,7 +16,7 @@ use Rattle.workers.specs.BlockSweeps.{HaveFirstsFrom, HaveFirstsAfter, between}
 use Rattle.workers.proofs.StretchRuns.{found_known}
 use Rattle.workers.proofs.PassedPieces.{passed_known}
 
--- what stands at a place of a list that was written to
+-- the element at a place of a list that was written to
 get_set_here : {X : Type 0} (xs : List X) (i : ℕ) (x : X) → i < length xs
     → slice_get (set xs i x) i ≡ Some x
 get_set_here xs i x lt =
@@ -114,7 +114,7 @@ left_out firsts next before place q low le is settled was = record {
             inl (same, cc)
         go (inr ne) = inr (get_set_other next before p q n ne e)
 
--- ---- what is found over settled places
+-- ---- the first tests over settled places
 pub found_over : (job : Parts) (classes : List ℕ) (block : ℕ) (firsts : List (Option ℕ))
     (from more : ℕ) → AreSettled firsts from (from + more)
     → AreFoundUpTo job classes from block firsts

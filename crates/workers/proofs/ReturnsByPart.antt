@@ -1,4 +1,4 @@
--- What workers give back, by part, and what it is together.
+-- The results of workers, by part and all together.
 use Rattle.std.proofs.Common.{◌≡◌, ◌≢◌, ◌≤◌, ◌⊎◌, inl, inr, ℕ, zero, suc, List, [], ◌∷◌, ◌++◌}
 use Rattle.std.proofs.Common.{set, length, All, Option, Some, None, IfSome, refl, sym, ap, ◌∙◌}
 use Rattle.std.proofs.Common.{subst, arith, length-append}
@@ -31,7 +31,7 @@ pub between_others : {X : Type 0} (xs ys : List X) (x : X)
 between_others [] ys x = refl
 between_others (z ∷ xs) ys x = between_others xs ys x
 
--- what stands in a list with one place set
+-- the elements of a list with one place set
 set_place : {X : Type 0} (xs : List X) (i k : ℕ) (x y : X) → slice_get (set xs i x) k ≡ Some y
     → ((k ≡ i) × (x ≡ y)) ⊎ (slice_get xs k ≡ Some y)
 set_place [] i k x y e = inr e
@@ -56,7 +56,7 @@ set_full (z ∷ xs) (suc i) d e = set_full xs i d e
 behind_end : (xs : List (Option Done)) (k : ℕ) → length xs ≤ k → slice_get xs k ≢ Some None
 behind_end xs k le e = let lt = slice_get_within xs k None e in absurd (omega (arith, le, lt))
 
--- what was put into a table of nothing
+-- the results in a table that was empty
 pub put_none : (was : List (Option Done)) → ArePut was [] was
 put_none was = record {
   count = refl;
@@ -179,7 +179,7 @@ given_more {Z} parts back given was table before put =
         put.all k done (subst (λ (v : Vec Done Z). slice_get v.items k ≡ Some done) (sym x.1) there)
         e
 
--- ---- seats, and what their workers found
+-- ---- seats, and their workers' results
 
 -- of none
 pub apart_none : {E Z : Type 0} → AreApart {E = E} {Z = Z} [] [] []
@@ -232,7 +232,7 @@ apart_more {E} {Z} back seats dones served own same was = record {
       ap (λ (v : Vec Done Z). v.items) (sym b.1) ∙ same,
     )
 
--- what stands in a list at the next place
+-- the element of a list at the next place
 pub next_place : {X : Type 0} (yielded rest all items : List X) (place : X) (part : ℕ)
     → length yielded ≡ part → yielded ++ items ≡ all → items ≡ place ∷ rest
     → slice_get all part ≡ Some place

@@ -127,7 +127,7 @@ run_back size classes table part run at =
     let same : run ≡ run_at (stretch size classes part) x.0 = cc in
     (x.0, x.1, same)
 
--- what waits in one run more
+-- the class that waits in one run more
 pub waits_more : (job : Parts) (runs : List PartRun) (run : PartRun)
     (lowest own lower : Option Waiting)
     → IsLowest (WaitsIn job runs) lowest → IsLowest (IsOpenIn job run.classes run.stop) own
@@ -251,7 +251,7 @@ unbegun_none : (own : List ℕ) → (unbegun_run own).worker ≡ None
 unbegun_none [] = refl
 unbegun_none (class ∷ own) = refl
 
--- what a worker found in a stretch that it ran stands at the place of this
+-- the result of a worker for a stretch that it ran is at the stretch's place
 begun : (own : List ℕ) (place : Option Done) (run : PartRun) (w : ℕ) → run ≡ run_at own place
     → run.worker ≡ Some w
     → (done : Done) × (place ≡ Some done) × (done.worker ≡ w) × (run.stop ≡ done.stop)

@@ -1,4 +1,4 @@
--- What calls on a seat add to a worker's work.
+-- The events that calls on a seat add to a worker's work.
 use Rattle.std.proofs.Common.{◌≡◌, ◌<◌, ◌≤◌, ◌+◌, ◌-◌, ℕ, Bool, true, false, cond, [], ◌∷◌, ◌++◌}
 use Rattle.std.proofs.Common.{Option, Some, None, refl, sym, ap, ◌∙◌, subst, arith, append_assoc}
 use Rattle.std.proofs.Common.{eq-eqb, nat_lt, ◌⊎◌, inl, inr}
@@ -86,7 +86,7 @@ without_twice w c b a x y = (
   none_append w x.0 y.0 x.2 y.2,
 )
 
--- what could not be dropped still could not, while the worker does nothing
+-- a piece that could not be dropped still could not, while the worker does nothing
 no_drop_later : (s : Shape) (w : ℕ) (later earlier : History) → ContinuesWithout w later earlier
     → WasNoDrop s w earlier → WasNoDrop s w later
 no_drop_later s w later earlier c n = (n.0, without_twice w later earlier n.0 c n.1, n.2)
@@ -145,7 +145,7 @@ makes_works job over a b e r m t = record {
       (subst (λ h. ReportsTruly job over a.place.shape a.worker (e ∷ []) h) m.newer.1 t);
 }
 
--- what a seat that was given a piece holds, and that it was given one piece more
+-- the piece of a seat after a claim, and that it was given one piece more
 pub given : (a b : Sitter) (class block : ℕ)
     → Makes a (Event.Claim a.worker) (Claimed (claim_is.Piece class block)) b
     → (held_by b.worker b.seen ≡ Some (piece_at a.place.shape class block))
@@ -241,7 +241,7 @@ holds_none a b i e s = go (nat_lt (claims a.seen) (piece_count a.place.shape)) (
     go true q = absurd (cc)
     go false q = absurd (cc)
 
--- what is true of a class and a block is true of their piece
+-- a property of a class and a block is a property of their piece
 pub true_of_piece : (job : Parts) (over : ClassSelection) (s : Shape) (class block : ℕ)
     (o : Outcome)
     (x : Option ℕ) → class < s.classes → x ≡ Some (piece_at s class block)
@@ -382,7 +382,7 @@ stopped_holding stops a b class block m s =
           s),
     )
 
--- what stays settled
+-- settled classes stay settled
 pub settled_works : (job : Parts) (over : ClassSelection) (s : Shape) (n : ℕ) (a b : Sitter)
     → WorksOver job over a b → AreSettled s a.seen n → AreSettled s b.seen n
 settled_works job over s n a b x t = subst (λ h. AreSettled s h n) (sym x.begins)

@@ -1,4 +1,4 @@
--- What workers found at a ledger of stretches that is closed.
+-- The results of workers at a closed ledger of stretches.
 use Rattle.std.proofs.Common.{◌≡◌, ◌≢◌, ◌<◌, ◌≤◌, ◌+◌, ◌*◌, ◌⊎◌, inl, inr, ℕ, zero, suc, List, []}
 use Rattle.std.proofs.Common.{◌∷◌, ◌++◌, length, All, Option, Some, None, refl, sym, ap, ◌∙◌, subst}
 use Rattle.std.proofs.Common.{arith, take, drop, max, append-nil}
@@ -70,7 +70,7 @@ apart_placed {E} {Z} p back seats dones apart placed k d lt =
     ap (λ (x : Sitter). x.place) (get_or_from_slice_get seats k a.0 d a.1)
     ∙ ap (λ (x : Sitter). x.place) x.2 ∙ own
 
--- so is what came back of all workers
+-- so are the results of all workers
 pub served_placed : {E : Type 0} (job : Parts) (size : ℕ) (classes : List ℕ) (p : Place)
     (P : Type 0) (S : Stops) (back : List (Result Served E))
     → AreServed job size classes p P S back
@@ -96,7 +96,7 @@ ended_on s w later earlier own l c (inl all) =
     inl (omega (arith, all, more, few))
 ended_on s w later earlier own l c (inr stopped) = inr stopped
 
--- what all found, by the history of the closed ledger
+-- the results of all workers, by the history of the closed ledger
 pub shared : {E Z : Type 0} (job : Parts) (size : ℕ) (classes : List ℕ) (p : Place) (P : Type 0)
     (S : Stops) (back : List (Result Served E)) (seats : List Sitter) (dones : List (Vec Done Z))
     (closed : ClosedFace) → AreServed job size classes p P S back → AreApart back seats dones
@@ -139,7 +139,7 @@ face_finish {Z} job size classes s P S dones face end all tells =
     (subst (λ (z : Shape). face ≡ closed_face z all.history) (sym same) all.shows)
     ∙ ap (λ (z : Shape). finish z all.history) same
 
--- what was shared, under another name of the shape
+-- the shared results, under another name of the shape
 pub shared_at : {Z : Type 0} (job : Parts) (size : ℕ) (classes : List ℕ) (s : Shape)
     (n crew workers : ℕ) (P : Type 0) (S : Stops) (dones : List (Vec Done Z)) (closed : ClosedFace)
     → s ≡ shape_of_stretches n crew → n ≡ stretch_count size classes → crew ≡ crew_of workers n
@@ -289,7 +289,7 @@ module _ {Z : Type 0} (job : Parts) (parts size : ℕ) (classes : List ℕ) (wor
   crew_low : crew ≤ workers
   crew_low = omega (arith, many)
 
-  -- what one of the workers found
+  -- the results of one of the workers
   own_done : (w : ℕ) (own : Vec Done Z) (k : ℕ) (done : Done) → slice_get back w ≡ Some own
       → slice_get own.items k ≡ Some done
       → IsDone job size classes w P S done × Stands w h done.part done.waiting
@@ -301,7 +301,7 @@ module _ {Z : Type 0} (job : Parts) (parts size : ℕ) (classes : List ℕ) (wor
         subst (λ (d : Done). Stands w h d.part d.waiting) e (x.stand k done lt),
       )
 
-  -- what stands nowhere in the table was not claimed
+  -- a stretch whose place in the table is empty was not claimed
   unclaimed : (part : ℕ) → slice_get table part ≡ Some None → claims h ≤ part
   unclaimed part none = go (cases_lt part (claims h))
     where
@@ -414,7 +414,7 @@ module _ {Z : Type 0} (job : Parts) (parts size : ℕ) (classes : List ℕ) (wor
       go (inl lt) = lt
       go (inr le) = let e = past_empty size k classes le in absurd (omega (arith, some, e))
 
-  -- what stands in the table
+  -- the places of the table
   pub found_by_part : AreFoundByPart job size classes workers P S table
   found_by_part = record {
     each = λ part done at.

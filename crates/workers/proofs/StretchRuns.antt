@@ -25,7 +25,7 @@ abbrev hit_at : ℕ → Outcome → Option ℕ
 hit_at block Clear = None
 hit_at block (Hit k) = Some (64 * block + k)
 
--- what is hit stays so with one block more
+-- a hit stays a hit with one block more
 hit_kept : (row : ℕ → Outcome) (first n t : ℕ)
     → first_hit first (map row (from_up first n)) ≡ Some t
     → first_hit first (map row (from_up first (suc n))) ≡ Some t
@@ -279,7 +279,7 @@ lowest_none : (P : ℕ → ℕ → Type 0) (f : Option Waiting) → IsNoHigher N
 lowest_none P None h p = p
 lowest_none P (Some v) h p = absurd h
 
--- what is no higher than the lowest is no higher than any
+-- a class that is no higher than the lowest is no higher than any
 lowest_bound : (P : ℕ → ℕ → Type 0) (f : Option Waiting) (w : Waiting) → IsNoHigher (Some w) f
     → IsLowest P f → (c b : ℕ) → P c b → w.class ≤ c
 lowest_bound P None w h p c b x = absurd (p c b x)

@@ -1,4 +1,4 @@
--- What a worker's seat does with the stretches of a ledger.
+-- The steps of a worker's seat with the stretches of a ledger.
 use Rattle.std.proofs.Common.{◌≡◌, ◌<◌, ◌≤◌, ◌+◌, ◌*◌, ◌-◌, inl, inr, ℕ, Bool, true, false, cond}
 use Rattle.std.proofs.Common.{List, []}
 use Rattle.std.proofs.Common.{◌∷◌, ◌++◌, length, Option, Some, None, refl, sym, ap, ◌∙◌, subst}
@@ -117,7 +117,7 @@ pub none_of : (x : Option Waiting) → is_some x ≡ false → x ≡ None
 none_of None e = refl
 none_of (Some v) e = absurd (cc)
 
--- ---- what accounts for claims
+-- ---- the results that account for claims
 
 pub claims_weaker : (H K : ℕ → Type 0) (w : ℕ) (h : History) → ((p : ℕ) → H p → K p)
     → EachClaim H w h → EachClaim K w h
@@ -141,7 +141,7 @@ pub claims_go_on : (H : ℕ → Type 0) (w : ℕ) (later earlier : History)
 claims_go_on H w later earlier c x =
     subst (EachClaim H w) (sym c.1) (claims_none H w c.0 earlier c.2 x)
 
--- what stands so stands so later
+-- a stretch keeps its state
 stands_on : (w part : ℕ) (x : Option Waiting) (later earlier : History)
     → ContinuesWithout w later earlier → Stands w earlier part x → Stands w later part x
 stands_on w part None later earlier c e =
@@ -155,7 +155,7 @@ stands_past w part None d h free e =
     entry_past part d h (λ q. let bad = sym e ∙ q in absurd (cc)) ∙ e
 stands_past w part (Some v) d h free e = let bad = sym free ∙ e in absurd (cc)
 
--- what the run of a held stretch does to the seat
+-- the step of the seat after the run of a held stretch
 record Ran (b d : Sitter) (part : ℕ) (x : Option Waiting) : Type 0 where
   pub place : d.place ≡ b.place
   pub worker : d.worker ≡ b.worker

@@ -18,7 +18,7 @@ get_map f [] k d = refl
 get_map f (x ∷ xs) zero d = refl
 get_map f (x ∷ xs) (suc k) d = get_map f xs k d
 
--- how many workers there are
+-- the number of workers
 pub workers_count : (ws : List Worker) (p : Place) → map (λ (w : Worker). w.seat) ws ≡ newcomers p
     → length ws ≡ p.shape.workers
 workers_count ws p e =
@@ -44,7 +44,7 @@ serves_at ws job k d all lt = all k d lt
 pub own_newcomer : (p : Place) (n : ℕ) (a : Sitter) → a ≡ newcomer p n → a ≡ newcomer p a.worker
 own_newcomer p n a e = e ∙ ap (newcomer p) (ap (λ (x : Sitter). x.worker) (sym e))
 
--- what became of a seat, under other names of the same
+-- a seat at the end, under other names of the same
 pub returns_along : (j j' : Parts) (o o' : ClassSelection) (p p' : Place) (w w' : ℕ) (P P' : Type 0)
     (S S' : Stops) (a a' : Sitter) → j ≡ j' → o ≡ o' → p ≡ p' → w ≡ w' → (P' → P)
     → ((u k b : ℕ) → S.may u k b → S'.may u k b) → a ≡ a' → Returns j o p w P S a

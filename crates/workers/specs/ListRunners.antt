@@ -4,7 +4,7 @@ use Rattle.block_sim.specs.Parts.{Parts}
 use Rattle.block_sim.specs.RegionHits.{RegionsSimulated, ServesRegions}
 use Rattle.workers.specs.Part.{AreAllByRegion}
 
--- what contracts see of a runner: what simulates the regions, and classes in an order
+-- a runner as contracts see it: the simulation of the regions, and the classes in an order
 pub record Runner : Type 0 where
   pub simulation : RegionsSimulated
   pub order : List ℕ

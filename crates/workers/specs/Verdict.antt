@@ -16,8 +16,8 @@ use Rattle.fault_ledger.specs.declared.Status.TheVariants.{Settled, Waiting}
 use Rattle.fault_ledger.specs.History.{History}
 use Rattle.fault_ledger.specs.Settled.{status}
 
--- what contracts see of the verdicts: a test or none for each fault, and the number of pieces
--- that were skipped
+-- the verdicts as contracts see them: a test or none for each fault, and the number of skipped
+-- pieces
 pub record VerdictList : Type 0 where
   pub firsts : List (Option ℕ)
   pub skipped : ℕ

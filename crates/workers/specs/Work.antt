@@ -1,4 +1,4 @@
--- What a worker's seat has done with a job, and how its work ends.
+-- The work of a worker's seat on a job, and its end.
 use Rattle.std.specs.Prelude.{◌≡◌, ◌<◌, ◌⊎◌, ℕ, true, count_by, List, [], ◌∷◌, ◌++◌, length}
 use Rattle.std.specs.Prelude.{slice_get, Option, Some, None}
 use Rattle.patterns.specs.declared.Outcome.{Outcome}

@@ -43,7 +43,7 @@ next c =
     let other = c.if-clear-blocks.false in
     omega (arith, most, count, other)
 
--- what is found there
+-- the state at the block
 found : (c : After-state_of) → c.state_of.result ≡ state_in c.self.inside.shape
     (map state_at c.self.inside.codes.items) c.args.class c.clear_of-clear.result
 found c = c.state_of.ensures ∙ ap (λ codes. state_in c.self.inside.shape

@@ -9,7 +9,7 @@ use Rattle.fault_ledger.proofs.PieceNumbers.{some_class}
 use Rattle.fault_ledger.proofs.CallReplies.{faced, found-held, found-piece, ledger-holding}
 use Rattle.fault_ledger.proofs.sequential.Ledger.held.Goals as goal
 
--- what stands at the place of a worker
+-- the piece at the place of a worker
 at : (f : Face) (w : ℕ) (x y : Option ℕ) → IsLedger f → w < f.shape.workers
     → x ≡ get_or f.holding w x → x ≡ y → slice_get f.holding w ≡ Some y
 at f w x y i lt e is = slice_get_read f.holding f.shape.workers w x (sym (ledger-holding f i)) lt e
