@@ -54,9 +54,10 @@ impl Model for Ledger {
 impl Ledger {
     /// Makes a ledger of these numbers of fault classes, tests and workers, without claims.
     ///
-    /// It fails, in this order, with [`LedgerFault::NoWorkers`], with
-    /// [`LedgerFault::TooManyWorkers`] above 64 workers, with [`LedgerFault::TooManyPieces`] above
-    /// 16,777,216 pieces, and with [`LedgerFault::Memory`].
+    /// # Errors
+    ///
+    /// The first that applies: [`LedgerFault::NoWorkers`]; [`LedgerFault::TooManyWorkers`] above 64
+    /// workers; [`LedgerFault::TooManyPieces`] above 16,777,216 pieces; [`LedgerFault::Memory`].
     pub fn new(alloc: Global, classes: u32, tests: u32, workers: u32) -> Result<Ledger, LedgerFault>
         ensures face { IfOk result (λ ledger. ledger ≡ face (shape_of classes tests workers) []) }
         ensures refused { (fault : LedgerFault)
@@ -108,7 +109,9 @@ impl Ledger {
     /// Claims the next piece for a worker that holds none, or returns [`Claim::Exhausted`] if all
     /// are claimed. It takes constant time.
     ///
-    /// It fails with [`Refusal::NoSuchWorker`], else with [`Refusal::Holding`].
+    /// # Errors
+    ///
+    /// [`Refusal::NoSuchWorker`], else [`Refusal::Holding`].
     pub fn claim(&mut self, worker: u32) -> Result<Claim, Refusal>
         ensures answer { Answers self.old (Call.Claim worker) (claim_reply_of result) self.new }
         ensures exhausted { result ≡ Ok Claim.Exhausted → self.new ≡ self.old }
@@ -136,9 +139,11 @@ impl Ledger {
     /// Reports a worker's outcome of the piece that it holds; the worker then holds no piece. It
     /// takes constant time.
     ///
-    /// It fails with [`Refusal::NoSuchWorker`], else with [`Refusal::NothingHeld`], else with
-    /// [`Refusal::BadOutcome`] if the outcome names a test that the piece's block doesn't have; the
-    /// worker then still holds the piece.
+    /// # Errors
+    ///
+    /// [`Refusal::NoSuchWorker`], else [`Refusal::NothingHeld`], else [`Refusal::BadOutcome`] if
+    /// the outcome names a test that the piece's block doesn't have; the worker then still holds
+    /// the piece.
     pub fn report(&mut self, worker: u32, outcome: Outcome) -> Result<(), Refusal>
         ensures answer { Answers self.old (Call.Report worker outcome) (done_reply_of result)
             self.new }
@@ -159,9 +164,11 @@ impl Ledger {
 
     /// Skips the piece that a worker holds; the worker then holds no piece. It takes constant time.
     ///
-    /// It fails with [`Refusal::NoSuchWorker`], else with [`Refusal::NothingHeld`], else with
-    /// [`Refusal::NoEarlierHit`] if no earlier block of the class is a hit; the worker then still
-    /// holds the piece. A drop of a piece of block 0 always fails.
+    /// # Errors
+    ///
+    /// [`Refusal::NoSuchWorker`], else [`Refusal::NothingHeld`], else [`Refusal::NoEarlierHit`] if
+    /// no earlier block of the class is a hit; the worker then still holds the piece. A drop of a
+    /// piece of block 0 always fails.
     pub fn drop_piece(&mut self, worker: u32) -> Result<(), Refusal>
         ensures answer { Answers self.old (Call.Drop worker) (done_reply_of result) self.new }
         ensures shape { self.new.shape ≡ self.old.shape }

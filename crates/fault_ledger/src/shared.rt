@@ -118,11 +118,13 @@ impl SharedLedger {
     /// Makes a ledger of these numbers of fault classes, tests and workers, without claims, and a
     /// seat for each worker, worker w at place w.
     ///
-    /// It fails, in this order, with [`LedgerFault::NoWorkers`], with
-    /// [`LedgerFault::TooManyWorkers`] above 64 workers, with [`LedgerFault::TooManyPieces`] above
-    /// 16,777,216 pieces, and with [`LedgerFault::Memory`]. It takes a byte a piece, twice for a
-    /// moment. For each seat it takes 8 bytes a class that has a piece, for the first 65,536
-    /// classes.
+    /// It takes a byte a piece, twice for a moment. For each seat it takes 8 bytes a class that has
+    /// a piece, for the first 65,536 classes.
+    ///
+    /// # Errors
+    ///
+    /// The first that applies: [`LedgerFault::NoWorkers`]; [`LedgerFault::TooManyWorkers`] above 64
+    /// workers; [`LedgerFault::TooManyPieces`] above 16,777,216 pieces; [`LedgerFault::Memory`].
     #[tactic(auto, using(crate::proofs::AllSeats::newcomers_placed))]
     pub fn new(
         alloc: Global,
@@ -159,7 +161,9 @@ impl SharedLedger {
     /// to 120 nanoseconds. A claim still takes only one piece, because that fixes the order of
     /// pieces.
     ///
-    /// It fails with [`Refusal::Holding`], without a step.
+    /// # Errors
+    ///
+    /// [`Refusal::Holding`], without a step.
     pub fn claim(&self, seat: &mut Seat) -> Result<Claim, Refusal>
         requires { seat.old.place ≡ self.now }
         ensures kept { (seat.new.place ≡ seat.old.place) × (seat.new.worker ≡ seat.old.worker) }
@@ -198,9 +202,10 @@ impl SharedLedger {
     /// Reports a seat's outcome of the piece that it holds; the seat then holds no piece. It is one
     /// atomic step.
     ///
-    /// It fails, without a step, with [`Refusal::NothingHeld`], else with [`Refusal::BadOutcome`]
-    /// if the outcome names a test that the piece's block doesn't have; the seat then still holds
-    /// the piece.
+    /// # Errors
+    ///
+    /// Without a step, [`Refusal::NothingHeld`], else [`Refusal::BadOutcome`] if the outcome names
+    /// a test that the piece's block doesn't have; the seat then still holds the piece.
     pub fn report(&self, seat: &mut Seat, outcome: Outcome) -> Result<(), Refusal>
         requires { seat.old.place ≡ self.now }
         ensures kept { Keeps seat.old seat.new }
@@ -233,9 +238,11 @@ impl SharedLedger {
     /// each block from there to the piece's. So it takes constant time if the seat has seen all
     /// earlier blocks clear, or all up to a hit.
     ///
-    /// It fails with [`Refusal::NothingHeld`], without a step. After the looks it fails with
-    /// [`Refusal::NoEarlierHit`] if no earlier block of the class was a hit at the first look; the
-    /// seat then still holds the piece. A drop of a piece of block 0 always fails, without a look.
+    /// # Errors
+    ///
+    /// [`Refusal::NothingHeld`], without a step. After the looks [`Refusal::NoEarlierHit`], if no
+    /// earlier block of the class was a hit at the first look; the seat then still holds the piece.
+    /// A drop of a piece of block 0 always fails, without a look.
     pub fn drop_piece(&self, seat: &mut Seat) -> Result<(), Refusal>
         requires { seat.old.place ≡ self.now }
         ensures kept { Keeps seat.old seat.new }
@@ -438,7 +445,9 @@ impl SharedLedger {
     /// then include their reports, but the contract ties the states only to the histories of the
     /// given seats.
     ///
-    /// It fails only with [`LedgerFault::Memory`]; the ledger and the seats are gone then, too.
+    /// # Errors
+    ///
+    /// Only [`LedgerFault::Memory`]; the ledger and the seats are gone then, too.
     pub fn close(self, alloc: Global, seats: Vec<Seat>) -> Result<Closed, LedgerFault>
         requires some { 0 < length seats.items }
         requires places { All (λ seat. seat.place ≡ self) seats.items }

@@ -19,8 +19,10 @@ use std::thread::Threads;
 /// share the classes, each in a thread of its own; the counts are the same for every number of
 /// workers. It takes two numbers for each fault, and for each worker a workspace.
 ///
-/// It fails if memory runs out or a thread doesn't start; the threads that were started are joined
-/// first.
+/// # Errors
+///
+/// [`CountFault::Memory`] or [`CountFault::Threads`], if memory runs out or a thread doesn't start,
+/// after the started threads are joined.
 pub fn detections<R: Threads + Wait>(
     rt: &R,
     alloc: Global,

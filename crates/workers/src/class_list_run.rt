@@ -30,7 +30,9 @@ use std::thread::Threads;
 /// Returns for each class of the list, in its order, the first test that detects the faults of the
 /// class, or none.
 ///
-/// It fails as [`crate::run`] does, for the pieces of the list; [`RunFault::Unfinished`] names the
+/// # Errors
+///
+/// The errors of [`crate::run`], for the pieces of the list. [`RunFault::Unfinished`] names the
 /// class by its number in the job, the first in the list that isn't settled.
 pub fn run_classes<G: Gate + Sync, R: Threads + Wait>(
     rt: &R,

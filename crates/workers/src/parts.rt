@@ -141,8 +141,10 @@ pub(crate) fn first_in(verdict: PartVerdict) -> Option<u32>
 /// list the first test that detects it, or none, if its class is in the part. Any other fault is in
 /// another part.
 ///
-/// It fails as [`run_in_parts`] does, but the limit of [`patterns::MAX_PIECES`] pieces applies to
-/// the part, and not to its stretches.
+/// # Errors
+///
+/// The errors of [`run_in_parts`], but the limit of [`patterns::MAX_PIECES`] pieces applies to the
+/// part, and not to its stretches.
 pub fn run_part<G: Gate + Sync, R: Threads + Wait>(
     rt: &R,
     alloc: Global,
@@ -188,13 +190,16 @@ pub fn run_part<G: Gate + Sync, R: Threads + Wait>(
 /// none. The parts of [`run_part`] instead depend on the stems, by a rule that a part file names,
 /// so that other machines make the same parts.
 ///
-/// It fails with [`RunFault::NoWorkers`], with [`RunFault::TooManyWorkers`] above 64 workers, and
-/// with [`RunFault::TooManyPieces`] if a stretch has more than [`patterns::MAX_PIECES`] pieces. It
-/// fails with [`RunFault::Memory`] or [`RunFault::Threads`] if memory runs out or a thread doesn't
-/// start; the threads that were started are joined first. A worker that the gate stops ends, and if
-/// it stops all of them, some parts may never begin. If not all classes are settled, it fails with
-/// [`RunFault::Unfinished`]: that names the lowest unsettled class, by the job's number, and the
-/// block that it waits for.
+/// # Errors
+///
+/// [`RunFault::NoWorkers`]; [`RunFault::TooManyWorkers`] above 64 workers;
+/// [`RunFault::TooManyPieces`] if a stretch has more than [`patterns::MAX_PIECES`] pieces.
+/// [`RunFault::Memory`] or [`RunFault::Threads`] if memory runs out or a thread doesn't start,
+/// after the started threads are joined.
+///
+/// A worker that the gate stops ends, and if it stops all of them, some parts may never begin. If
+/// not all classes are settled, the error is [`RunFault::Unfinished`]. It names the lowest
+/// unsettled class, by the job's number, and the block that it waits for.
 pub fn run_in_parts<G: Gate + Sync, R: Threads + Wait>(
     rt: &R,
     alloc: Global,
@@ -236,7 +241,9 @@ pub struct LedgerRun {
 /// beside the verdicts. The ledger shows a finished history, in which each report stands for a part
 /// whose classes have these first tests.
 ///
-/// It fails as [`run_in_parts`] does.
+/// # Errors
+///
+/// The errors of [`run_in_parts`].
 pub fn run_over_ledger<G: Gate + Sync, R: Threads + Wait>(
     rt: &R,
     alloc: Global,

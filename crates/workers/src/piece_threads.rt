@@ -177,15 +177,17 @@ fn share_ledger<C: ClassSelection>(
 /// earlier block of its class detects, else it simulates the piece and reports. The verdicts are
 /// the first tests, in whatever order the workers run.
 ///
-/// It fails, in this order, with [`RunFault::NoWorkers`]; with [`RunFault::TooManyWorkers`] above
-/// 64 workers; with [`RunFault::TooManyPieces`] above [`patterns::MAX_PIECES`] pieces, which a job
-/// of [`Job::new`] doesn't have; and with [`RunFault::Memory`] or [`RunFault::Threads`] if memory
-/// runs out or a thread doesn't start, after the started threads are joined. If the gate stopped
-/// workers and not all classes are settled, it fails with [`RunFault::Unfinished`]. The job is
-/// unchanged, and can run again.
-///
 /// The ledger, a simulation for each worker and the room of the verdicts are there before the first
 /// claim, and the workers take no memory. They rest between pieces as [`crate::work`] does.
+///
+/// # Errors
+///
+/// The first that applies: [`RunFault::NoWorkers`]; [`RunFault::TooManyWorkers`] above 64 workers;
+/// [`RunFault::TooManyPieces`] above [`patterns::MAX_PIECES`] pieces, which a job of [`Job::new`]
+/// doesn't have; [`RunFault::Memory`] or [`RunFault::Threads`] if memory runs out or a thread
+/// doesn't start, after the started threads are joined. If the gate stopped workers and not all
+/// classes are settled, the error is [`RunFault::Unfinished`]. The job is unchanged, and can run
+/// again.
 pub fn run<G: Gate + Sync, R: Threads + Wait>(
     rt: &R,
     alloc: Global,

@@ -145,12 +145,14 @@ fn check_moves(workers: u32, moves: &[u32]) -> Result<(), RunFault>
 /// workers move in turn until nothing is left to claim. The verdicts are the first tests for every
 /// list of moves.
 ///
-/// It fails, in this order, with [`RunFault::NoWorkers`]; with [`RunFault::TooManyWorkers`] above
-/// 64 workers; with [`RunFault::NoSuchMove`], before any move is made, and the least index of a
-/// move whose worker isn't below the number of workers; with [`RunFault::TooManyPieces`] above
-/// [`patterns::MAX_PIECES`] pieces, which a job of [`Job::new`] doesn't have; and with
-/// [`RunFault::Memory`]. Beside the ledger, a simulation and the verdicts it takes a word for each
-/// worker.
+/// Beside the ledger, a simulation and the verdicts it takes a word for each worker.
+///
+/// # Errors
+///
+/// The first that applies: [`RunFault::NoWorkers`]; [`RunFault::TooManyWorkers`] above 64 workers;
+/// [`RunFault::NoSuchMove`], before any move is made, with the least index of a move whose worker
+/// isn't below the number of workers; [`RunFault::TooManyPieces`] above [`patterns::MAX_PIECES`]
+/// pieces, which a job of [`Job::new`] doesn't have; [`RunFault::Memory`].
 pub fn run_schedule(
     alloc: Global,
     job: &Job,
