@@ -22,8 +22,8 @@ ghost use Rattle.fault_model.specs.Reordered.{IsDetectedSameAt, IsOrderedBy, IsS
 ghost use Rattle.fault_model.specs.Laws.{HavePairsClassOfTransitions};
 ghost use Rattle.fault_model.specs.Laws.{HavePairsClassesOfTransitions};
 
-/// States that a circuit without cycles has exactly one solution under each test, both fault-free
-/// and with each single stuck-at fault.
+/// States that a circuit without cycles has exactly one solution under each test, fault-free or
+/// with a single stuck-at fault.
 pub fn solutions()
     ensures exist { (c : List Statement) → IsWellFormed c → HasSolutions c }
     ensures are_one { (c : List Statement) → IsWellFormed c → HasOneSolution c }

@@ -123,8 +123,8 @@ pub fn read_inputs(alloc: Global, bench: &[u8], tests: &[u8]) -> Result<(Circuit
     Ok((circuit, tests))
 }
 
-/// Reads the circuit and the tests as [`read_inputs`] does, with the same errors, the tests in at
-/// most as many threads as there are workers ([`read_tests_in_threads`]).
+/// Reads the circuit and the tests as [`read_inputs`] does, with the same errors. It reads the
+/// tests in at most as many threads as there are workers ([`read_tests_in_threads`]).
 pub fn read_inputs_in_threads<R: Threads + Wait>(
     rt: &R,
     alloc: Global,
