@@ -1,6 +1,6 @@
 -- Blocks that are simulated at once: one block, or the two blocks of a group.
-use Rattle.std.specs.Prelude.{◌≡◌, ℕ, ◌+◌, ◌*◌, ◌/◌, ◌<◌, ◌≤◌, List, length, nat_lt, true}
-use Rattle.std.specs.Prelude.{◌&&◌, if◌then◌else◌}
+use Rattle.std.specs.Prelude.{◌≡◌, ℕ, ◌+◌, ◌-◌, ◌*◌, ◌/◌, ◌<◌, ◌≤◌, List, length, min, nat_lt}
+use Rattle.std.specs.Prelude.{true, if◌then◌else◌}
 use Rattle.fault_model.specs.Solution.{Test}
 use Rattle.patterns.specs.Tests.{blocks}
 use Rattle.block_sim.specs.declared.block_span.BlockSpan.{BlockSpan}
@@ -35,19 +35,30 @@ AreInSpan tests span lanes = (k : ℕ) → k < 128 → lane lanes k ≡ true
 abbrev pub one_block : ℕ → BlockSpan
 one_block block = record { first = block; last = block }
 
--- the blocks that are found out at most for the sake of one: from the third block on it and what is
--- behind it in its group, before that it alone
+-- the blocks that are simulated together with a block at most: from the third block on the block
+-- and the next one of its group of two, before that the block alone
 abbrev pub span_from : ℕ → BlockSpan
 span_from block = record {
   first = block;
   last = if nat_lt block 2 then block else block / 2 * 2 + 1;
 }
 
--- of so many tests the blocks that are simulated at once for the sake of one: from the third block
--- on it and what is behind it in its group, before that it alone
+-- the block is one of the span's
+abbrev pub HasBlock : BlockSpan → ℕ → Type 0
+HasBlock span block = (span.first ≤ block) × (block ≤ span.last)
+
+-- If there are this many tests, the other block is simulated together with the block: it is the
+-- block, or comes after it in its group of two. The first group's blocks are simulated one by one.
+pub record IsTogether (tests block other : ℕ) : Type 0 where
+  pub ordered : block ≤ other
+  pub one_group : other / 2 ≡ block / 2
+  pub within : other < blocks tests
+  pub alone : block < 2 → other ≡ block
+
+-- the blocks that are simulated together with a block, if there are this many tests: the blocks of
+-- span_from that have a test
 abbrev pub span_of : ℕ → ℕ → BlockSpan
 span_of tests block = record {
   first = block;
-  last = if nat_lt 1 block && nat_lt (block / 2 * 2 + 1) (blocks tests) then block / 2 * 2 + 1
-      else block;
+  last = min (span_from block).last (blocks tests - 1);
 }

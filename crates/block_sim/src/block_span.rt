@@ -1,9 +1,10 @@
 //! The blocks that are simulated at once: one, or the two of a group.
 
-ghost use Rattle.std.specs.Prelude.{◌≡◌, ◌+◌, ◌*◌, ◌<◌, ◌≤◌, ℕ, length, true};
+ghost use Rattle.std.specs.Prelude.{◌≡◌, ◌↔◌, ◌+◌, ◌*◌, ◌<◌, ◌≤◌, ℕ, length, true};
 ghost use Rattle.std.specs.Bool.{Decides};
 ghost use Rattle.patterns.specs.Tests.{blocks};
-ghost use Rattle.block_sim.specs.BlockSpans.{IsInSpan, IsSpan, group_of, span_of};
+ghost use Rattle.block_sim.specs.BlockSpans.{HasBlock, IsInSpan, IsSpan, IsTogether, group_of};
+ghost use Rattle.block_sim.specs.BlockSpans.{span_of};
 ghost use Rattle.block_sim.specs.Words.{lane};
 
 use crate::block_lanes::lanes_below;
@@ -23,6 +24,8 @@ impl BlockSpan {
         requires { block < blocks (length tests.now.tests) }
         ensures span { IsSpan (length tests.now.tests) result }
         ensures span_is { result ≡ span_of (length tests.now.tests) block }
+        ensures together { (other : ℕ) → HasBlock result other
+            ↔ IsTogether (length tests.now.tests) block other }
         ensures first { result.first ≡ block }
         ensures alone { block < 2 → result.last ≡ block }
     {

@@ -10,7 +10,7 @@ ghost use Rattle.block_sim.specs.Arranged.{ArePlaces, IsArranged};
 ghost use Rattle.block_sim.specs.Origins.{IsListed, IsRepresentativeOf};
 ghost use Rattle.block_sim.specs.Parts.{BelongTogether, piece_count, with_tests};
 ghost use Rattle.block_sim.specs.Regions.{IsStemOfClass};
-ghost use Rattle.block_sim.specs.BlockSpans.{groups, span_of};
+ghost use Rattle.block_sim.specs.BlockSpans.{IsTogether, groups, span_of};
 ghost use Rattle.block_sim.specs.Words.{IsFaultFreeWord};
 
 use crate::block_lanes::block_word;
@@ -452,7 +452,9 @@ impl Job {
     /// other one of its group of two, if it comes after the block.
     pub fn last_together(&self, block: u32) -> u32
         requires { block < blocks (length self.now.tests.tests) }
-        ensures { result ≡ (span_of (length self.now.tests.tests) block).last }
+        ensures last { result ≡ (span_of (length self.now.tests.tests) block).last }
+        ensures together { (other : ℕ) → ((block ≤ other) × (other ≤ result))
+            ↔ IsTogether (length self.now.tests.tests) block other }
     {
         BlockSpan::from(&self.parts.tests, block).last
     }
