@@ -135,7 +135,7 @@ seated_sees a b worker told classes piece clear i s = record {
   remembers = remembers_sees a b a.told clear s i.remembers;
 }
 
--- a seat that gets that all pieces are claimed
+-- a seat that gets Exhausted
 pub seated_ends : (a b : Sitter) (worker : ℕ) (told : Bool) (classes : ℕ) (piece : Option ℕ)
     (clear : List Remembered) → IsSeated a worker told classes piece clear → piece ≡ None
     → Sees a true b → claims b.seen ≡ piece_count a.place.shape
@@ -158,7 +158,7 @@ seated_ends a b worker told classes piece clear i none s all =
           (slice_index_or clear class nothing_seen) h a.seen s.newer (i.remembers class);
     })
 
--- a seat that holds a piece has not got that all are claimed
+-- a seat that holds a piece has not got Exhausted
 pub untold : (a : Sitter) (worker : ℕ) (told : Bool) (classes : ℕ) (piece : Option ℕ)
     (clear : List Remembered) (p : ℕ) → IsSeated a worker told classes piece clear → piece ≡ Some p
     → a.told ≡ false

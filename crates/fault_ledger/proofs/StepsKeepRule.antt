@@ -130,7 +130,7 @@ module _ (s : Shape) (h : History) (words : List ℕ) (views : List View)
   held_still : held_by w h ≡ held_by w seen
   held_still = held_goes_on w h seen knows.newer
 
-  -- a worker that holds a piece has not got that all are claimed
+  -- a worker that holds a piece has not got Exhausted
   holder_untold : (p : ℕ) → held_by w seen ≡ Some p → told ≡ false
   holder_untold p holds = go told refl
     where

@@ -1,4 +1,4 @@
--- How many of the first blocks of each class are Clear, by the states of all pieces.
+-- The number of first blocks of each class that are Clear, by the states of all pieces.
 use Rattle.std.specs.Prelude.{◌≡◌, ◌≢◌, ℕ, ◌<◌, ◌≤◌, min, List, length, slice_index, slice_index_or}
 use Rattle.fault_ledger.specs.declared.Shape.{Shape}
 use Rattle.fault_ledger.specs.declared.PieceState.{PieceState}

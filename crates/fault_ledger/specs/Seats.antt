@@ -24,8 +24,7 @@ pub record Place : Type 0 where
   pub table : TableId
   pub shape : Shape
 
--- a seat: its ledger, its worker, whether it has got that all pieces are claimed, and the history
--- that it has seen
+-- a seat: its ledger, its worker, whether it has got Exhausted, and the history that it has seen
 pub record Sitter : Type 0 where
   pub place : Place
   pub worker : ℕ
@@ -33,7 +32,7 @@ pub record Sitter : Type 0 where
   pub seen : History
 
 -- The invariant of a seat: its worker is one of the ledger's, and the history that it has seen is
--- legal. If it has got that all pieces are claimed, they are, and it holds none.
+-- legal. If it has got Exhausted, all pieces are claimed, and it holds none.
 pub record IsSitter (a : Sitter) : Type 0 where
   pub limits : shape_fault a.place.shape ≡ None
   pub among : a.worker < a.place.shape.workers

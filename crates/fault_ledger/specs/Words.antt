@@ -66,7 +66,7 @@ abbrev pub times : ℕ → List Post → ℕ
 times w [] = 0
 times w (p ∷ posts) = (if p.worker == w then 1 else 0) + times w posts
 
--- the number of posts that have got that all pieces are claimed
+-- the number of posts that have got Exhausted
 abbrev pub told_of : List Post → ℕ
 told_of [] = 0
 told_of (p ∷ posts) = (if p.told then 1 else 0) + told_of posts
@@ -76,8 +76,7 @@ ForEach P [] = Unit {0}
 ForEach P (p ∷ posts) = P p × ForEach P posts
 
 -- the knowledge of a post: the history begins with it, and has no further event of its worker,
--- which is one of the ledger's. If it has got that all pieces are claimed, they are, and it holds
--- none
+-- which is one of the ledger's. If it has got Exhausted, all pieces are claimed, and it holds none
 pub record Knows (shape : Shape) (h : History) (of : Shape) (p : Post) : Type 0 where
   pub same : of ≡ shape
   pub among : p.worker < shape.workers
@@ -86,8 +85,8 @@ pub record Knows (shape : Shape) (h : History) (of : Shape) (p : Post) : Type 0 
 
 -- The words and the views belong to this legal history. Word 0 is the cursor, which counts the
 -- claims that were tried, and field p % 8 of word p / 8 + 1 has the code of piece p. Past the
--- pieces the cursor counts each post that has got that all are claimed, once. There are at most as
--- many posts as workers, and no worker has two.
+-- pieces the cursor counts each post that has got Exhausted, once. There are at most as many posts
+-- as workers, and no worker has two.
 pub record IsKeptBy (shape : Shape) (h : History) (words : List ℕ)
     (views : List View) : Type 0 where
   pub limits : shape_fault shape ≡ None
@@ -101,8 +100,8 @@ pub record IsKeptBy (shape : Shape) (h : History) (words : List ℕ)
   pub known : (id : ℕ) (v : View) → get_elem? views id ≡ some v
       → ForEach (Knows shape h v.shape) v.posts
 
--- the rule: there is one legal history of which the words are, and which begins with all that was
--- seen
+-- the rule: there is one legal history to which the words belong, and which begins with all that
+-- was seen
 abbrev pub IsKept : {S : Type 0} → Shape → State S View → Type 0
 IsKept shape t = (h : History) × IsKeptBy shape h t.words t.views
 

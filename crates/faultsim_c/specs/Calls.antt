@@ -47,7 +47,7 @@ abbrev pub IsCircuitJob : Model → List ℕ → Parts → Type 0
 IsCircuitJob m bench parts = IsAccepted bench parts.circuit × BelongTogether parts
     × (parts.list.model ≡ m) × (parts.tests.tests ≡ [])
 
--- how large a job is
+-- the sizes of a job
 pub record AreSizes (parts : Parts) (sizes : FsSizes) : Type 0 where
   pub source_count : sizes.sources ≡ length (sources parts.circuit)
   pub signal_count : sizes.signals ≡ length (names parts.circuit)
@@ -94,7 +94,7 @@ pub record AreFirstNumbers (found : List (Option ℕ)) (firsts : List ℕ) : Typ
   pub each : (k : ℕ) → k < length found
       → slice_index firsts k ≡ first_number (slice_index_or found k None)
 
--- at each fault's place stands its class
+-- the class of each fault, at its place
 abbrev pub AreClassesOf : Parts → List ℕ → Type 0
 AreClassesOf parts classes = (fault : ℕ) → fault < length parts.list.list
     → slice_index classes fault ≡ slice_index parts.classes.class_of fault
@@ -111,7 +111,7 @@ pub record AreClassCounts (parts : Parts) (classes : List ℕ) (most : ℕ) (cou
 pub record IsStemAt (parts : Parts) (class stem : ℕ) : Type 0 where
   pub is : IsStemOfClass parts.list.model parts.circuit class stem
 
--- at each class's place stands its stem
+-- the stem of each class, at its place
 abbrev pub AreStemsOf : Parts → List ℕ → Type 0
 AreStemsOf parts stems = (class : ℕ) → class < length parts.classes.representative
     → IsStemAt parts class (slice_index stems class)

@@ -1,4 +1,4 @@
--- How much a circuit and its tests have of what.
+-- The sizes of a circuit and its tests.
 use Rattle.std.specs.Prelude.{◌≡◌, ◌<◌, ◌≤◌, ◌*◌, ℕ, List, length}
 use Rattle.std.specs.Int.{div_ceil}
 use Rattle.bench_net.specs.Level.{HasDepth}

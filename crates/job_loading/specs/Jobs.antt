@@ -1,4 +1,4 @@
--- The job of texts, and when there is none.
+-- The job of two files, and the errors of reading one.
 use Rattle.std.specs.Prelude.{◌≡◌, ◌⊎◌, ⊤, ℕ, ◌<◌, ◌≤◌, List, length}
 use Rattle.bench_net.specs.declared.BenchFault.TheVariants as bench_fault
 use Rattle.bench_net.specs.Statement.{Statement}
@@ -45,15 +45,14 @@ IsPiecesFault m c tests (fault.Job f) = (f ≡ job_fault.Memory)
 IsPiecesFault m c tests fault.Memory = ⊤
 IsPiecesFault m c tests _ = ⊥
 
--- When each fault of reading a job comes: the two texts are read, and then comes the number of
--- pieces.
+-- The errors of reading a job: the errors of the two files, and then the number of pieces.
 abbrev pub IsJobFault : Model → List ℕ → List ℕ → SimFault → Type 0
 IsJobFault m bench text (fault.Job f) = (f ≡ job_fault.Memory)
     ⊎ ((job : Parts) × IsJobOf m bench text job × (max_pieces < piece_count job))
 IsJobFault m bench text fault.Memory = ⊤
 IsJobFault m bench text f = IsInputFault bench text f
 
--- the job of the texts, which hasn't too many pieces
+-- the job of the files, within the limit on pieces
 abbrev pub IsJobWithin : Model → List ℕ → List ℕ → Parts → Type 0
 IsJobWithin m bench text job = IsJobOf m bench text job × (piece_count job ≤ max_pieces)
 

@@ -10,13 +10,13 @@ use Rattle.job_loading.specs.declared.split.Split.{Split}
 use Rattle.job_loading.specs.declared.split.Split.TheVariants as split
 use Rattle.job_loading.specs.Jobs.{IsJobFault, IsReadFault}
 
--- a number of parts that is given isn't 0
+-- a given number of parts isn't 0
 abbrev pub HasSomePart : Split → Type 0
 HasSomePart split.Whole = ⊤
 HasSomePart (split.Parts count) = 0 < count
 HasSomePart split.Fitting = ⊤
 
--- the least number of parts with which each is within the limit of pieces
+-- the least number of parts with which each is within the limit on pieces
 abbrev pub IsLeastSplit : Parts → ℕ → Type 0
 IsLeastSplit job parts = (0 < parts) × ArePartsWithin job parts
     × ((other : ℕ) → 0 < other → ArePartsWithin job other → parts ≤ other)

@@ -1,4 +1,4 @@
--- How many tests detect a fault.
+-- The number of tests that detect a fault.
 use Rattle.std.specs.Prelude.{◌≡◌, ℕ, Bool, List, Some, count_by, length, min, slice_get}
 use Rattle.std.specs.Bool.{Decides}
 use Rattle.bench_net.specs.Statement.{Statement}
@@ -24,7 +24,7 @@ pub record IsClassCount (job : Parts) (most class n : ℕ) : Type 0 where
   pub of : slice_get (representatives job.list.model job.circuit) class ≡ Some fault
   pub count : IsCount job.circuit job.tests.tests most fault n
 
--- for each fault of the circuit's list, before collapsing, the number of tests that detect it
+-- for each fault of the circuit's uncollapsed list the number of tests that detect it
 pub record AreCounts (m : Model) (c : List Statement) (tests : List Test) (most : ℕ)
     (counts : List ℕ) : Type 0 where
   pub count : length counts ≡ length (faults m c)

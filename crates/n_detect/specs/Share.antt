@@ -1,4 +1,4 @@
--- The classes that one thread counts for.
+-- The classes of one thread.
 use Rattle.std.specs.Prelude.{◌≡◌, ◌<◌, ◌≤◌, ◌+◌, ◌*◌, ℕ, List, Some, length, slice_get}
 use Rattle.block_sim.specs.Parts.{HasRoom, Parts}
 use Rattle.n_detect.specs.Detections.{IsClassCount}

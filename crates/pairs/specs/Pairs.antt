@@ -1,4 +1,4 @@
--- The pairs of launch on capture.
+-- Launch-on-capture pairs.
 use Rattle.std.specs.Prelude.{◌≡◌, ⊤, ℕ, ◌+◌, ◌*◌, ◌<◌, ◌++◌, Bool, List, [], length, map, take}
 use Rattle.std.specs.Prelude.{drop, None, Some, slice_get, slice_index_or}
 use Rattle.bench_net.specs.Statement.{Name, Statement}
@@ -12,9 +12,9 @@ use Rattle.patterns.specs.Tests.{max_tests}
 abbrev pub captured : List Statement → (Name → Bool) → List Bool
 captured c v = map (λ cell. v cell.1) (cells c)
 
--- The pairs of launch on capture: for each test two rows. The first is the test. The second has its
--- bits at the primary inputs, which are held, and in the scan cells what they capture under the
--- test without a fault.
+-- Launch-on-capture pairs: for each test two rows. The first is the test. The second has its bits
+-- at the primary inputs, which are held. In the scan cells it has the bits that they capture under
+-- the test in the fault-free circuit.
 pub record AreLaunchPairs (c : List Statement) (tests pairs : List Test) : Type 0 where
   pub count : length pairs ≡ 2 * length tests
   pub launch : (t : ℕ) (test : Test) → slice_get tests t ≡ Some test

@@ -1,4 +1,4 @@
--- Why no test of a list detects a fault.
+-- The reasons why no test of a list detects a fault.
 use Rattle.std.specs.Prelude.{◌≡◌, ⊤, ℕ, ◌<◌, List, length, Option, Some, None, slice_get}
 use Rattle.bench_net.specs.Statement.{Statement}
 use Rattle.bench_net.specs.Scan.{names}
@@ -21,8 +21,8 @@ HasPath c (line.Pin gate pin) = IsLive c gate
 HasPath c (line.Data cell) = ⊤
 HasPath c (line.Out output) = ⊤
 
--- The reason of a fault that no test of the list detects. The first that holds is it: that no
--- observer is reached, that no test activates the fault, that none detects it.
+-- The reason of a fault that no test of the list detects, the first that holds: no observer is
+-- reached, no test activates the fault, or none detects it.
 abbrev pub IsReason : List Statement → List Test → Fault → Reason → Type 0
 IsReason c tests f NoPath = ¬ HasPath c f.line
 IsReason c tests f NotActivated = HasPath c f.line × (¬ IsActivated c tests f)
@@ -35,7 +35,7 @@ HasReason c tests f (Some t) reason = reason ≡ None
 HasReason c tests f None None = ⊥
 HasReason c tests f None (Some reason) = IsReason c tests f reason
 
--- each fault of the circuit's list, before collapsing, has its reason
+-- each fault of the circuit's uncollapsed list has its reason
 pub record AreReasons (m : Model) (c : List Statement) (tests : List Test)
     (firsts : List (Option ℕ)) (reasons : List (Option Reason)) : Type 0 where
   pub count : length reasons ≡ length (faults m c)

@@ -207,7 +207,7 @@ reported job over a b o r m t n = (
       ∙ ap (λ t. cond t None (held_by a.worker m.before)) (eq-eqb a.worker a.worker refl),
 )
 
--- a seat that holds a piece never gets that it holds none
+-- a seat that holds a piece never gets NothingHeld
 pub holds_some : (a b : Sitter) (p : ℕ) → IsSitter a → held_by a.worker a.seen ≡ Some p
     → Stays a (call.Drop a.worker) (Refused NothingHeld) b → ⊥
 holds_some a b p i e s = go (has_earlier_hit a.place.shape a.seen p) (s.replied
@@ -229,7 +229,7 @@ missed a b p i holding r which stays finds = go which
         (subst (λ x. Stays a (call.Drop a.worker) (Refused x) b) e (stays e)))
     go (inr e) = finds e
 
--- a seat that holds none never gets that it holds a piece
+-- a seat that holds none never gets Holding
 pub holds_none : (a b : Sitter) → IsSitter a → held_by a.worker a.seen ≡ None
     → Stays a (call.Claim a.worker) (Refused Holding) b → ⊥
 holds_none a b i e s = go (nat_lt (claims a.seen) (piece_count a.place.shape)) (s.replied
@@ -322,7 +322,7 @@ module _ (job : Parts) (over : ClassSelection) (a b : Sitter) (p : Place) (class
         (subst (λ (q : Place). IsShapeOver job over q.shape) (sym here) own) own_class_b still
         true s
 
--- the work after a claim that got that all pieces are claimed
+-- the work after a claim that got Exhausted
 pub exhausted : (job : Parts) (over : ClassSelection) (a b : Sitter) (r : Reply) → IsSitter a
     → (a.told ≡ false → Sees a true b) → (a.told ≡ true → Stays a (call.Claim a.worker) r b)
     → WorksOver job over a b

@@ -63,7 +63,7 @@ claims_stretch a b p class block at tests m =
       within = g.1;
     }
 
--- a claim that got that all are claimed
+-- a claim that got Exhausted
 pub sees_all : (a b : Sitter) (r : Reply) → IsSitter a → IsSitter b → b.told ≡ true
     → (b.place ≡ a.place) × (b.worker ≡ a.worker)
     → (a.told ≡ false → Sees a true b) → (a.told ≡ true → Stays a (call.Claim a.worker) r b)

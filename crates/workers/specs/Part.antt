@@ -17,7 +17,7 @@ abbrev pub IsOfPart : Parts → ℕ → ℕ → ℕ → Type 0
 IsOfPart job parts part class = (stem : ℕ)
     × IsStemOfClass job.list.model job.circuit class stem × (part ≡ stem % parts)
 
--- each class is of exactly one part
+-- each class is in exactly one part
 abbrev pub IsInOnePart : Parts → ℕ → ℕ → Type 0
 IsInOnePart job parts class = (part : ℕ) × (part < parts) × IsOfPart job parts part class
     × ((other : ℕ) → IsOfPart job parts other class → other ≡ part)

@@ -1,7 +1,8 @@
 -- The pieces at which gates stop workers.
 use Rattle.std.specs.Prelude.{⊤, ℕ}
 
--- Of which worker, class and block a gate may stop the worker, and of which it surely does.
+-- The workers, classes and blocks for which a gate may stop the worker, and for which it surely
+-- does.
 pub record Stops : Type 1 where
   pub may : ℕ → ℕ → ℕ → Type 0
   pub must : ℕ → ℕ → ℕ → Type 0

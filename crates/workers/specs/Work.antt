@@ -71,7 +71,7 @@ stops_over chosen stops = record {
   must = λ worker class block. stops.must worker (chosen.class_at class) block;
 }
 
--- a worker that its gate stopped holds the piece that it was stopped for
+-- a worker that its gate stopped holds the piece at which it was stopped
 abbrev pub IsStopped : Shape → Stops → ℕ → History → Type 0
 IsStopped shape stops w h = (piece : ℕ) × (held_by w h ≡ Some piece)
     × stops.may w (class_of shape piece) (block_of shape piece)
@@ -118,7 +118,7 @@ abbrev pub AllReportTruly : Parts → ClassSelection → Shape → History → T
 AllReportTruly job chosen shape h =
     (w : ℕ) → w < shape.workers → ReportsTruly job chosen shape w h []
 
--- What a run over chosen classes leaves: the closed ledger shows a legal and finished history of a
+-- The end of a run over chosen classes: the closed ledger shows a legal and finished history of a
 -- ledger of these classes, in which each report is true, of a piece that could not be dropped.
 pub record HasRun (job : Parts) (chosen : ClassSelection) (workers : ℕ) (closed : ClosedFace) : Type
     0 where
