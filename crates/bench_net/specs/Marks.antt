@@ -32,7 +32,7 @@ pub record AreLevelsOf (pins : ℕ → List ℕ) (signals : ℕ) (levels : List 
   pub each : (s : ℕ) → s < signals → HaveLevels pins (pins s) (slice_index levels s)
   pub of_pins : (s p : ℕ) → Among p (pins s) → HaveLevels pins (pins p) (slice_index levels p)
 
--- the signal is one of some each of which reads one of them
+-- the signal is in a set of signals each of which reads one of the set
 abbrev pub IsStuckAt : (ℕ → List ℕ) → ℕ → Type 0
 IsStuckAt pins s = (members : List ℕ)
     × ((m : ℕ) → Among m members → (p : ℕ) × Among p (pins m) × Among p members)

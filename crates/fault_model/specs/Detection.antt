@@ -23,7 +23,7 @@ name_on c (line.Pin gate pin) = argument (definition c gate) pin
 name_on c (line.Data cell) = option_map (λ qd. qd.1) (slice_get (cells c) cell)
 name_on c (line.Out output) = slice_get (outputs c) output
 
--- without a fault a test gives the line this bit
+-- in the fault-free circuit a test gives the line this bit
 abbrev pub HasBit : List Statement → Test → Line → Bool → Type 0
 HasBit c t l b = (v : Name → Bool) × (n : Name) × Solves c t None v × (name_on c l ≡ Some n)
     × (v n ≡ b)

@@ -11,7 +11,7 @@ use Rattle.fault_model.specs.Solution.{Test, Solves, Detects, shows}
 use Rattle.fault_model.specs.Collapse.{Represents, representatives, IsClassOf, AreEquivalent}
 use Rattle.fault_model.specs.Collapse.{Collapsed, AreClassesOf}
 
--- under every test, without a fault and under each fault, some valuation solves
+-- under every test, fault-free and under each fault, some valuation solves
 abbrev pub HasSolutions : List Statement → Type 0
 HasSolutions c = (t : Test) (f : Option Fault) → (v : Name → Bool) × Solves c t f v
 
@@ -49,7 +49,7 @@ DetectionIsOfAnySolution c = (f : Fault) (t : Test) (v w : Name → Bool) → So
     → Detects c t f ↔ ((observer : Sink × Name) × Contains (observers c) observer
     × (shows None v observer ≢ shows (Some f) w observer))
 
--- under pairs a line slow to leave a bit is of the class of which it is under tests in a row
+-- under pairs a line slow to leave a bit has the same class as under tests in a row
 abbrev pub HavePairsClassOfTransitions : List Statement → Type 0
 HavePairsClassOfTransitions c = (l : Line) (b : Bool) (class : ℕ)
     → IsClassOf Transition c (record { model = Transition; line = l; stuck = b }) class
