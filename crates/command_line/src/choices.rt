@@ -179,8 +179,7 @@ fn why_flag<'a>(alloc: Global) -> Result<Arg<'a>, AllocError> {
         .help("With --undetected, print the reason for each fault")
         .conflicts_with("list")?
         .conflicts_with("part")?
-        .conflicts_with("detections")?
-        .conflicts_with("format")
+        .conflicts_with("detections")
 }
 
 /// Returns the flag `--classes`.

@@ -21,7 +21,7 @@ use report::{
 use std::alloc::Global;
 use std::sync::Wait;
 use std::thread::Threads;
-use tables::{Format, Summary, run_table_watched};
+use tables::{Format, Summary, reasons_table_watched, run_table_watched};
 
 /// The output of a run.
 #[derive(Clone, Copy)]
@@ -44,6 +44,11 @@ pub(crate) enum Form {
     /// The table of a run.
     Table {
         lines: Lines,
+        format: Format,
+        split: Split,
+    },
+    /// The table of the undetected faults with their reasons.
+    ReasonTable {
         format: Format,
         split: Split,
     },
@@ -215,6 +220,11 @@ fn write_text<R: Threads + Wait, G: Watch + Sync, W: Out>(
         } => {
             run_table_watched(
                 rt, alloc, model, bench, tests, split, workers, lines, format, gate, out,
+            )
+        }
+        Form::ReasonTable { format, split } => {
+            reasons_table_watched(
+                rt, alloc, model, bench, tests, split, workers, format, gate, out,
             )
         }
         Form::Curve { split } => {

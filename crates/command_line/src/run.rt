@@ -16,6 +16,7 @@ use report::{Contents, Lines, Out, Split};
 use std::alloc::Global;
 use std::sync::Wait;
 use std::thread::Threads;
+use tables::Format;
 
 /// Returns the output that the command line requests of `run`.
 fn read_form<'a>(matches: &ArgMatches<'a>) -> Result<Form, CommandError<'a>>
@@ -23,16 +24,12 @@ fn read_form<'a>(matches: &ArgMatches<'a>) -> Result<Form, CommandError<'a>>
 {
     let contents = read_contents(matches)?;
     let split = read_split(matches)?;
+    let why = matches.get_flag("why");
     if let Some(format) = read_format(matches)? {
-        let lines = contents.lines;
-        return Ok(Form::Table {
-            lines,
-            format,
-            split,
-        });
+        return table_form(contents.lines, format, split, why);
     }
     match (matches.get_str("part"), split) {
-        (None, _) => report_form(contents, split, matches.get_flag("why")),
+        (None, _) => report_form(contents, split, why),
         (Some(text), Split::Whole) => read_part(text).ok_or(CommandError::Unfit("--part", NO_PART)),
         (Some(_), _) => Err(CommandError::Unfit("--parts", BESIDE_PART)),
     }
@@ -49,6 +46,27 @@ fn report_form<'a>(contents: Contents, split: Split, why: bool) -> Result<Form, 
             classes: contents.classes,
             split,
         }),
+        (true, Lines::Omitted | Lines::All) => Err(CommandError::Misused("--why")),
+    }
+}
+
+/// A table, of the undetected faults with their reasons if `why` is set.
+fn table_form<'a>(
+    lines: Lines,
+    format: Format,
+    split: Split,
+    why: bool,
+) -> Result<Form, CommandError<'a>>
+    requires { HasSomePart split }
+    ensures { IfOk result HasParts }
+{
+    match (why, lines) {
+        (false, _) => Ok(Form::Table {
+            lines,
+            format,
+            split,
+        }),
+        (true, Lines::Undetected) => Ok(Form::ReasonTable { format, split }),
         (true, Lines::Omitted | Lines::All) => Err(CommandError::Misused("--why")),
     }
 }

@@ -36,7 +36,7 @@ pub use job_loading::{
 };
 pub use launched::pairs_text_in;
 pub use laws::class_firsts_are;
-pub use reasoned::{reason_counts, reasons_text_watched, write_reasons};
+pub use reasoned::{reason_counts, reasons_text_watched, words_of, write_reasons};
 pub use report::{
     detected_classes, first_text, put_coverage, put_fault_line, write_fault, write_listing,
     write_report, write_report_with,

@@ -145,7 +145,7 @@ fn reason_at(reasons: &[Option<Reason>], fault: u32) -> Option<Reason>
 }
 
 /// Returns the words of a reason.
-fn words_of(reason: Reason) -> &'static str
+pub fn words_of(reason: Reason) -> &'static str
     ensures { result.now ≡ reason_text reason }
 {
     match reason {

@@ -2,3 +2,4 @@ mod Nets
 mod RowsByPairs
 mod TablesOfTexts
 mod Texts
+mod ReasonTables

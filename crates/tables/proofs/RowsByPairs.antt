@@ -11,7 +11,7 @@ use Rattle.report.specs.declared.contents.Lines.{Lines}
 use Rattle.tables.specs.Rows.{RowCells, row_cells}
 use Rattle.tables.specs.Tables.{has_row, rows_text}
 
-zipped_at : {F X : Type 0} (fs : List F) (xs : List X) (i : ℕ) (f : F) (x : X)
+pub zipped_at : {F X : Type 0} (fs : List F) (xs : List X) (i : ℕ) (f : F) (x : X)
     → slice_get fs i ≡ Some f → slice_get xs i ≡ Some x → slice_get (zip fs xs) i ≡ Some (f, x)
 zipped_at [] xs i f x e h = let bad : None ≡ Some f = e in cc
 zipped_at (g ∷ fs) [] i f x e h = let bad : None ≡ Some x = h in cc

@@ -1,3 +1,4 @@
+pub mod Reasons
 pub mod Records
 pub mod Refusals
 pub mod Rows

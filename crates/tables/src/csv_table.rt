@@ -49,7 +49,7 @@ pub(crate) fn csv_table(
 }
 
 /// Returns the text that a writer between two records has taken.
-fn text_of(writer: Writer<Vec<u8>>) -> Result<Vec<u8>, AllocError>
+pub(crate) fn text_of(writer: Writer<Vec<u8>>) -> Result<Vec<u8>, AllocError>
     ensures { (taken : List ℕ) → HasTaken writer taken
         → IfOk result (λ text. text.items ≡ taken) }
 {

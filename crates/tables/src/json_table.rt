@@ -53,7 +53,7 @@ pub(crate) fn json_rows(
 }
 
 /// Returns a text as a JSON string.
-fn quoted(alloc: Global, text: &str) -> Result<String, AllocError>
+pub(crate) fn quoted(alloc: Global, text: &str) -> Result<String, AllocError>
     ensures { IfOk result (λ string. string_bytes string ≡ quoted text.now) }
 {
     Value::String(String::from_str(alloc, text)?).to_string(alloc)

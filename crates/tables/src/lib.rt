@@ -8,11 +8,14 @@ mod json_table;
 mod laws;
 mod merged;
 mod number;
+mod reason_table;
+mod reasons;
 mod row;
 mod summary;
 mod table;
 
 pub use laws::merged_table;
 pub use merged::write_merged_table;
+pub use reasons::reasons_table_watched;
 pub use summary::{Summary, summary_text};
 pub use table::{Format, faults_table_in, run_table_in, run_table_watched};

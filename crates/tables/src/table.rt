@@ -78,7 +78,7 @@ fn write_csv<W: Out>(
 }
 
 /// Writes a text.
-fn put_text<W: Out>(text: &[u8], out: &mut W) -> Result<(), ReportFault>
+pub(crate) fn put_text<W: Out>(text: &[u8], out: &mut W) -> Result<(), ReportFault>
     ensures { Writes result (W.seen out.old) (W.seen out.new) text.now }
 {
     Ok(put_all(text, out)?)

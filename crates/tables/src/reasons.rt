@@ -1,0 +1,149 @@
+//! Tables of the undetected faults with their reasons, from the bytes of files.
+
+ghost use Rattle.std.specs.Prelude.{◌≡◌, ◌<◌, ◌≤◌, IfErr, OnOk, length, zip};
+ghost use Rattle.block_sim.specs.Parts.{BelongTogether};
+ghost use Rattle.job_loading.specs.Splits.{HasSomePart};
+ghost use Rattle.report.specs.EndToEnd.{IsJobTextFault, IsWatchedFault, IsWithin, WritesOneOf};
+ghost use Rattle.tables.specs.Reasons.{IsReasonTableOf, IsReasonTableOfJob, reason_csv};
+ghost use Rattle.tables.specs.Reasons.{reason_json, reason_table};
+ghost use Rattle.tables.specs.Refusals.{IsTableFault};
+ghost use Rattle.workers.specs.Refused.{ArePartsWithin, IsPartsFault};
+
+use crate::column::Column;
+use crate::json_table::put_json;
+use crate::reason_table::{reason_csv, reason_objects};
+use crate::table::{Format, put_text};
+use block_sim::Job;
+use fault_model::Model;
+use job_loading::{Watch, run_watched, split_job_of};
+use report::{Lines, Out, Reason, SimFault, Split, reason_counts};
+use std::alloc::Global;
+use std::sync::Wait;
+use std::thread::Threads;
+use undetected::reasons;
+use workers::Verdicts;
+
+/// Reads a circuit and tests for it, and writes a table of the faults of a model that no test
+/// detects, each with the reason why none does. The reason is the last column, or the last member
+/// of each object.
+///
+/// # Errors
+///
+/// The same as of [`crate::run_table_watched`], which also describes the split and the gate.
+pub fn reasons_table_watched<R: Threads + Wait, G: Watch + Sync, W: Out>(
+    rt: &R,
+    alloc: Global,
+    model: Model,
+    bench: &[u8],
+    tests: &[u8],
+    split: Split,
+    workers: u32,
+    format: Format,
+    gate: &G,
+    out: &mut W,
+) -> Result<(), SimFault>
+    requires { HasSomePart split }
+    ensures written { WritesOneOf (IsReasonTableOf model bench.now tests.now format) result
+        (W.seen out.old) (W.seen out.new) }
+    ensures refused { IfErr result (IsWatchedFault model bench.now tests.now split workers
+        (G.passing gate.now) (G.stops gate.now)) }
+    ensures workers { OnOk result ((0 < workers) × (workers ≤ 64)) }
+    ensures within { OnOk result (IsWithin model bench.now tests.now split) }
+{
+    let (job, parts) = split_job_of(rt, alloc, model, bench, tests, split, workers)?;
+    write_run(rt, alloc, &job, parts, workers, format, gate, out)
+}
+
+/// Runs a job in parts by workers in threads of their own, and writes the table.
+fn write_run<R: Threads + Wait, G: Watch + Sync, W: Out>(
+    rt: &R,
+    alloc: Global,
+    job: &Job,
+    parts: u32,
+    workers: u32,
+    format: Format,
+    gate: &G,
+    out: &mut W,
+) -> Result<(), SimFault>
+    requires job { BelongTogether job.now }
+    requires parts { 0 < parts }
+    ensures written { WritesOneOf (IsReasonTableOfJob job.now format) result
+        (W.seen out.old) (W.seen out.new) }
+    ensures refused { IfErr result (IsJobTextFault workers
+        (IsPartsFault job.now parts workers (G.passing gate.now) (G.stops gate.now))) }
+    ensures workers { OnOk result ((0 < workers) × (workers ≤ 64)) }
+    ensures within { OnOk result (ArePartsWithin job.now parts) }
+{
+    let verdicts = run_watched(rt, alloc, job, parts, workers, gate)?;
+    let reasons = reasons(alloc, job, &verdicts)?;
+    gate.explains(reason_counts(&reasons));
+    write_table(alloc, job, &verdicts, reasons.as_slice(), format, out)
+}
+
+/// Writes the table of a job's undetected faults. Its text is made first, so an output gets a table
+/// or a beginning of one, or nothing if memory is refused.
+fn write_table<W: Out>(
+    alloc: Global,
+    job: &Job,
+    verdicts: &Verdicts,
+    reasons: &[Option<Reason>],
+    format: Format,
+    out: &mut W,
+) -> Result<(), SimFault>
+    requires verdicts { length verdicts.now.firsts ≡ length job.now.list.list }
+    requires reasons { length reasons.now ≡ length job.now.list.list }
+    ensures written { WritesOneOf (λ bytes. bytes ≡ reason_table format job.now.circuit
+        job.now.list.list verdicts.now.firsts reasons.now) result
+        (W.seen out.old) (W.seen out.new) }
+    ensures refused { IfErr result IsTableFault }
+{
+    match format {
+        Format::Csv => write_csv(alloc, job, reasons, out),
+        Format::Json => write_json(alloc, job, verdicts, reasons, out),
+    }
+}
+
+/// Writes the table as comma-separated values.
+fn write_csv<W: Out>(
+    alloc: Global,
+    job: &Job,
+    reasons: &[Option<Reason>],
+    out: &mut W,
+) -> Result<(), SimFault>
+    requires reasons { length reasons.now ≡ length job.now.list.list }
+    ensures written { WritesOneOf (λ bytes. bytes ≡ reason_csv job.now.circuit
+        (zip job.now.list.list reasons.now)) result (W.seen out.old) (W.seen out.new) }
+    ensures refused { IfErr result IsTableFault }
+{
+    let text = reason_csv(alloc, job.circuit(), job.faults(), reasons)?;
+    put_text(&text, out)?;
+    Ok(())
+}
+
+/// Writes the table as a JSON object.
+fn write_json<W: Out>(
+    alloc: Global,
+    job: &Job,
+    verdicts: &Verdicts,
+    reasons: &[Option<Reason>],
+    out: &mut W,
+) -> Result<(), SimFault>
+    requires verdicts { length verdicts.now.firsts ≡ length job.now.list.list }
+    requires reasons { length reasons.now ≡ length job.now.list.list }
+    ensures written { WritesOneOf (λ bytes. bytes ≡ reason_json job.now.circuit
+        job.now.list.list verdicts.now.firsts reasons.now) result
+        (W.seen out.old) (W.seen out.new) }
+    ensures refused { IfErr result IsTableFault }
+{
+    let circuit = job.circuit();
+    let signals = circuit.signals();
+    prove!(signals > 0);
+    let list = job.faults();
+    let rows = reason_objects(alloc, circuit, list, reasons)?;
+    let column = Column::First {
+        verdicts,
+        lines: Lines::Undetected,
+    };
+    put_json(&column, list.count(), &rows, out)?;
+    Ok(())
+}
