@@ -1,2 +1,7 @@
-mod LinesInCircuit
+mod ActivatedAlike
+mod AddedTests
+mod BitsBefore
 mod KnownReasons
+mod LinesInCircuit
+mod PinSignals
+mod WordLanes

@@ -52,3 +52,21 @@ listed_in job list i l part together line_is lt =
     (at_place (faults m c) i at.0 own) in
     let named = carries m c at.0 together.circuit.well_formed among in
     subst (IsLineIn c) (sym on) (named_in c at.0.line named.0 named.1)
+
+-- the line carries a name that the circuit defines
+pub listed_named : (job : Parts) (list : FaultList) (i : ℕ) (l : Line) → list ≡ job.list
+    → BelongTogether job → IfSome (slice_get list.list i) (λ f. l ≡ f.line)
+    → i < length job.list.list
+    → (n : Name) × (name_on job.circuit l ≡ Some n) × Contains (names job.circuit) n
+listed_named job list i l part together line_is lt =
+    let c = job.circuit in
+    let m = job.list.model in
+    let at = within_place job.list.list i lt in
+    let here : slice_get list.list i ≡ Some at.0 = ap (λ x. slice_get x.list i) part ∙ at.1 in
+    let on : l ≡ at.0.line = subst (λ x. IfSome x (λ f. l ≡ f.line)) here line_is in
+    let own : slice_get (faults m c) i ≡ Some at.0 =
+    ap (λ x. slice_get x.list i) (sym together.list) ∙ at.1 in
+    let among : Contains (faults m c) at.0 = contained (faults m c) at.0
+    (at_place (faults m c) i at.0 own) in
+    subst (λ x. (n : Name) × (name_on c x ≡ Some n) × Contains (names c) n) (sym on)
+    (carries m c at.0 together.circuit.well_formed among)

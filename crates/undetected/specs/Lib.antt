@@ -1,1 +1,2 @@
+pub mod Activated
 pub mod Reasons

@@ -6,6 +6,8 @@
 //! [`reasons`] returns for each undetected fault which of these is missing.
 #![tactic(auto)]
 
+mod activating;
+mod activations;
 mod finding;
 
 pub use finding::reasons;

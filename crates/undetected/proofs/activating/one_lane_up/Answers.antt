@@ -1,0 +1,15 @@
+use Rattle.std.proofs.Common.{◌≡◌, ◌+◌, ◌*◌, ◌%◌, ◌/◌, suc, arith, subst}
+use Rattle.std.specs.Prelude.{bit_or}
+use Rattle.block_sim.specs.Words.{lane}
+use Rattle.undetected.proofs.WordLanes.{before_first, before_later}
+use Rattle.undetected.proofs.activating.one_lane_up.Goals as goal
+
+pub returns-clause-first : goal.returns-clause-first
+returns-clause-first c = before_first c.args.word c.args.last
+
+pub returns-clause-later : goal.returns-clause-later
+returns-clause-later c = λ k lt.
+    let one : suc k ≡ k + 1 = omega arith in
+    subst (λ j. lane (bit_or (c.args.word * 2 % 18446744073709551616)
+    (c.args.last / 9223372036854775808)) j ≡ lane c.args.word k) one
+    (before_later c.args.word c.args.last k (omega arith) lt)

@@ -1,0 +1,46 @@
+-- What is known of the activation of faults while their reasons are found.
+use Rattle.std.specs.Prelude.{◌≡◌, ◌↔◌, ◌+◌, ◌*◌, ◌<◌, ◌≤◌, ℕ, Bool, true, false, List, length}
+use Rattle.std.specs.Prelude.{Some, IsTrue, if◌then◌else◌, nat_lt, slice_get}
+use Rattle.bench_net.specs.Scan.{names}
+use Rattle.bench_net.specs.Statement.{Statement}
+use Rattle.fault_model.specs.declared.Line.TheVariants as line
+use Rattle.fault_model.specs.declared.Model.{Model}
+use Rattle.fault_model.specs.Fault.{Fault}
+use Rattle.fault_model.specs.Solution.{Test}
+use Rattle.block_sim.specs.Activation.{ActivatesAt, IsActivated}
+use Rattle.block_sim.specs.Parts.{Parts}
+use Rattle.undetected.specs.declared.activations.Activations.{Activations}
+
+-- the fault of a bit on the stem of a signal
+abbrev pub stem_fault : Model → ℕ → Bool → Fault
+stem_fault m s bit = record { model = m; line = line.Stem s; stuck = bit }
+
+-- some test of the block activates the fault
+abbrev pub IsActivatedIn : List Statement → List Test → Fault → ℕ → Type 0
+IsActivatedIn c tests f block = (t : ℕ) × (64 * block ≤ t) × (t < 64 * (block + 1))
+    × ActivatesAt c tests f t
+
+-- the flag of each signal says whether a test before a number activates the fault of the bit on the
+-- signal's stem
+abbrev pub AreActivatedBefore : Parts → Bool → (ℕ → ℕ) → List Bool → Type 0
+AreActivatedBefore job bit end flags = (s : ℕ) (flag : Bool) → slice_get flags s ≡ Some flag
+    → IsTrue flag ↔ ((t : ℕ) × (t < end s)
+    × ActivatesAt job.circuit job.tests.tests (stem_fault job.list.model s bit) t)
+
+-- the number up to which tests were added for a signal, within a block, if those of the signals
+-- before a number were added
+abbrev pub end_at : ℕ → ℕ → ℕ → ℕ
+end_at block signal s = if nat_lt s signal then 64 * (block + 1) else 64 * block
+
+-- the flag of each signal says whether some test activates the fault of the bit on its stem
+abbrev pub AreActivated : Parts → Bool → List Bool → Type 0
+AreActivated job bit flags = (s : ℕ) (flag : Bool) → slice_get flags s ≡ Some flag
+    → IsTrue flag
+    ↔ IsActivated job.circuit job.tests.tests (stem_fault job.list.model s bit)
+
+-- the flags of both bits, one for each signal
+pub record AreActivations (job : Parts) (known : Activations) : Type 0 where
+  pub zero_room : length known.at_zero.items ≡ length (names job.circuit)
+  pub one_room : length known.at_one.items ≡ length (names job.circuit)
+  pub at_zero : AreActivated job false known.at_zero.items
+  pub at_one : AreActivated job true known.at_one.items
