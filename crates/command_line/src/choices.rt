@@ -176,7 +176,7 @@ fn why_flag<'a>(alloc: Global) -> Result<Arg<'a>, AllocError> {
     Arg::new(alloc, "why")
         .long("why")
         .action(ArgAction::SetTrue)
-        .help("With --undetected, print the reason for each fault")
+        .help("With --undetected, print the reason for each fault, also as csv or json")
         .conflicts_with("list")?
         .conflicts_with("part")?
         .conflicts_with("detections")
