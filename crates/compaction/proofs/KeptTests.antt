@@ -1,7 +1,7 @@
 -- What the tests that are kept detect, and why each is.
 use Rattle.std.proofs.Common.{◌≡◌, ◌<◌, ◌≤◌, ◌+◌, ◌-◌, ◌*◌, ◌∙◌, ℕ, zero, suc, Bool, true, false}
 use Rattle.std.proofs.Common.{List, ◌∷◌, [], length, ap, refl, sym, subst, arith, add-one, inl, inr}
-use Rattle.std.proofs.Common.{◌⊎◌, get_or, take, ◌++◌}
+use Rattle.std.proofs.Common.{◌⊎◌, get_or, take}
 use Rattle.std.specs.Prelude.{◌||◌, ⊤, Contains, IfOk, Option, Some, None, Result, Ok, Err}
 use Rattle.std.specs.Prelude.{slice_get}
 use Rattle.std.specs.List.{ReversedBelow}
@@ -9,7 +9,6 @@ use Rattle.std.proofs.lemmas.Bool.{cases_lt, eqb-true, eq-eqb}
 use Rattle.std.proofs.lemmas.List.{get_or_past}
 use Rattle.std.proofs.lemmas.Nat.{mul-le}
 use Rattle.std.proofs.lemmas.List.Folds.{list_any_more}
-use Rattle.std.proofs.Math.Seq.{take-append_seam}
 use Rattle.std.proofs.lemmas.Option.{get_or_from_slice_get, slice_get-get_or, slice_get_within}
 use Rattle.bench_net.specs.Statement.{Statement}
 use Rattle.list_lemmas.proofs.Members.{Among, among, contained, some_passes}
@@ -67,11 +66,6 @@ finds_more firsts t i first at =
     list_any_more (is_first t) firsts i first (place_within firsts i first at)
     ∙ ap (λ x. finds (take i firsts) t || is_first t x)
     (get_or_from_slice_get firsts i first first at)
-
--- what is left of a vector whose slice was written over
-pub written_over : {X : Type 0} (n : ℕ) (new old : List X) → n ≡ length new
-    → take n (new ++ old) ≡ new
-written_over n new old e = ap (λ k. take k (new ++ old)) e ∙ take-append_seam new old
 
 pub are_finding : (m : Model) (c : List Statement) (tests : List Test) (marks : List Bool)
     (firsts : List (Option ℕ)) → AreFirsts m c tests firsts → length marks ≡ length tests

@@ -1,2 +1,5 @@
 pub mod Compaction
+pub mod Detections
 pub mod Marks
+pub mod News
+pub mod Steepest

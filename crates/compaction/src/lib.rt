@@ -2,17 +2,31 @@
 //! faults.
 #![tactic(auto)]
 
+mod detections;
 mod finding;
+mod ordered;
 mod passes;
 mod rows;
+mod steepest;
 
+pub use ordered::compact_in_order;
 pub use passes::{compact, compact_in_parts};
 use patterns::Tests;
+
+/// The order of the tests that a compaction keeps.
+#[derive(Clone, Copy, Debug, PartialEq, Eq)]
+pub enum TestOrder {
+    /// The order of the list.
+    AsListed,
+    /// The test that detects the most fault classes comes first, then the test that detects the
+    /// most of the other classes, and so on. Of equal tests the first one of the list comes first.
+    Steepest,
+}
 
 /// The tests of a list that a compaction keeps.
 #[derive(Drop)]
 pub struct Kept {
-    /// The tests, in the order of the list.
+    /// The tests, in the order of the list unless another [`TestOrder`] was requested.
     pub tests: Tests,
     /// The number of each in the list, from 0.
     pub numbers: Vec<u32>,

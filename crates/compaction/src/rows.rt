@@ -88,7 +88,12 @@ pub fn reversed_tests(alloc: Global, tests: &Tests) -> Result<Tests, AllocError>
 }
 
 /// Adds a test of a list to another list of the same width, if there is room for it.
-fn push_test(alloc: Global, tests: &Tests, test: u32, list: &mut Tests) -> Result<(), AllocError>
+pub fn push_test(
+    alloc: Global,
+    tests: &Tests,
+    test: u32,
+    list: &mut Tests,
+) -> Result<(), AllocError>
     requires test { test < length tests.now.tests }
     requires width { list.old.width ≡ tests.now.width }
     requires room { length list.old.tests < max_tests }

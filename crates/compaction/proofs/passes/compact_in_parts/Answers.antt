@@ -6,7 +6,7 @@ use Rattle.patterns.proofs.Public.{length-below}
 use Rattle.compaction.specs.Compaction.{IsNumbered, at_marks}
 use Rattle.compaction.specs.Marks.{AreLastOf}
 use Rattle.compaction.proofs.KeptTests.{AreWithBefore, before_numbered, ok_as, stuck_numbered}
-use Rattle.compaction.proofs.KeptTests.{written_over}
+use Rattle.compaction.proofs.PushedElements.{written_over}
 use Rattle.compaction.proofs.ElementsAtMarks.{as_many_marked, marked_few}
 use Rattle.compaction.proofs.passes.compact_in_parts.Goals as goal
 

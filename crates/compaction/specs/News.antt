@@ -1,0 +1,23 @@
+-- How many uncovered classes each test detects, while tests are put in order.
+use Rattle.std.specs.Prelude.{◌≡◌, ◌<◌, ◌≤◌, ◌&&◌, ℕ, Bool, false, not, List, count_by, length}
+use Rattle.std.specs.Prelude.{slice_index_or}
+use Rattle.patterns.specs.Least.{below}
+
+-- how many of the first classes a test detects that are not covered
+abbrev pub news_at : (ℕ → ℕ → Bool) → List Bool → ℕ → ℕ → ℕ
+news_at detects covered classes t =
+    count_by (λ class. detects class t && not (slice_index_or covered class false)) (below classes)
+
+-- these are the numbers of all tests
+pub record AreNews (detects : ℕ → ℕ → Bool) (covered : List Bool) (classes tests : ℕ)
+    (news : List ℕ) : Type 0 where
+  pub count : length news ≡ tests
+  pub each : (t : ℕ) → t < tests → slice_index_or news t 0 ≡ news_at detects covered classes t
+
+-- the place is the first of the greatest of some numbers, which is not 0
+pub record IsBest (numbers : List ℕ) (best : ℕ) : Type 0 where
+  pub within : best < length numbers
+  pub some : 0 < slice_index_or numbers best 0
+  pub most : (t : ℕ) → t < length numbers
+      → slice_index_or numbers t 0 ≤ slice_index_or numbers best 0
+  pub lowest : (t : ℕ) → t < best → slice_index_or numbers t 0 < slice_index_or numbers best 0

@@ -1,0 +1,147 @@
+//! Tests in the order in which each detects the most classes that none before it detects.
+
+ghost use Rattle.std.specs.Prelude.{◌≡◌, ◌≢◌, ◌+◌, ◌-◌, ◌<◌, ◌^◌, ◌||◌, ℕ, IfNone, IfOk, IfSome};
+ghost use Rattle.std.specs.Prelude.{count_by, false, length, slice_index_or, true};
+ghost use Rattle.patterns.specs.Least.{below};
+ghost use Rattle.patterns.specs.Tests.{as_number};
+ghost use Rattle.compaction.specs.Detections.{detects_by};
+ghost use Rattle.compaction.specs.News.{AreNews, IsBest};
+ghost use Rattle.compaction.specs.Steepest.{IsSteepest};
+
+use crate::detections::Detections;
+use std::alloc::{AllocError, Global};
+
+/// Returns the numbers of tests in steepest order: each is the one that detects the most classes
+/// which none before it detects, the first of such tests. A test that would detect none is left
+/// out. Each class is counted once at each test and taken off once, so the time is that of two
+/// passes over all classes and tests.
+pub fn steepest_order(alloc: Global, detections: &Detections) -> Result<Vec<u32>, AllocError>
+    ensures { IfOk result (λ order. IsSteepest (detects_by detections.now)
+        (length detections.now.words) detections.now.tests order.items) }
+{
+    let classes = detections.classes();
+    let mut covered = vec![in alloc; false; classes]?;
+    let mut news = all_news(alloc, detections)?;
+    let mut order = Vec::new(alloc);
+    for _round in 0..classes {
+        match best_of(&news) {
+            None => return Ok(order),
+            Some(best) => {
+                order.push(best)?;
+                cover(detections, best, &mut covered, &mut news);
+            }
+        }
+    }
+    Ok(order)
+}
+
+/// Returns how many classes each test detects.
+fn all_news(alloc: Global, detections: &Detections) -> Result<Vec<usize>, AllocError>
+    ensures count { IfOk result (λ news. length news.items ≡ detections.now.tests) }
+    ensures few { IfOk result (λ news. length news.items < 2 ^ 32) }
+    ensures each { IfOk result (λ news. (t : ℕ) → t < detections.now.tests
+        → slice_index_or news.items t 0
+        ≡ count_by (λ class. detects_by detections.now class t) (below (length detections.now.words))) }
+{
+    let mut news = vec![in alloc; 0usize; detections.tests() as usize]?;
+    for class in 0..detections.classes() {
+        add_class(detections, class, &mut news);
+    }
+    Ok(news)
+}
+
+/// Counts a class at each test that detects it.
+fn add_class(detections: &Detections, class: usize, news: &mut [usize])
+    requires class { class < length detections.now.words }
+    requires tests { length news.old ≡ detections.now.tests }
+    requires room { (t : ℕ) → t < length news.old → slice_index_or news.old t 0 < 2 ^ 64 - 1 }
+    ensures count { length news.new ≡ length news.old }
+    ensures each { (t : ℕ) → t < length news.old → slice_index_or news.new t 0
+        ≡ slice_index_or news.old t 0 + as_number (detects_by detections.now class t) }
+{
+    for test in 0..detections.tests() {
+        if detections.detects(class, test) {
+            news[test as usize] += 1;
+        }
+    }
+}
+
+/// Takes a class off each test that detects it.
+fn drop_class(detections: &Detections, class: usize, news: &mut [usize])
+    requires class { class < length detections.now.words }
+    requires tests { length news.old ≡ detections.now.tests }
+    requires some { (t : ℕ) → t < length news.old → detects_by detections.now class t ≡ true
+        → 0 < slice_index_or news.old t 0 }
+    ensures count { length news.new ≡ length news.old }
+    ensures each { (t : ℕ) → t < length news.old → slice_index_or news.new t 0
+        + as_number (detects_by detections.now class t) ≡ slice_index_or news.old t 0 }
+{
+    for test in 0..detections.tests() {
+        if detections.detects(class, test) {
+            news[test as usize] -= 1;
+        }
+    }
+}
+
+/// Returns the first place of the greatest of some numbers, and none if all are 0.
+fn best_of(news: &[usize]) -> Option<u32>
+    requires { length news.now < 2 ^ 32 }
+    ensures none { IfNone result ((t : ℕ) → t < length news.now → slice_index_or news.now t 0 ≡ 0) }
+    ensures best { IfSome result (λ best. IsBest news.now best) }
+{
+    let mut best = 0;
+    let mut most = 0;
+    for test in 0..news.len() {
+        if news[test] > most {
+            best = test;
+            most = news[test];
+        }
+    }
+    if most == 0 { None } else { Some(best as u32) }
+}
+
+/// Covers the classes that a test detects.
+fn cover(detections: &Detections, test: u32, covered: &mut [bool], news: &mut [usize])
+    requires test { test < detections.now.tests }
+    requires covered { length covered.old ≡ length detections.now.words }
+    requires news { AreNews (detects_by detections.now) covered.old
+        (length detections.now.words) detections.now.tests news.old }
+    ensures count { length covered.new ≡ length covered.old }
+    ensures each { (class : ℕ) → class < length covered.old
+        → slice_index_or covered.new class false
+        ≡ (slice_index_or covered.old class false || detects_by detections.now class test) }
+    ensures news { AreNews (detects_by detections.now) covered.new
+        (length detections.now.words) detections.now.tests news.new }
+{
+    for class in 0..detections.classes() {
+        cover_class(detections, class, test, covered, news);
+    }
+}
+
+/// Covers a class if a test detects it.
+fn cover_class(
+    detections: &Detections,
+    class: usize,
+    test: u32,
+    covered: &mut [bool],
+    news: &mut [usize],
+)
+    requires class { class < length detections.now.words }
+    requires test { test < detections.now.tests }
+    requires covered { length covered.old ≡ length detections.now.words }
+    requires news { AreNews (detects_by detections.now) covered.old
+        (length detections.now.words) detections.now.tests news.old }
+    ensures count { length covered.new ≡ length covered.old }
+    ensures own { slice_index_or covered.new class false
+        ≡ (slice_index_or covered.old class false || detects_by detections.now class test) }
+    ensures others { (other : ℕ) → other ≢ class
+        → slice_index_or covered.new other false ≡ slice_index_or covered.old other false }
+    ensures news { AreNews (detects_by detections.now) covered.new
+        (length detections.now.words) detections.now.tests news.new }
+{
+    if covered[class] || !detections.detects(class, test) {
+        return;
+    }
+    covered[class] = true;
+    drop_class(detections, class, news);
+}
