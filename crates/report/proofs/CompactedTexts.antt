@@ -4,37 +4,43 @@ use Rattle.std.specs.Prelude.{codes, decimal, Err, IfErr, Ok, OnOk, Result}
 use Rattle.fault_model.specs.declared.Model.{Model}
 use Rattle.fault_model.specs.Solution.{Test}
 use Rattle.block_sim.specs.Parts.{Parts}
-use Rattle.compaction.specs.Compaction.{IsNumbered}
+use Rattle.compaction.specs.Steepest.{IsOrdered}
+use Rattle.compaction.specs.declared.TestOrder.TheVariants.{AsListed}
 use Rattle.byte_output.specs.Output.{Output}
 use Rattle.workers.specs.declared.RunFault.{RunFault}
 use Rattle.job_loading.specs.declared.fault.SimFault.{SimFault}
 use Rattle.job_loading.specs.declared.fault.SimFault.TheVariants as fault
 use Rattle.job_loading.specs.Jobs.{IsJobOf}
 use Rattle.report.specs.declared.compacted.KeptCount.{KeptCount}
-use Rattle.report.specs.declared.compacted.KeptForm.{KeptForm}
 use Rattle.report.specs.declared.compacted.KeptForm.TheVariants.{Rows}
+use Rattle.report.specs.declared.compacted.KeptLayout.{KeptLayout}
 use Rattle.report.specs.Compacted.{GivesOneOf, IsCompactionOf, IsKeptText, IsKeptTextOfJob}
 use Rattle.report.specs.Compacted.{count_of, number_line}
 use Rattle.report.specs.EndToEnd.{IsJobTextFault, IsListFault, WritesOneOf}
 
-pub kept_of_texts : (m : Model) (bench text : List ℕ) (form : KeptForm) (job : Parts)
+pub kept_of_texts : (m : Model) (bench text : List ℕ) (layout : KeptLayout) (job : Parts)
     → IsJobOf m bench text job → (count : KeptCount) (bytes : List ℕ)
-    → IsKeptTextOfJob job form count bytes → IsKeptText m bench text form count bytes
-kept_of_texts m bench text form job is count bytes of_job = (
+    → IsKeptTextOfJob job layout count bytes → IsKeptText m bench text layout count bytes
+kept_of_texts m bench text layout job is count bytes of_job = (
   job.circuit,
   job.tests,
   of_job.0,
   of_job.1,
   is.0,
   is.1,
-  subst (λ k. IsNumbered k job.circuit job.tests.tests of_job.0 of_job.1) is.3 of_job.2,
+  subst (λ k. IsOrdered layout.order k job.circuit job.tests.tests of_job.0 of_job.1) is.3
+      of_job.2,
   of_job.3,
   of_job.4,
 )
 
+-- the layout of rows in the order of their list
+abbrev pub rows_as_listed : KeptLayout
+rows_as_listed = record { order = AsListed; form = Rows }
+
 -- the rows without their numbers
 pub rows_of_kept : (m : Model) (bench text : List ℕ) (count : KeptCount) (bytes : List ℕ)
-    → IsKeptText m bench text Rows count bytes → IsCompactionOf m bench text bytes
+    → IsKeptText m bench text rows_as_listed count bytes → IsCompactionOf m bench text bytes
 rows_of_kept m bench text count bytes is = (is.0, is.1, is.2, is.4, is.5, is.6.0, is.8)
 
 -- what is given beside a text of one kind is given beside one of another

@@ -9,13 +9,15 @@ use Rattle.fault_model.specs.Solution.{Test}
 use Rattle.patterns.specs.Making.{test_text}
 use Rattle.patterns.specs.Tests.{TestList, HasTests}
 use Rattle.block_sim.specs.Parts.{Parts}
-use Rattle.compaction.specs.Compaction.{IsCompaction, IsNumbered}
+use Rattle.compaction.specs.Compaction.{IsCompaction}
+use Rattle.compaction.specs.Steepest.{IsOrdered}
 use Rattle.job_loading.specs.declared.fault.SimFault.{SimFault}
 use Rattle.job_loading.specs.declared.fault.SimFault.TheVariants as fault
 use Rattle.byte_output.specs.Output.{Output, TakesAll, TakesFront}
 use Rattle.report.specs.declared.compacted.KeptCount.{KeptCount}
 use Rattle.report.specs.declared.compacted.KeptForm.{KeptForm}
 use Rattle.report.specs.declared.compacted.KeptForm.TheVariants.{Numbers, Rows}
+use Rattle.report.specs.declared.compacted.KeptLayout.{KeptLayout}
 
 -- the bytes are the rows of a compaction of a test text for a bench text, under a model
 abbrev pub IsCompactionOf : Model → List ℕ → List ℕ → List ℕ → Type 0
@@ -37,18 +39,18 @@ abbrev pub count_of : List Test → List Test → KeptCount
 count_of tests kept = record { kept = length kept; all = length tests }
 
 -- the bytes are the rows or the numbers of a compaction of a test text for a bench text, under a
--- model, and so many tests are kept of so many
-abbrev pub IsKeptText : Model → List ℕ → List ℕ → KeptForm → KeptCount → List ℕ → Type 0
-IsKeptText m bench text form count bytes = (c : List Statement) × (tests : TestList)
+-- model and in an order, and so many tests are kept of so many
+abbrev pub IsKeptText : Model → List ℕ → List ℕ → KeptLayout → KeptCount → List ℕ → Type 0
+IsKeptText m bench text layout count bytes = (c : List Statement) × (tests : TestList)
     × (kept : List Test) × (numbers : List ℕ) × IsAccepted bench c
-    × HasTests text (length (sources c)) tests × IsNumbered m c tests.tests kept numbers
-    × (count ≡ count_of tests.tests kept) × (bytes ≡ kept_text form kept numbers)
+    × HasTests text (length (sources c)) tests × IsOrdered layout.order m c tests.tests kept numbers
+    × (count ≡ count_of tests.tests kept) × (bytes ≡ kept_text layout.form kept numbers)
 
 -- the same of a job
-abbrev pub IsKeptTextOfJob : Parts → KeptForm → KeptCount → List ℕ → Type 0
-IsKeptTextOfJob job form count bytes = (kept : List Test) × (numbers : List ℕ)
-    × IsNumbered job.list.model job.circuit job.tests.tests kept numbers
-    × (count ≡ count_of job.tests.tests kept) × (bytes ≡ kept_text form kept numbers)
+abbrev pub IsKeptTextOfJob : Parts → KeptLayout → KeptCount → List ℕ → Type 0
+IsKeptTextOfJob job layout count bytes = (kept : List Test) × (numbers : List ℕ)
+    × IsOrdered layout.order job.list.model job.circuit job.tests.tests kept numbers
+    × (count ≡ count_of job.tests.tests kept) × (bytes ≡ kept_text layout.form kept numbers)
 
 -- What a call wrote that gives a value beside a text of this kind: the whole text of the value, and
 -- nothing else; a beginning of one, where the output failed; or nothing, where anything else was

@@ -16,7 +16,7 @@ ghost use Rattle.workers.specs.Stops.{no_stop};
 use crate::whole::put_text;
 use block_sim::Job;
 use byte_output::{Out, OutFailed, put_pieces};
-use compaction::{Kept, compact_in_parts};
+use compaction::{Kept, TestOrder, compact_in_order};
 use fault_model::Model;
 use itoa::Buffer;
 use job_loading::{ReportFault, SimFault, Split, split_job_of};
@@ -32,6 +32,15 @@ pub enum KeptForm {
     Rows,
     /// The number of each test in the list, from 0, on a line of its own.
     Numbers,
+}
+
+/// How the tests that a compaction keeps are written.
+#[derive(Clone, Copy, Debug, PartialEq, Eq)]
+pub struct KeptLayout {
+    /// Their order. With [`Model::Transition`] it is always the order of the list.
+    pub order: TestOrder,
+    /// What is written of each.
+    pub form: KeptForm,
 }
 
 /// How many tests a compaction keeps of how many.
@@ -63,15 +72,19 @@ pub fn compact_text_in<R: Threads + Wait, W: Out>(
     ensures workers { OnOk result ((0 < workers) × (workers ≤ 64)) }
 {
     let split = Split::Whole;
-    let form = KeptForm::Rows;
-    match compact_text_with(rt, alloc, model, bench, tests, split, workers, form, out) {
+    let layout = KeptLayout {
+        order: TestOrder::AsListed,
+        form: KeptForm::Rows,
+    };
+    match compact_text_with(rt, alloc, model, bench, tests, split, workers, layout, out) {
         Ok(_count) => Ok(()),
         Err(fault) => Err(fault),
     }
 }
 
 /// Reads a circuit and tests for it, and writes the tests that [`compact_text_in`] writes, or their
-/// numbers in the list, however the runs are split. Returns how many are kept.
+/// numbers in the list, in an order ([`compaction::compact_in_order`]) and however the runs are
+/// split. Returns how many are kept.
 ///
 /// It is refused as [`crate::simulate_text_watched`] is with an open gate. Nothing is written
 /// before all is known.
@@ -83,11 +96,11 @@ pub fn compact_text_with<R: Threads + Wait, W: Out>(
     tests: &[u8],
     split: Split,
     workers: u32,
-    form: KeptForm,
+    layout: KeptLayout,
     out: &mut W,
 ) -> Result<KeptCount, SimFault>
     requires { HasSomePart split }
-    ensures written { GivesOneOf (IsKeptText model bench.now tests.now form) result
+    ensures written { GivesOneOf (IsKeptText model bench.now tests.now layout) result
         (W.seen out.old) (W.seen out.new) }
     ensures refused { IfErr result (IsWatchedFault model bench.now tests.now split workers ⊤
         no_stop) }
@@ -95,7 +108,7 @@ pub fn compact_text_with<R: Threads + Wait, W: Out>(
     ensures within { OnOk result (IsWithin model bench.now tests.now split) }
 {
     let (mut job, parts) = split_job_of(rt, alloc, model, bench, tests, split, workers)?;
-    write_compacted(rt, alloc, &mut job, parts, workers, form, out)
+    write_compacted(rt, alloc, &mut job, parts, workers, layout, out)
 }
 
 /// Writes some of a job's tests, or their numbers, that detect each fault that all detect, and
@@ -106,11 +119,11 @@ fn write_compacted<R: Threads + Wait, W: Out>(
     job: &mut Job,
     parts: u32,
     workers: u32,
-    form: KeptForm,
+    layout: KeptLayout,
     out: &mut W,
 ) -> Result<KeptCount, SimFault>
     requires parts { 0 < parts }
-    ensures written { GivesOneOf (IsKeptTextOfJob job.old form) result (W.seen out.old)
+    ensures written { GivesOneOf (IsKeptTextOfJob job.old layout) result (W.seen out.old)
         (W.seen out.new) }
     ensures refused { IfErr result (IsJobTextFault workers
         (IsPartsFault job.old parts workers ⊤ no_stop)) }
@@ -118,12 +131,12 @@ fn write_compacted<R: Threads + Wait, W: Out>(
     ensures within { OnOk result (ArePartsWithin job.old parts) }
 {
     let all = job.tests().count();
-    let kept = compact_in_parts(rt, alloc, job, parts, workers)?;
+    let kept = compact_in_order(rt, alloc, job, layout.order, parts, workers)?;
     let count = KeptCount {
         kept: kept.tests.count(),
         all,
     };
-    put_kept(alloc, &kept, form, out)?;
+    put_kept(alloc, &kept, layout.form, out)?;
     Ok(count)
 }
 

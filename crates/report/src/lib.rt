@@ -25,7 +25,8 @@ mod watched;
 mod whole;
 
 pub use byte_output::{Formatted, Out, OutFailed, Plain};
-pub use compacted::{KeptCount, KeptForm, compact_text_in, compact_text_with};
+pub use compacted::{KeptCount, KeptForm, KeptLayout, compact_text_in, compact_text_with};
+pub use compaction::TestOrder;
 pub use contents::{Contents, Lines};
 pub use counts::{RunCounts, count_run};
 pub use curve::{CurvePoint, curve_of, curve_text_in, curve_text_watched, write_curve};

@@ -1,6 +1,5 @@
-use Rattle.report.specs.declared.compacted.KeptForm.TheVariants.{Rows}
 use Rattle.report.specs.Compacted.{IsCompactionOf, IsKeptText}
-use Rattle.report.proofs.CompactedTexts.{rows_of_kept, text_alone}
+use Rattle.report.proofs.CompactedTexts.{rows_as_listed, rows_of_kept, text_alone}
 use Rattle.report.proofs.WatchedRuns.{open_fault}
 use Rattle.report.proofs.compacted.compact_text_in.Goals as goal
 
@@ -14,7 +13,7 @@ returns-in-Ok-clause-written g c =
 
 pub returns-in-Err-clause-written : goal.returns-in-Err-clause-written
 returns-in-Err-clause-written g c =
-    text_alone (IsKeptText c.args.model c.args.bench.now c.args.tests.now Rows)
+    text_alone (IsKeptText c.args.model c.args.bench.now c.args.tests.now rows_as_listed)
     (IsCompactionOf c.args.model c.args.bench.now c.args.tests.now) c.in-Err.fault _ _
     (rows_of_kept c.args.model c.args.bench.now c.args.tests.now) c.in-Err.ensures.written
 

@@ -17,10 +17,10 @@ returns-in_err-job-clause-refused g c =
 pub returns-clause-written : goal.returns-clause-written
 returns-clause-written g c =
     let job = c.in_ok-job.job in
-    given_as (IsKeptTextOfJob job c.args.form)
-    (IsKeptText c.args.model c.args.bench.now c.args.tests.now c.args.form)
+    given_as (IsKeptTextOfJob job c.args.layout)
+    (IsKeptText c.args.model c.args.bench.now c.args.tests.now c.args.layout)
     c.write_compacted.result _ _ (kept_of_texts c.args.model c.args.bench.now c.args.tests.now
-    c.args.form job c.in_ok-job.ensures.job) c.write_compacted.ensures.written
+    c.args.layout job c.in_ok-job.ensures.job) c.write_compacted.ensures.written
 
 pub returns-clause-refused : goal.returns-clause-refused
 returns-clause-refused g c =

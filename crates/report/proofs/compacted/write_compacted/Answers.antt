@@ -15,12 +15,12 @@ returns-in_err-put_kept-clause-written g c =
     let kept = c.in_ok-kept.kept.tests.tests in
     let numbers = c.in_ok-kept.kept.numbers.items in
     let all = c.count-all.ensures ∙ ap (λ t. length t.tests) c.tests.ensures.part in
-    rw (p.1, p.2) (given_text (λ bytes. bytes ≡ kept_text c.args.form kept numbers)
-    (IsKeptTextOfJob job c.args.form) (the_count c.count.result c.count-all.result) _ _ _
+    rw (p.1, p.2) (given_text (λ bytes. bytes ≡ kept_text c.args.layout.form kept numbers)
+    (IsKeptTextOfJob job c.args.layout) (the_count c.count.result c.count-all.result) _ _ _
     (λ text is. (
       kept,
       numbers,
-      c.in_ok-kept.ensures.compacted,
+      c.in_ok-kept.ensures.ordered,
       counted job.tests.tests kept c.count.result c.count-all.result c.count.ensures all,
       is,
     )) c.in_err-put_kept.ensures.written)
@@ -43,7 +43,7 @@ returns-clause-written g c =
       (
         kept,
         c.in_ok-kept.kept.numbers.items,
-        c.in_ok-kept.ensures.compacted,
+        c.in_ok-kept.ensures.ordered,
         counted job.tests.tests kept c.count.result c.count-all.result c.count.ensures all,
         w.1,
       ),
