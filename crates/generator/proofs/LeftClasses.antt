@@ -1,13 +1,13 @@
 -- The classes that no test of a round detects.
 use Rattle.std.proofs.Common.{◌≡◌, ◌<◌, ◌≤◌, ℕ, zero, suc, Bool, List, [], ◌∷◌, Option, Some, None}
 use Rattle.std.proofs.Common.{All, length, filter, map, is_none, zip, get_or, refl, sym, subst}
-use Rattle.std.proofs.Common.{arith}
+use Rattle.std.proofs.Common.{ap, arith}
 use Rattle.std.specs.Prelude.{slice_get}
 use Rattle.std.proofs.lemmas.List.{length-map}
 use Rattle.std.proofs.lemmas.List.Sums.{count_by-le-length, length-filter}
 use Rattle.std.proofs.lemmas.Option.{get_or_from_slice_get, slice_get-get_or, slice_get_within}
 use Rattle.std.proofs.lemmas.Slice.Zip.{length-zip}
-use Rattle.generator.specs.Generated.{AreLeft}
+use Rattle.generator.specs.Keeping.{AreLeft, HasFirst}
 
 -- as the program gathers them
 abbrev pub gathered : List ℕ → List (Option ℕ) → List ℕ
@@ -40,12 +40,22 @@ few_left xs fs =
     let short = length-zip xs fs in
     omega (arith, mapped, kept, few, short)
 
+same_left : (xs : List ℕ) (fs : List (Option ℕ)) → length fs ≡ length xs
+    → ((t : ℕ) → HasFirst fs t → ⊥) → gathered xs fs ≡ xs
+same_left [] fs e none = refl
+same_left (x ∷ xs) [] e none = absurd (omega (arith, e))
+same_left (x ∷ xs) (Some t ∷ fs) e none = absurd (none t (0, refl))
+same_left (x ∷ xs) (None ∷ fs) e none =
+    ap (λ (l : List ℕ). x ∷ l)
+    (same_left xs fs (omega (arith, e)) (λ t h. none t (suc h.0, h.1)))
+
 pub left_are : (xs : List ℕ) (fs : List (Option ℕ)) (left : List ℕ) → left ≡ gathered xs fs
     → AreLeft xs fs left
 left_are xs fs left is = subst (AreLeft xs fs) (sym is) (record {
   each = each_left xs fs;
   all = all_left xs fs;
   few = few_left xs fs;
+  same = same_left xs fs;
 })
 
 -- they are among those that were asked

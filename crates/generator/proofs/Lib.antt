@@ -1,3 +1,9 @@
+mod RandomWords
+mod KeptTests
+mod Detected
 mod LeftClasses
+mod Searches
+mod SortedTests
 mod Pieces
+mod Refusals
 mod Texts

@@ -1,12 +1,14 @@
 -- What a generator gives, and when it is refused.
-use Rattle.std.specs.Prelude.{◌≡◌, ◌⊎◌, ⊤, ℕ, ◌*◌, ◌<◌, ◌≤◌, Bool, List, Option, None, Some}
-use Rattle.std.specs.Prelude.{length, slice_get}
+use Rattle.std.specs.Prelude.{◌≡◌, ◌⊎◌, ⊤, ℕ, ◌*◌, ◌<◌, ◌≤◌, Bool, List, Contains, length}
 use Rattle.bench_net.specs.declared.BenchFault.TheVariants as bench_fault
 use Rattle.bench_net.specs.Refusal.{IsAccepted, IsRefused}
+use Rattle.bench_net.specs.Scan.{sources}
 use Rattle.bench_net.specs.Statement.{Statement}
 use Rattle.fault_model.specs.declared.Model.{Model}
+use Rattle.fault_model.specs.Detection.{DetectsAt}
+use Rattle.fault_model.specs.Fault.{Fault, faults}
 use Rattle.patterns.specs.Making.{test_text}
-use Rattle.patterns.specs.Tests.{blocks, max_pieces}
+use Rattle.patterns.specs.Tests.{TestList, blocks, max_pieces}
 use Rattle.patterns.specs.declared.TestFault.TheVariants as test_fault
 use Rattle.block_sim.specs.declared.job.JobFault.TheVariants as job_fault
 use Rattle.block_sim.specs.Parts.{Parts}
@@ -16,6 +18,7 @@ use Rattle.workers.specs.declared.RunFault.TheVariants.{NoWorkers, TooManyWorker
 use Rattle.job_loading.specs.declared.fault.SimFault.{SimFault}
 use Rattle.job_loading.specs.declared.fault.SimFault.TheVariants as fault
 use Rattle.job_loading.specs.Jobs.{IsJobWithin}
+use Rattle.generator.specs.RandomTests.{IsRound}
 
 -- the text is that of at most so many tests
 abbrev pub HasFewRows : ℕ → List ℕ → Type 0
@@ -28,6 +31,33 @@ abbrev pub IsCompacted : Model → List ℕ → List ℕ → Type 0
 IsCompacted m bench text = (c : List Statement) × (found kept : List (List Bool))
     × IsAccepted bench c × IsCompaction m c found kept × (text ≡ test_text kept)
 
+-- some test of the list detects some fault of the model
+abbrev pub DetectsSome : Model → List Statement → List (List Bool) → Type 0
+DetectsSome m c tests = (f : Fault) × (t : ℕ) × Contains (faults m c) f × DetectsAt c tests f t
+
+-- one of the first two tests does
+abbrev pub DetectsEarly : Model → List Statement → List (List Bool) → Type 0
+DetectsEarly m c tests = (f : Fault) × (t : ℕ) × (t < 2) × Contains (faults m c) f
+    × DetectsAt c tests f t
+
+-- no test of this round of a seed detects a fault
+abbrev pub IsInVain : Model → List Statement → ℕ → ℕ → ℕ → Type 0
+IsInVain m c seed blocks k = (tests : TestList) × IsRound seed (length (sources c)) blocks k tests
+    × ¬ DetectsSome m c tests.tests
+
+-- A search finds nothing if there is no fault, or if none of its random tests detects one. These are
+-- the tests of the first rounds of its seed, all of the same size: at least 20 blocks.
+abbrev pub FindsNone : Model → List Statement → ℕ → Type 0
+FindsNone m c seed = ((f : Fault) → ¬ Contains (faults m c) f)
+    ⊎ ((blocks : ℕ) × (rounds : ℕ) × (20 ≤ rounds * blocks)
+    × ((k : ℕ) → k < rounds → IsInVain m c seed blocks k))
+
+-- The text is the one of tests of which one detects a fault, unless a search finds nothing for the
+-- circuit of the bench text.
+abbrev pub DetectsIfFound : Model → List ℕ → ℕ → List ℕ → Type 0
+DetectsIfFound m bench seed text = (c : List Statement) × (tests : List (List Bool))
+    × IsAccepted bench c × (text ≡ test_text tests) × (DetectsSome m c tests ⊎ FindsNone m c seed)
+
 -- the two texts have a job under the model, within the limit of pieces
 abbrev pub HasJob : Model → List ℕ → List ℕ → Type 0
 HasJob m bench text = (job : Parts) × IsJobWithin m bench text job
@@ -35,15 +65,6 @@ HasJob m bench text = (job : Parts) × IsJobWithin m bench text job
 -- so many classes on the blocks of so many tests are within the limit of pieces
 abbrev pub AreFewPieces : ℕ → ℕ → Type 0
 AreFewPieces classes tests = classes * blocks tests ≤ max_pieces
-
--- Classes are left of a list, which is given with the first test that detects each: those that no
--- test detects, and no more than the list has.
-pub record AreLeft (classes : List ℕ) (firsts : List (Option ℕ)) (left : List ℕ) : Type 0 where
-  pub each : (k class : ℕ) → slice_get left k ≡ Some class
-      → (i : ℕ) × (slice_get classes i ≡ Some class) × (slice_get firsts i ≡ Some None)
-  pub all : (i class : ℕ) → slice_get classes i ≡ Some class → slice_get firsts i ≡ Some None
-      → (k : ℕ) × (slice_get left k ≡ Some class)
-  pub few : length left ≤ length classes
 
 -- when a run of the generator is refused: for its number of workers, then for want of memory or of
 -- a thread

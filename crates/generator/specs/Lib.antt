@@ -1,1 +1,3 @@
+pub mod RandomTests
 pub mod Generated
+pub mod Keeping

@@ -17,7 +17,8 @@ mod search;
 ghost use Rattle.std.specs.Prelude.{◌<◌, ◌≤◌, IfErr, IfOk, OnOk, false};
 ghost use Rattle.report.specs.EndToEnd.{IsReportOf};
 ghost use Rattle.report.specs.declared.contents.Lines.TheVariants.{Omitted};
-ghost use Rattle.generator.specs.Generated.{HasFewRows, HasJob, IsCompacted, IsGeneratorFault};
+ghost use Rattle.generator.specs.Generated.{DetectsIfFound, HasFewRows, HasJob, IsCompacted};
+ghost use Rattle.generator.specs.Generated.{IsGeneratorFault};
 
 use crate::best::{best_tests, needed_of_best};
 use crate::search::search;
@@ -59,7 +60,9 @@ pub struct Generated {
 ///
 /// The coverage is the report of the returned tests by [`report::report_bytes`], from a run of its
 /// own over their file; tests that were tried and left out don't count. The tests are a compaction
-/// of the best that were found ([`compaction::compact`]), so each is needed.
+/// of the best that were found ([`compaction::compact`]), so each is needed. If at least two tests
+/// are requested, some returned test detects a fault, unless there is no fault or the random tests
+/// that were tried, at least 20 blocks of them, detect none.
 ///
 /// It fails first for the bench file, then for the number of workers.
 pub fn generate<R: Threads + Wait>(
@@ -76,6 +79,8 @@ pub fn generate<R: Threads + Wait>(
     ensures few { IfOk result (λ made. HasFewRows settings.most made.tests.items) }
     ensures compacted { IfOk result (λ made.
         IsCompacted settings.model bench.now made.tests.items) }
+    ensures some { IfOk result (λ made. 2 ≤ settings.most
+        → DetectsIfFound settings.model bench.now settings.seed made.tests.items) }
     ensures workers { OnOk result ((0 < settings.workers) × (settings.workers ≤ 64)) }
     ensures refused { IfErr result (IsGeneratorFault bench.now settings.workers) }
 {
@@ -102,6 +107,8 @@ fn test_rows<R: Threads + Wait>(
 ) -> Result<Vec<u8>, SimFault>
     ensures few { IfOk result (λ text. HasFewRows settings.most text.items) }
     ensures compacted { IfOk result (λ text. IsCompacted settings.model bench.now text.items) }
+    ensures some { IfOk result (λ text. 2 ≤ settings.most
+        → DetectsIfFound settings.model bench.now settings.seed text.items) }
     ensures job { IfOk result (λ text. HasJob settings.model bench.now text.items) }
     ensures refused { IfErr result (IsGeneratorFault bench.now settings.workers) }
 {

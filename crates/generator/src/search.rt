@@ -1,11 +1,14 @@
 //! Rounds of random tests, and the classes that remain.
 
-ghost use Rattle.std.specs.Prelude.{◌≡◌, ◌*◌, ◌<◌, ◌≤◌, All, IfErr, IfOk, OnOk, filter, is_none};
-ghost use Rattle.std.specs.Prelude.{length, map, zip};
+ghost use Rattle.std.specs.Prelude.{◌≡◌, ◌⊎◌, ◌*◌, ◌<◌, ◌≤◌, ℕ, All, IfErr, IfOk, OnOk, Some};
+ghost use Rattle.std.specs.Prelude.{filter, is_none, length, map, slice_get, zip};
 ghost use Rattle.bench_net.specs.Scan.{sources};
+ghost use Rattle.patterns.specs.Making.{IsMadeOf};
 ghost use Rattle.patterns.specs.Tests.{IsTestList, max_pieces, max_tests};
 ghost use Rattle.block_sim.specs.Parts.{piece_count};
-ghost use Rattle.generator.specs.Generated.{AreFewPieces, AreLeft, IsWorkFault};
+ghost use Rattle.generator.specs.Generated.{AreFewPieces, DetectsEarly, FindsNone, IsWorkFault};
+ghost use Rattle.generator.specs.Keeping.{AreLeft};
+ghost use Rattle.generator.specs.RandomTests.{after_words, next_words, numbers};
 
 use crate::Settings;
 use crate::keeping::keep_tests;
@@ -40,6 +43,8 @@ pub(crate) fn search<R: Threads + Wait>(
     ensures width { IfOk result (λ kept. kept.width ≡ length (sources job.old.circuit)) }
     ensures pieces { IfOk result (λ kept.
         AreFewPieces (length job.old.classes.representative) (length kept.tests)) }
+    ensures early { IfOk result (λ kept. DetectsEarly job.old.list.model job.old.circuit kept.tests
+        ⊎ FindsNone job.old.list.model job.old.circuit settings.seed) }
     ensures refused { IfErr result (IsWorkFault settings.workers) }
 {
     let mut rng = SmallRng::seed_from_u64(settings.seed);
@@ -50,9 +55,10 @@ pub(crate) fn search<R: Threads + Wait>(
     let mut quiet = 0;
     for _round in 0..u32::MAX {
         if left.is_empty() || quiet >= QUIET_BLOCKS || kept.count() >= room {
-            break;
+            return Ok(kept);
         }
         take_random_tests(alloc, job, blocks, &mut rng)?;
+        let _tests = job.tests();
         let firsts = run_classes(rt, alloc, job, &left, settings.workers, &OpenGate)?;
         keep_tests(alloc, job, &left, &firsts, room, &mut kept)?;
         let still = undetected(alloc, &left, &firsts)?;
@@ -70,7 +76,9 @@ pub(crate) fn search<R: Threads + Wait>(
 fn room_of(job: &Job) -> u32
     ensures limit { result ≤ max_tests }
     ensures pieces { AreFewPieces (length job.now.classes.representative) result }
+    ensures some { 64 ≤ result }
 {
+    let _tests = job.tests();
     let blocks = MAX_PIECES / job.classes().count().max(1);
     BLOCK_SIZE * blocks.min(MAX_TESTS / BLOCK_SIZE)
 }
@@ -80,6 +88,8 @@ fn all_classes(alloc: Global, job: &Job) -> Result<Vec<u32>, AllocError>
     ensures few { IfOk result (λ all. length all.items ≤ length job.now.classes.representative) }
     ensures within { IfOk result (λ all.
         All (λ class. class < length job.now.classes.representative) all.items) }
+    ensures each { IfOk result (λ all. (class : ℕ) → class < length job.now.classes.representative
+        → slice_get all.items class ≡ Some class) }
 {
     let count = job.classes().count();
     let mut classes = Vec::with_capacity(alloc, count as usize)?;
@@ -102,6 +112,12 @@ fn take_random_tests(
     ensures circuit { job.new.circuit ≡ job.old.circuit }
     ensures list { job.new.list ≡ job.old.list }
     ensures few { OnOk result (piece_count job.new ≤ max_pieces) }
+    ensures tests { OnOk result (length job.new.tests.tests ≡ 64 * blocks) }
+    ensures made { OnOk result (IsMadeOf (length (sources job.old.circuit)) (64 * blocks)
+        (next_words (length (sources job.old.circuit) * blocks) (numbers rng.old))
+        job.new.tests) }
+    ensures rest { OnOk result (numbers rng.new
+        ≡ after_words (length (sources job.old.circuit) * blocks) (numbers rng.old)) }
     ensures refused { IfErr result (λ fault. fault ≡ JobFault.Memory) }
 {
     let tests = random_tests(alloc, job.circuit().sources(), blocks, rng)?;
@@ -119,17 +135,28 @@ fn random_tests(
     ensures list { IfOk result (λ tests. IsTestList tests) }
     ensures width { IfOk result (λ tests. tests.width ≡ width) }
     ensures count { IfOk result (λ tests. length tests.tests ≡ 64 * blocks) }
+    ensures made { IfOk result (λ tests. IsMadeOf width (64 * blocks)
+        (next_words (width * blocks) (numbers rng.old)) tests) }
+    ensures rest { OnOk result (numbers rng.new ≡ after_words (width * blocks) (numbers rng.old)) }
 {
-    let count = width as usize * blocks as usize;
-    let mut words = Vec::with_capacity(alloc, count)?;
-    for _word in 0..count {
-        words.push(rng.next_u64())?;
-    }
+    let words = random_words(alloc, width as usize * blocks as usize, rng)?;
     // Whole blocks have no idle bits, so it can only fail for memory.
     let Ok(tests) = Tests::from_words(alloc, width, BLOCK_SIZE * blocks, &words) else {
         return Err(AllocError);
     };
     Ok(tests)
+}
+
+/// Returns this number of random words.
+fn random_words(alloc: Global, count: usize, rng: &mut SmallRng) -> Result<Vec<u64>, AllocError>
+    ensures words { IfOk result (λ words. words.items ≡ next_words count (numbers rng.old)) }
+    ensures rest { OnOk result (numbers rng.new ≡ after_words count (numbers rng.old)) }
+{
+    let mut words = Vec::with_capacity(alloc, count)?;
+    for _word in 0..count {
+        words.push(rng.next_u64())?;
+    }
+    Ok(words)
 }
 
 /// Returns the classes of a list that no test detects.
@@ -144,7 +171,7 @@ fn undetected(
     Ok(left)
 }
 
-/// The classes of a list that stand beside no first test.
+/// Returns the classes of a list that stand beside no first test.
 fn without_first(
     alloc: Global,
     classes: &[u32],

@@ -1,7 +1,8 @@
-use Rattle.std.proofs.Common.{◌≡◌, ◌≤◌, length, ap, sym, subst, ◌∙◌, arith}
+use Rattle.std.proofs.Common.{◌≡◌, ◌≤◌, ◌⊎◌, length, ap, sym, subst, ◌∙◌, arith}
 use Rattle.compaction.specs.Compaction.{IsCompaction}
-use Rattle.generator.specs.Generated.{AreFewPieces}
+use Rattle.generator.specs.Generated.{AreFewPieces, DetectsEarly, DetectsSome, FindsNone}
 use Rattle.generator.proofs.Pieces.{fewer_pieces}
+use Rattle.generator.proofs.Searches.{compacted_some}
 use Rattle.generator.proofs.Texts.{text_has_job}
 use Rattle.generator.proofs.test_rows.Goals as goal
 
@@ -41,6 +42,38 @@ returns-clause-compacted g c =
           (subst (λ x. IsCompaction was.list.model x best kept) circuit
           c.in_ok-needed.ensures.needed),
       c.in_ok-write_tests.ensures.text,
+    )
+
+pub returns-clause-some : goal.returns-clause-some
+returns-clause-some g c = λ big.
+    let job = c.in_ok-job.job in
+    let m = c.args.settings.model in
+    let searched = c.search.new.job in
+    let was = c.best_tests.new.job in
+    let found = c.in_ok-found.found.tests in
+    let best = c.in_ok-best.best.tests in
+    let kept = c.in_ok-needed.needed.tests in
+    let is = c.in_ok-job.ensures.job in
+    let of_best : DetectsEarly m job.circuit found → DetectsSome m job.circuit best =
+    subst (λ x. DetectsEarly m x found → DetectsSome m x best) c.search.ensures.circuit
+    (c.in_ok-best.ensures.some big) in
+    let circuit : was.circuit ≡ job.circuit =
+    c.best_tests.ensures.circuit ∙ c.search.ensures.circuit in
+    let model : was.list.model ≡ m =
+    ap (λ l. l.model) (c.best_tests.ensures.list ∙ c.search.ensures.list) ∙ is.3 in
+    let needed : IsCompaction m job.circuit best kept =
+    subst (λ x. IsCompaction x job.circuit best kept) model
+    (subst (λ x. IsCompaction was.list.model x best kept) circuit
+    c.in_ok-needed.ensures.needed) in
+    let seed = c.args.settings.seed in
+    let early : DetectsEarly m job.circuit found ⊎ FindsNone m job.circuit seed =
+    subst (λ x. DetectsEarly x job.circuit found ⊎ FindsNone x job.circuit seed) is.3
+    c.in_ok-found.ensures.early in (
+      job.circuit,
+      kept,
+      is.0,
+      c.in_ok-write_tests.ensures.text,
+      compacted_some m job.circuit seed found best kept of_best needed early,
     )
 
 pub returns-clause-job : goal.returns-clause-job

@@ -1,30 +1,171 @@
-use Rattle.std.proofs.Common.{◌<◌, ℕ, List, All, length, sym, ap, subst, ◌∙◌, arith}
+use Rattle.std.proofs.Common.{◌≡◌, ◌<◌, ◌≤◌, ◌+◌, ◌*◌, ◌∙◌, ◌⊎◌, inl, inr, ℕ, List, All, length, refl}
+use Rattle.std.proofs.Common.{sym, ap, subst, arith, rules}
+use Rattle.std.proofs.lemmas.Bool.Decides.{nat_tests}
+use Rattle.bench_net.specs.Scan.{sources}
+use Rattle.bench_net.specs.Statement.{Statement}
 use Rattle.fault_model.specs.Collapse.{Collapsed}
+use Rattle.fault_model.specs.Fault.{FaultList}
+use Rattle.patterns.specs.Making.{IsMadeOf}
+use Rattle.patterns.specs.Tests.{TestList}
+use Rattle.workers.specs.Verdict.{AreClassFirsts}
+use Rattle.generator.specs.Generated.{DetectsEarly, IsSearchFault}
+use Rattle.generator.specs.Keeping.{AreLeft, HasFirst}
+use Rattle.generator.specs.RandomTests.{IsRound, after_words, next_words, numbers}
+use Rattle.generator.specs.RandomTests.{seeded}
 use Rattle.generator.proofs.LeftClasses.{left_within}
-use Rattle.generator.proofs.search.search.Goals.{then-len, else-len}
+use Rattle.generator.proofs.RandomWords.{round_more, seeded_is}
+use Rattle.generator.proofs.Refusals.{round_refused}
+use Rattle.generator.proofs.Searches.{search_over, searching_along, searching_more, searching_none}
+use Rattle.generator.proofs.search.search.Goals.{then-len, else-len, then-is_empty-via-then-is_empty, then-is_empty-via-else-is_empty+then-quiet-ge-QUIET_BLOCKS, then-is_empty-via-else-is_empty+else-quiet-ge-QUIET_BLOCKS+then-count-room}
 use Rattle.generator.proofs.search.search.Goals as goal
+
+pub loop-round-init : goal.loop-round-init
+loop-round-init g c =
+    let none = ap (λ (l : TestList). length l.tests) c.new-kept.ensures.tests in
+    let job = c.args.job.now in
+    record {
+      circuit = refl;
+      list = refl;
+      classes = refl;
+      few = c.in_ok-left.ensures.few;
+      within = c.in_ok-left.ensures.within;
+      width = refl;
+      kept = omega (arith, none);
+      quiet = omega arith;
+      rest = ap numbers (c.seed_from_u64-rng.ensures ∙ sym (seeded_is c.args.settings.seed));
+      searching = searching_none job.list.model job.circuit c.args.settings.seed
+          c.min-blocks.result (length job.classes.representative) c.in_ok-left.left.items
+          c.new-kept.result.tests none c.in_ok-left.ensures.each;
+    }
+
+pub returns-then-is_empty-clause-early : goal.returns-then-is_empty-clause-early
+returns-then-is_empty-clause-early g c =
+    let was = c.loop-round.invariant in
+    let left = c.loop-round.left in
+    let kept = c.loop-round.kept.tests in
+    let quiet = c.loop-round.quiet in
+    let room = c.room_of-room.result in
+    let over : (length left.items ≡ 0) ⊎ ((20 ≤ quiet) ⊎ (room ≤ length kept)) =
+    elim c.then-is_empty.branch [
+      | then-is_empty-via-then-is_empty w ↦
+          inl (grind (arith, nat_tests, w.if-is_empty.ensures, left.ok.0))
+      | then-is_empty-via-else-is_empty+then-quiet-ge-QUIET_BLOCKS w ↦
+          inr (inl (omega (arith, w.if-quiet-ge-QUIET_BLOCKS.true)))
+      | then-is_empty-via-else-is_empty+else-quiet-ge-QUIET_BLOCKS+then-count-room w ↦
+          inr (inr (omega (arith, w.if-count-room.true, w.count.ensures)))
+    ] in
+    search_over c.args.job.now left.items kept room c.args.settings.seed c.min-blocks.result
+    c.loop-round._round quiet c.circuit.ensures.together
+    (omega (arith, c.room_of-room.ensures.some)) over was.searching
+
+pub returns-in_err-firsts-clause-refused : goal.returns-in_err-firsts-clause-refused
+returns-in_err-firsts-clause-refused g c =
+    let was = c.loop-round.invariant in
+    let job = c.take_random_tests.new.job in
+    let number = ap (λ (x : Collapsed). length x.representative) c.take_random_tests.ensures.classes in
+    let same = ap (λ (l : List ℕ). length l) c.deref.ensures.value in
+    let less : length c.deref.result.now ≤ length job.classes.representative =
+    omega (arith, number, same, was.few) in
+    let known : IsSearchFault c.args.settings.workers c.in_err-firsts.field-0.0 =
+    round_refused job c.deref.result.now c.args.settings.workers c.in_err-firsts.field-0.0 less
+    c.in_ok-take_random_tests.ensures.few c.in_err-firsts.ensures.refused in
+    let result = c.from_residual-in_err-firsts.ensures in
+    search rules
 
 pub loop-round-preserved : goal.loop-round-preserved
 loop-round-preserved g c =
     let was = c.loop-round.invariant in
+    let start = c.args.job.now in
     let job = c.take_random_tests.new.job in
-    let classes = c.take_random_tests.ensures.classes in
+    let seed = c.args.settings.seed in
+    let blocks = c.min-blocks.result in
+    let round = c.loop-round._round in
+    let left = c.loop-round.left.items in
+    let old = c.loop-round.kept.tests in
+    let new = c.keep_tests.new.kept.tests in
+    let firsts = c.in_ok-firsts.firsts.items in
+    let still = c.in_ok-still.still.items in
+    let room = c.room_of-room.result in
+    let circuit : job.circuit ≡ start.circuit = c.take_random_tests.ensures.circuit ∙ was.circuit in
+    let list : job.list ≡ start.list = c.take_random_tests.ensures.list ∙ was.list in
+    let classes : job.classes ≡ start.classes = c.take_random_tests.ensures.classes ∙ was.classes in
+    let model : job.list.model ≡ start.list.model = ap (λ (x : FaultList). x.model) list in
+    let number : length job.classes.representative ≡ length start.classes.representative =
+    ap (λ (x : Collapsed). length x.representative) classes in
+    let before : length job.classes.representative
+    ≡ length c.loop-round.job.classes.representative =
+    ap (λ (x : Collapsed). length x.representative) c.take_random_tests.ensures.classes in
     let n = length job.classes.representative in
-    let before = c.deref-in-loop-round-3.result.now in
-    let firsts = c.deref-in-loop-round-4.result.now in
-    let number = ap (λ (x : Collapsed). length x.representative) classes in
-    let less = c.in_ok-still.ensures.few in
-    let same = ap (λ (l : List ℕ). length l) c.deref-in-loop-round-3.ensures.value in
-    let own : All (λ x. x < n) c.loop-round.left.items =
-    subst (λ m. All (λ (x : ℕ). x < m) c.loop-round.left.items) (sym number) was.within in
-    let shared : All (λ x. x < n) before =
-    subst (λ (xs : List ℕ). All (λ x. x < n) xs) (sym c.deref-in-loop-round-3.ensures.value) own in
+    let within : All (λ x. x < n) left =
+    subst (λ (m : ℕ). All (λ (x : ℕ). x < m) left) (sym before) was.within in
+    let are : AreClassFirsts job.list.model job.circuit job.tests.tests left firsts =
+    subst (λ (l : List ℕ). AreClassFirsts job.list.model job.circuit job.tests.tests l firsts)
+    c.deref.ensures.value c.in_ok-firsts.ensures.firsts in
+    let left_is : AreLeft left firsts still =
+    subst (λ l. AreLeft l firsts still) c.deref-in-loop-round-3.ensures.value
+    (subst (λ fs. AreLeft c.deref-in-loop-round-3.result.now fs still)
+    c.deref-in-loop-round-4.ensures.value c.in_ok-still.ensures) in
+    let none : ((t : ℕ) → HasFirst firsts t → ⊥) → new ≡ old =
+    subst (λ fs. ((t : ℕ) → HasFirst fs t → ⊥) → new ≡ old) c.deref-in-loop-round-2.ensures.value
+    c.in_ok-keep_tests.ensures.none in
+    let early : length old ≡ 0 → 2 ≤ room → (t : ℕ) → HasFirst firsts t
+    → DetectsEarly job.list.model job.circuit new =
+    subst
+    (λ fs.
+    length old ≡ 0 → 2 ≤ room → (t : ℕ) → HasFirst fs t
+    → DetectsEarly job.list.model job.circuit new)
+    c.deref-in-loop-round-2.ensures.value c.in_ok-keep_tests.ensures.early in
+    let words = length (sources start.circuit) * blocks in
+    let made : IsMadeOf (length (sources start.circuit)) (64 * blocks)
+    (next_words words (numbers c.loop-round.rng)) job.tests =
+    subst
+    (λ (x : List Statement).
+    IsMadeOf (length (sources x)) (64 * blocks)
+    (next_words (length (sources x) * blocks) (numbers c.loop-round.rng)) job.tests)
+    was.circuit c.in_ok-take_random_tests.ensures.made in
+    let after : numbers c.take_random_tests.new.rng
+    ≡ after_words words (numbers c.loop-round.rng) =
+    subst
+    (λ (x : List Statement).
+    numbers c.take_random_tests.new.rng
+    ≡ after_words (length (sources x) * blocks) (numbers c.loop-round.rng))
+    was.circuit c.in_ok-take_random_tests.ensures.rest in
+    let of_start : IsRound seed (length (sources start.circuit)) blocks round job.tests =
     record {
-      circuit = c.take_random_tests.ensures.circuit ∙ was.circuit;
-      list = c.take_random_tests.ensures.list ∙ was.list;
-      classes = classes ∙ was.classes;
-      few = omega (arith, number, less, same, was.few);
-      within = left_within n before firsts c.in_ok-still.still.items c.in_ok-still.ensures shared;
+      list = c.tests-tests.ensures.together.tests;
+      made = subst
+          (λ s. IsMadeOf (length (sources start.circuit)) (64 * blocks) (next_words words s) job.tests)
+          was.rest made;
+    } in
+    let is_round : IsRound seed (length (sources job.circuit)) blocks round job.tests =
+    subst (λ (x : List Statement). IsRound seed (length (sources x)) blocks round job.tests)
+    (sym circuit) of_start in
+    let counted : length still ≡ length left → c.if-len.quiet ≡ c.loop-round.quiet + blocks =
+    elim c.if-len.branch [
+      | then-len w ↦ λ e. absurd (omega (
+        arith,
+        e,
+        w.if-len.true,
+        c.len.ensures,
+        c.len-in-loop-round.ensures,
+        c.in_ok-still.still.ok.0,
+        c.loop-round.left.ok.0,
+      ))
+      | else-len w ↦ λ e. w.quiet-is
+    ] in
+    let next = searching_more job left firsts still old new room seed blocks round
+    c.loop-round.quiet c.if-len.quiet c.tests-tests.ensures.together are is_round
+    (omega (arith, c.room_of-room.ensures.some)) c.in_ok-keep_tests.ensures.stay none early left_is
+    counted
+    (searching_along start.list.model job.list.model start.circuit job.circuit seed blocks
+    (length start.classes.representative) n left old round c.loop-round.quiet (sym model)
+    (sym circuit) (sym number) was.searching) in
+    record {
+      circuit = circuit;
+      list = list;
+      classes = classes;
+      few = omega (arith, before, left_is.few, was.few);
+      within = left_within n left firsts still left_is within;
       width = c.keep_tests.ensures.width ∙ was.width;
       kept = c.keep_tests.ensures.few;
       quiet = elim c.if-len.branch [
@@ -36,4 +177,9 @@ loop-round-preserved g c =
           c.min-blocks.ensures,
         )
       ];
+      rest = round_more words round (numbers (seeded seed)) (numbers c.loop-round.rng)
+          (numbers c.take_random_tests.new.rng) was.rest after;
+      searching = searching_along job.list.model start.list.model job.circuit start.circuit seed
+          blocks n (length start.classes.representative) still new (round + 1) c.if-len.quiet model
+          circuit number next;
     }

@@ -1,8 +1,12 @@
-use Rattle.std.proofs.Common.{◌≡◌, ◌<◌, ◌≤◌, All, length}
+use Rattle.std.proofs.Common.{◌≡◌, ◌*◌, ◌<◌, ◌≤◌, All, length}
+use Rattle.bench_net.specs.Scan.{sources}
+use Rattle.generator.specs.RandomTests.{after_rounds, numbers, seeded}
+use Rattle.generator.proofs.Searches.{IsSearching}
 use Rattle.generator.proofs.search.search.Given as goal
 
--- the job keeps its circuit and its classes, the classes that are left are among them, and the
--- tests that are kept have its width and are no more than there is room for
+-- The job keeps its circuit and its classes, the classes that are left are among them, and the kept
+-- tests have its width and are no more than there is room for. The numbers are the ones after the
+-- rounds so far, and what was found so far is known.
 abbrev pub invariant-loop-round : goal.invariant-loop-round
 invariant-loop-round g l = record {
   circuit : l.job.circuit ≡ l.fn.job.circuit;
@@ -13,4 +17,8 @@ invariant-loop-round g l = record {
   width : l.kept.width ≡ l.initial.kept.width;
   kept : length l.kept.tests ≤ l.room;
   quiet : l.quiet < 64;
+  rest : numbers l.rng ≡ after_rounds (length (sources l.fn.job.circuit) * l.blocks) l._round
+      (numbers (seeded l.settings.seed));
+  searching : IsSearching l.fn.job.list.model l.fn.job.circuit l.settings.seed l.blocks
+      (length l.fn.job.classes.representative) l.left.items l.kept.tests l._round l.quiet;
 }
