@@ -47,6 +47,8 @@ pub(crate) enum Choice {
     Classes,
     Pairs,
     Numbers,
+    /// The order of the tests that a compaction keeps.
+    TestOrder,
     /// The format of a run's list.
     RunFormat,
     Progress,
@@ -206,6 +208,25 @@ fn numbers_flag<'a>(alloc: Global) -> Arg<'a> {
         .help("Write the numbers of the kept tests instead of the tests")
 }
 
+/// The name of the option `--order ORDER` of `compact`. The name `order` is a file of `schedule`.
+pub(crate) const TEST_ORDER: &str = "test order";
+
+/// The value of `--order` for tests that detect the most first.
+pub(crate) const STEEPEST: &str = "steepest";
+
+/// The orders of the tests that a compaction keeps.
+static TEST_ORDERS: [&str; 2] = ["list", STEEPEST];
+
+/// Returns the option `--order ORDER` of `compact`.
+fn test_order_option<'a>(alloc: Global) -> Arg<'a> {
+    Arg::new(alloc, TEST_ORDER)
+        .long("order")
+        .value_name("ORDER")
+        .value_parser(TEST_ORDERS.as_slice())
+        .default_value("list")
+        .help("The order of the kept tests")
+}
+
 /// The option `--bench FILE` of `merge`.
 fn merge_bench_option<'a>(alloc: Global) -> Arg<'a> {
     let help = "The circuit of the run, for --classes and --format";
@@ -330,6 +351,7 @@ pub(crate) fn option<'a>(
         Choice::Classes => classes_flag(alloc),
         Choice::Pairs => pairs_flag(alloc),
         Choice::Numbers => numbers_flag(alloc),
+        Choice::TestOrder => test_order_option(alloc),
         Choice::RunFormat => run_format_option(alloc)?,
         Choice::Format => format_option(alloc),
         Choice::MergeClasses => classes_flag(alloc).requires_arg("bench")?,

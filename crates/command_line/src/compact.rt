@@ -1,5 +1,6 @@
 //! The command `compact`.
 
+use crate::choices::{STEEPEST, TEST_ORDER};
 use crate::command::{read_model, read_option};
 use crate::crew::read_crew;
 use crate::pieces::run_fault;
@@ -7,7 +8,8 @@ use crate::split::read_split;
 use crate::status::CommandError;
 use clap::ArgMatches;
 use command_basics::Source;
-use report::{Formatted, KeptForm, Out, compact_text_with};
+use fault_model::Model;
+use report::{Formatted, KeptForm, KeptLayout, Out, TestOrder, compact_text_with};
 use std::alloc::Global;
 use std::fmt::Write;
 use std::sync::Wait;
@@ -25,16 +27,34 @@ pub(crate) fn do_compact<'a, R: Threads + Wait, S: Source, W: Out, E: Out>(
 ) -> Result<(), CommandError<'a>> {
     let model = read_model(matches)?;
     let split = read_split(matches)?;
-    let form = read_kept_form(matches);
+    let layout = KeptLayout {
+        order: read_test_order(matches, model)?,
+        form: read_kept_form(matches),
+    };
     let bench = read_option(alloc, matches, "bench", files)?;
     let tests = read_option(alloc, matches, "tests", files)?;
     let workers = read_crew(matches, &bench, &tests)?;
-    match compact_text_with(rt, alloc, model, &bench, &tests, split, workers, form, out) {
+    match compact_text_with(rt, alloc, model, &bench, &tests, split, workers, layout, out) {
         Ok(count) => {
             let _ = writeln!(Formatted(err), "{} of {} tests kept", count.kept, count.all);
             Ok(())
         }
         Err(fault) => Err(run_fault(alloc, fault, model, &bench, &tests)),
+    }
+}
+
+/// Why tests stay in the order of the list.
+const ONE_ORDER: &str = "with --model transition a test makes a pair with the one before it";
+
+/// Returns the order of the kept tests, if the model has it.
+fn read_test_order<'a>(
+    matches: &ArgMatches<'a>,
+    model: Model,
+) -> Result<TestOrder, CommandError<'a>> {
+    match (matches.get_str(TEST_ORDER), model) {
+        (Some(STEEPEST), Model::Transition) => Err(CommandError::Unfit("--order", ONE_ORDER)),
+        (Some(STEEPEST), Model::StuckAt | Model::TransitionPairs) => Ok(TestOrder::Steepest),
+        _ => Ok(TestOrder::AsListed),
     }
 }
 

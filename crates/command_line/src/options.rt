@@ -131,13 +131,14 @@ static CURVE_CHOICES: [Choice; 6] = [
 ];
 
 /// The options of `compact`.
-static COMPACT_CHOICES: [Choice; 6] = [
+static COMPACT_CHOICES: [Choice; 7] = [
     Choice::Bench,
     Choice::Tests,
     Choice::Model,
     Choice::Workers,
     Choice::Parts,
     Choice::Numbers,
+    Choice::TestOrder,
 ];
 
 /// The options of `responses`.
@@ -322,6 +323,11 @@ tests:
     1
     2
     3
+
+With --order steepest the test that detects the most fault classes comes first,
+then the test that detects the most of the other classes, and so on. Under
+transition-pairs the pairs are in this order; transition has only the order of
+the list.
 
 Each FILE is read whole. One FILE can be -, the standard input.";
 
