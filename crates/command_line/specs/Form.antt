@@ -3,7 +3,7 @@ use Rattle.std.specs.Prelude.{◌<◌}
 use Rattle.job_loading.specs.Splits.{HasSomePart}
 use Rattle.command_line.specs.declared.form.Form.{Form}
 use Rattle.command_line.specs.declared.form.Form.TheVariants.{Report, Reasons, Part, Table}
-use Rattle.command_line.specs.declared.form.Form.TheVariants.{ReasonTable, Curve}
+use Rattle.command_line.specs.declared.form.Form.TheVariants.{ReasonTable, Curve, CurveTable}
 
 -- a number of parts isn't 0, and a single part is among its parts
 abbrev pub HasParts : Form → Type 0
@@ -13,3 +13,4 @@ HasParts (Part part parts) = part < parts
 HasParts (Table lines format split) = HasSomePart split
 HasParts (ReasonTable format split) = HasSomePart split
 HasParts (Curve split) = HasSomePart split
+HasParts (CurveTable format split) = HasSomePart split

@@ -56,6 +56,8 @@ pub(crate) enum Choice {
     RunProgress,
     /// The format of the list of faults.
     Format,
+    /// The format of a curve.
+    CurveFormat,
     /// The coverage of the classes of merged part texts, and the circuit that it wants.
     MergeClasses,
     MergeBench,
@@ -255,7 +257,6 @@ fn run_format_option<'a>(alloc: Global) -> Result<Arg<'a>, AllocError> {
     format_option(alloc)
         .help(RUN_FORMAT_HELP)
         .conflicts_with("part")?
-        .conflicts_with("detections")?
         .conflicts_with("classes")
 }
 
@@ -354,6 +355,7 @@ pub(crate) fn option<'a>(
         Choice::TestOrder => test_order_option(alloc),
         Choice::RunFormat => run_format_option(alloc)?,
         Choice::Format => format_option(alloc),
+        Choice::CurveFormat => format_option(alloc).help("The format of the curve"),
         Choice::MergeClasses => classes_flag(alloc).requires_arg("bench")?,
         Choice::MergeBench => merge_bench_option(alloc),
         Choice::MergeFormat => merge_format_option(alloc)?,

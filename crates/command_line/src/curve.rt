@@ -1,6 +1,7 @@
 //! The command `curve`.
 
 use crate::form::{Form, write_form};
+use crate::format::read_format;
 use crate::split::read_split;
 use crate::status::CommandError;
 use clap::ArgMatches;
@@ -20,5 +21,9 @@ pub(crate) fn do_curve<'a, R: Threads + Wait, S: Source, W: Out, E: Out + Send>(
     err: &mut E,
 ) -> Result<(), CommandError<'a>> {
     let split = read_split(matches)?;
-    write_form(rt, alloc, matches, Form::Curve { split }, files, out, err)
+    let form = match read_format(matches)? {
+        Some(format) => Form::CurveTable { format, split },
+        None => Form::Curve { split },
+    };
+    write_form(rt, alloc, matches, form, files, out, err)
 }

@@ -1,6 +1,7 @@
 //! The options `--detections` and `--histogram` of the command `run`.
 
 use crate::command::{read_model, read_option, read_workers};
+use crate::format::read_format;
 use crate::pieces::run_fault;
 use crate::split::read_split;
 use crate::status::CommandError;
@@ -10,6 +11,26 @@ use report::{Out, Split, detections_text_in, detections_text_of_any_size, histog
 use std::alloc::Global;
 use std::sync::Wait;
 use std::thread::Threads;
+use tables::{Format, histogram_table_in};
+
+/// Why `--format` cannot be used with `--detections` alone.
+const NO_HISTOGRAM: &str = "give --histogram, too";
+
+/// Why `--list` cannot be used beside the table of a histogram.
+const BESIDE_TABLE: &str = "give --list or --format, not both";
+
+/// Returns the format of the table of a histogram, and none for the program's own text. Other
+/// detection counts have no table.
+fn read_histogram_format<'a>(matches: &ArgMatches<'a>) -> Result<Option<Format>, CommandError<'a>> {
+    let format = read_format(matches)?;
+    if format.is_some() && !matches.get_flag("histogram") {
+        return Err(CommandError::Unfit("--format", NO_HISTOGRAM));
+    }
+    if format.is_some() && matches.get_flag("list") {
+        return Err(CommandError::Unfit("--list", BESIDE_TABLE));
+    }
+    Ok(format)
+}
 
 /// `run --detections`: both files are read before either text is looked at. Nothing is kept of a
 /// piece of work, so with any number of parts their number has no limit.
@@ -24,18 +45,25 @@ pub(crate) fn do_detections<'a, R: Threads + Wait, S: Source, W: Out>(
     let model = read_model(matches)?;
     let workers = read_workers(matches)?;
     let list = matches.get_flag("list");
+    let format = read_histogram_format(matches)?;
     let bench = read_option(alloc, matches, "bench", files)?;
     let tests = read_option(alloc, matches, "tests", files)?;
-    let done = match read_split(matches)? {
-        split if matches.get_flag("histogram") => {
+    let split = read_split(matches)?;
+    let done = match (split, format) {
+        (split, Some(format)) => {
+            histogram_table_in(
+                rt, alloc, model, &bench, &tests, split, most, workers, format, out,
+            )
+        }
+        (split, None) if matches.get_flag("histogram") => {
             histogram_text_in(
                 rt, alloc, model, &bench, &tests, split, most, workers, list, out,
             )
         }
-        Split::Whole => {
+        (Split::Whole, None) => {
             detections_text_in(rt, alloc, model, &bench, &tests, most, workers, list, out)
         }
-        Split::Parts(_) | Split::Fitting => detections_text_of_any_size(
+        (Split::Parts(_) | Split::Fitting, None) => detections_text_of_any_size(
             rt, alloc, model, &bench, &tests, most, workers, list, out,
         ),
     };

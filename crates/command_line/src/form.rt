@@ -21,7 +21,7 @@ use report::{
 use std::alloc::Global;
 use std::sync::Wait;
 use std::thread::Threads;
-use tables::{Format, Summary, reasons_table_watched, run_table_watched};
+use tables::{Format, Summary, curve_table_watched, reasons_table_watched, run_table_watched};
 
 /// The output of a run.
 #[derive(Clone, Copy)]
@@ -54,6 +54,11 @@ pub(crate) enum Form {
     },
     /// The curve of a run.
     Curve {
+        split: Split,
+    },
+    /// The table of the curve of a run.
+    CurveTable {
+        format: Format,
         split: Split,
     },
 }
@@ -229,6 +234,11 @@ fn write_text<R: Threads + Wait, G: Watch + Sync, W: Out>(
         }
         Form::Curve { split } => {
             curve_text_watched(rt, alloc, model, bench, tests, split, workers, gate, out)
+        }
+        Form::CurveTable { format, split } => {
+            curve_table_watched(
+                rt, alloc, model, bench, tests, split, workers, format, gate, out,
+            )
         }
     }
 }

@@ -121,12 +121,13 @@ static RUN_CHOICES: [Choice; 16] = [
 ];
 
 /// The options of `curve`.
-static CURVE_CHOICES: [Choice; 6] = [
+static CURVE_CHOICES: [Choice; 7] = [
     Choice::Bench,
     Choice::Tests,
     Choice::Model,
     Choice::Workers,
     Choice::Parts,
+    Choice::CurveFormat,
     Choice::Progress,
 ];
 
@@ -286,6 +287,9 @@ Test 2 detects nothing new:
     1 2 33.33
     3 5 83.33
     5 of 6 (83.33%)
+
+With --format csv or json each row also has how many faults the test is the first
+to detect.
 
 Each FILE is read whole. One FILE can be -, the standard input.";
 

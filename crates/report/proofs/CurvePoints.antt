@@ -137,10 +137,13 @@ pub curve_same : (firsts : List (Option ℕ)) (t : ℕ) → finds firsts t ≡ f
 curve_same firsts t e = curve_last firsts t ∙ rw (e, append-nil) refl
 
 -- a point by its numbers
-pub point_is : (firsts : List (Option ℕ)) (t detected : ℕ) → detected ≡ found_below firsts (t + 1)
-    → point_at firsts t ≡ record { test = t; detected = detected }
-point_is firsts t detected e = ap (λ n. record { test = t; detected = n }) (found_by_is firsts t
+pub point_is : (firsts : List (Option ℕ)) (t gained detected : ℕ) → gained ≡ news_at firsts t
+    → detected ≡ found_below firsts (t + 1)
+    → point_at firsts t ≡ record { test = t; gained = gained; detected = detected }
+point_is firsts t gained detected g e =
+    ap (λ n. record { test = t; gained = news_at firsts t; detected = n }) (found_by_is firsts t
     ∙ sym e)
+    ∙ ap (λ n. record { test = t; gained = n; detected = detected }) (sym g)
 
 -- the step of what a test counts
 pub news_more : (firsts : List (Option ℕ)) (t i : ℕ) (first : Option ℕ)

@@ -34,7 +34,11 @@ found_by firsts t = count_by (is_found_by t) firsts
 
 -- the point of a test
 abbrev pub point_at : List (Option ℕ) → ℕ → CurvePoint
-point_at firsts t = record { test = t; detected = found_by firsts t }
+point_at firsts t = record {
+  test = t;
+  gained = news_at firsts t;
+  detected = found_by firsts t;
+}
 
 -- the points of the tests that detect a fault first, in order, of so many tests
 abbrev pub curve : ℕ → List (Option ℕ) → List CurvePoint

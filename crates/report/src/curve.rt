@@ -30,6 +30,8 @@ use workers::{OpenGate, Verdicts};
 pub struct CurvePoint {
     /// The number of the test.
     pub test: u32,
+    /// The number of uncollapsed faults that this test is the first to detect.
+    pub gained: u32,
     /// The number of uncollapsed faults whose first test is this one or an earlier one.
     pub detected: u32,
 }
@@ -176,7 +178,11 @@ fn points_of(
         let more = news[test as usize];
         if more > 0 {
             detected += more;
-            points.push(CurvePoint { test, detected })?;
+            points.push(CurvePoint {
+                test,
+                gained: more,
+                detected,
+            })?;
         }
     }
     Ok(points)

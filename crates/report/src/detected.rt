@@ -96,8 +96,14 @@ fn report_counts<R: Threads + Wait, W: Out>(
     Ok(())
 }
 
-/// Counts for a job, where the number of workers is one of a run.
-pub(crate) fn counts_of<R: Threads + Wait>(
+/// Returns for each fault of a job how many tests detect it, counted up to `most`, by workers in
+/// threads of their own.
+///
+/// # Errors
+///
+/// [`RunFault::NoWorkers`] or [`RunFault::TooManyWorkers`] if the number of workers is not one of a
+/// run; else only of memory and threads.
+pub fn counts_of<R: Threads + Wait>(
     rt: &R,
     alloc: Global,
     job: &Job,

@@ -1,5 +1,7 @@
+mod CurvePieces
+mod HistogramPieces
 mod Nets
+mod ReasonTables
 mod RowsByPairs
 mod TablesOfTexts
 mod Texts
-mod ReasonTables

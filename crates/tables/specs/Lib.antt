@@ -1,3 +1,5 @@
+pub mod CurveTables
+pub mod HistogramTables
 pub mod Reasons
 pub mod Records
 pub mod Refusals

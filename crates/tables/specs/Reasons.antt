@@ -59,7 +59,8 @@ json_reason row reason =
 -- a JSON object of the sums and the rows
 abbrev pub reason_json : List Statement → List Fault → List (Option ℕ) → List (Option Reason)
     → List ℕ
-reason_json c list firsts reasons = object_text (coverage_object (detected_count firsts) (length firsts))
+reason_json c list firsts reasons =
+    object_text (coverage_object (detected_count firsts) (length firsts))
     (drop 1 (reason_rows json_reason c (zip list reasons)))
 
 -- the table of a list of faults, of their first tests and of their reasons

@@ -193,7 +193,7 @@ fn put_elements<W: Out>(rows: &[u8], out: &mut W) -> Result<(), OutFailed>
 }
 
 /// Returns a text without its first byte.
-fn without_first(text: &[u8]) -> &[u8]
+pub(crate) fn without_first(text: &[u8]) -> &[u8]
     ensures { result.now ≡ drop 1 text.now }
 {
     if text.is_empty() { text } else { &text[1..] }

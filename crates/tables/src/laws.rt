@@ -5,7 +5,7 @@ ghost use Rattle.bench_net.specs.Refusal.{IsAccepted};
 ghost use Rattle.bench_net.specs.Statement.{Statement};
 ghost use Rattle.fault_model.specs.Fault.{faults};
 ghost use Rattle.part_files.specs.Merging.{MergedRun};
-ghost use Rattle.part_files.specs.WholeMerge.{IsMergeOf, IsSomePartOf, IsSomePartDistinguished};
+ghost use Rattle.part_files.specs.WholeMerge.{IsMergeOf, IsSomePartDistinguished, IsSomePartOf};
 ghost use Rattle.part_files.specs.WholeMerge.{PartedRun};
 ghost use Rattle.report.specs.declared.contents.Lines.{Lines};
 ghost use Rattle.tables.specs.declared.table.Format.{Format};

@@ -4,6 +4,8 @@
 
 mod column;
 mod csv_table;
+mod curve_table;
+mod histogram_table;
 mod json_table;
 mod laws;
 mod merged;
@@ -14,6 +16,8 @@ mod row;
 mod summary;
 mod table;
 
+pub use curve_table::curve_table_watched;
+pub use histogram_table::histogram_table_in;
 pub use laws::merged_table;
 pub use merged::write_merged_table;
 pub use reasons::reasons_table_watched;

@@ -40,9 +40,10 @@ loop-test-preserved c =
                 ∙ (w.in_ok-push.ensures.items
                 ∙ (ap (λ l. l ++ record {
                   test = t;
+                  gained = get_or c.args.news.now t 0;
                   detected = c.loop-test.detected + get_or c.args.news.now t 0;
                 } ∷ []) so_far.1
-                ∙ (ap (λ p. curve t firsts ++ p ∷ []) (sym (point_is firsts t _ now))
+                ∙ (ap (λ p. curve t firsts ++ p ∷ []) (sym (point_is firsts t _ _ news now))
                 ∙ sym (curve_point firsts t some)))),
           )
       | else-more-gt0 w ↦

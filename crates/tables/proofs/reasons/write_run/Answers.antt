@@ -10,7 +10,8 @@ returns-clause-written g c =
     let firsts = c.in_ok-verdicts.verdicts.firsts in
     let reasons = c.in_ok-reasons.reasons.items in
     let wrote = rw (c.as_slice.ensures.value) at c.write_table.ensures.written in
-    written_as (λ bytes. bytes ≡ reason_table c.args.format job.circuit job.list.list firsts reasons)
+    written_as
+    (λ bytes. bytes ≡ reason_table c.args.format job.circuit job.list.list firsts reasons)
     (IsReasonTableOfJob job c.args.format) c.write_table.result _ _
     (reasons_table job firsts reasons c.args.format c.requires.job.list
     c.in_ok-verdicts.ensures.firsts c.in_ok-reasons.ensures)

@@ -1,0 +1,185 @@
+//! Tables of how many faults each number of tests detects, as comma-separated values (RFC 4180) and
+//! as JSON (RFC 8259).
+
+ghost use Rattle.std.specs.Prelude.{◌≡◌, ◌<◌, ◌≤◌, ◌^◌, ◌++◌, ℕ, IfErr, IfOk, OnOk, length};
+ghost use Rattle.block_sim.specs.Parts.{BelongTogether};
+ghost use Rattle.job_loading.specs.Splits.{HasSomePart};
+ghost use Rattle.report.specs.Detected.{IsCountFault, reached_count};
+ghost use Rattle.report.specs.EndToEnd.{IsJobReportFault, WritesOneOf};
+ghost use Rattle.report.specs.Histogram.{IsCountedFault, histogram};
+ghost use Rattle.tables.specs.HistogramTables.{IsHistogramTableOf, IsHistogramTableOfJob};
+ghost use Rattle.tables.specs.HistogramTables.{count_row, count_rows, counts_csv, counts_json};
+ghost use Rattle.tables.specs.HistogramTables.{csv_count, histogram_table, json_count};
+
+use crate::curve_table::add_sums;
+use crate::json_table::{add_pieces, without_first};
+use crate::table::{Format, put_text};
+use block_sim::Job;
+use fault_model::Model;
+use itoa::Buffer;
+use job_loading::split_job_of;
+use report::{Out, RunFault, SimFault, Split, counts_of, histogram_of};
+use std::alloc::{AllocError, Global};
+use std::sync::Wait;
+use std::thread::Threads;
+
+/// Reads a circuit and tests for it, and writes a table of how many faults of a model each number
+/// of tests detects: a row for each count from 0 to `most`, of which the last has the faults that
+/// at least `most` tests detect.
+///
+/// # Errors
+///
+/// The same as of `report::histogram_text_in`.
+pub fn histogram_table_in<R: Threads + Wait, W: Out>(
+    rt: &R,
+    alloc: Global,
+    model: Model,
+    bench: &[u8],
+    tests: &[u8],
+    split: Split,
+    most: u32,
+    workers: u32,
+    format: Format,
+    out: &mut W,
+) -> Result<(), SimFault>
+    requires { HasSomePart split }
+    ensures written { WritesOneOf (IsHistogramTableOf model bench.now tests.now most format) result
+        (W.seen out.old) (W.seen out.new) }
+    ensures refused { IfErr result (IsCountedFault model bench.now tests.now split workers) }
+    ensures workers { OnOk result ((0 < workers) × (workers ≤ 64)) }
+{
+    let (job, _parts) = split_job_of(rt, alloc, model, bench, tests, split, workers)?;
+    write_histogram(rt, alloc, &job, most, workers, format, out)
+}
+
+/// Counts for a job, and writes the table of the histogram.
+fn write_histogram<R: Threads + Wait, W: Out>(
+    rt: &R,
+    alloc: Global,
+    job: &Job,
+    most: u32,
+    workers: u32,
+    format: Format,
+    out: &mut W,
+) -> Result<(), SimFault>
+    requires job { BelongTogether job.now }
+    ensures written { WritesOneOf (IsHistogramTableOfJob job.now most format) result
+        (W.seen out.old) (W.seen out.new) }
+    ensures refused { IfErr result (IsJobReportFault workers (IsCountFault workers)) }
+    ensures workers { OnOk result ((0 < workers) × (workers ≤ 64)) }
+{
+    let counts = counts_of(rt, alloc, job, most, workers)?;
+    let signals = job.circuit().signals();
+    prove!(signals > 0);
+    let total = job.faults().count();
+    let Ok(text) = text_of_counts(alloc, &counts, most, total, format) else {
+        return Err(SimFault::Run(RunFault::Memory));
+    };
+    put_text(&text, out)?;
+    Ok(())
+}
+
+/// Returns the table of the histogram of counts, one for each of `total` faults.
+fn text_of_counts(
+    alloc: Global,
+    counts: &[u32],
+    most: u32,
+    total: u32,
+    format: Format,
+) -> Result<Vec<u8>, AllocError>
+    requires some { 0 < total }
+    requires total { total ≡ length counts.now }
+    ensures { IfOk result (λ text. text.items ≡ histogram_table format
+        (histogram most counts.now) (reached_count most counts.now)
+        (length counts.now)) }
+{
+    let faults = histogram_of(alloc, counts, most)?;
+    let rows = count_rows(alloc, &faults, format)?;
+    match format {
+        Format::Csv => counts_csv(alloc, &rows),
+        Format::Json => counts_json(alloc, count_reached(counts, most), total, &rows),
+    }
+}
+
+/// Returns how many of less than 2^32 faults at least this number of tests detect.
+fn count_reached(counts: &[u32], most: u32) -> u32
+    requires { length counts.now < 2 ^ 32 }
+    ensures { result ≡ reached_count most counts.now }
+{
+    counts.iter().filter(|count| most <= **count).count() as u32
+}
+
+/// Returns the rows of the counts from 0 on, of which each has its number of faults.
+fn count_rows(alloc: Global, faults: &[u32], format: Format) -> Result<Vec<u8>, AllocError>
+    ensures { IfOk result (λ rows. rows.items ≡ count_rows format faults.now) }
+{
+    let mut rows = Vec::new(alloc);
+    for count in 0..faults.len() {
+        add_count(&mut rows, count, faults[count], format)?;
+    }
+    Ok(rows)
+}
+
+/// Adds the row of a count.
+fn add_count(
+    rows: &mut Vec<u8>,
+    count: usize,
+    faults: u32,
+    format: Format,
+) -> Result<(), AllocError>
+    ensures { OnOk result (rows.new.items ≡ rows.old.items ++ count_row format (count, faults)) }
+{
+    match format {
+        Format::Csv => add_csv_count(rows, count, faults),
+        Format::Json => add_json_count(rows, count, faults),
+    }
+}
+
+/// Adds the record of a count.
+fn add_csv_count(rows: &mut Vec<u8>, count: usize, faults: u32) -> Result<(), AllocError>
+    ensures { OnOk result (rows.new.items ≡ rows.old.items ++ csv_count (count, faults)) }
+{
+    let mut detections = Buffer::new();
+    let mut number = Buffer::new();
+    let pieces = [detections.format(count), ",", number.format(faults), "\n"];
+    add_pieces(rows, &pieces)
+}
+
+/// Adds the JSON object of a count, after a comma and a line feed.
+fn add_json_count(rows: &mut Vec<u8>, count: usize, faults: u32) -> Result<(), AllocError>
+    ensures { OnOk result (rows.new.items ≡ rows.old.items ++ json_count (count, faults)) }
+{
+    let mut detections = Buffer::new();
+    let mut number = Buffer::new();
+    let pieces = [
+        ",\n{\"detections\":",
+        detections.format(count),
+        ",\"faults\":",
+        number.format(faults),
+        "}",
+    ];
+    add_pieces(rows, &pieces)
+}
+
+/// Returns the header and the records.
+fn counts_csv(alloc: Global, rows: &[u8]) -> Result<Vec<u8>, AllocError>
+    ensures { IfOk result (λ text. text.items ≡ counts_csv rows.now) }
+{
+    let mut text = Vec::new(alloc);
+    text.extend_from_slice("detections,faults\n".as_bytes())?;
+    text.extend_from_slice(rows)?;
+    Ok(text)
+}
+
+/// Returns the object of the sums and of an array of the rows, whose first loses its comma.
+fn counts_json(alloc: Global, reached: u32, total: u32, rows: &[u8]) -> Result<Vec<u8>, AllocError>
+    requires { 0 < total }
+    ensures { IfOk result (λ text. text.items ≡ counts_json reached total rows.now) }
+{
+    let mut text = Vec::new(alloc);
+    add_sums(&mut text, reached, total)?;
+    text.extend_from_slice(",\"histogram\":[".as_bytes())?;
+    text.extend_from_slice(without_first(rows))?;
+    text.extend_from_slice("\n]}\n".as_bytes())?;
+    Ok(text)
+}
