@@ -34,7 +34,9 @@ pub(crate) fn do_compact<'a, R: Threads + Wait, S: Source, W: Out, E: Out>(
     let bench = read_option(alloc, matches, "bench", files)?;
     let tests = read_option(alloc, matches, "tests", files)?;
     let workers = read_crew(matches, &bench, &tests)?;
-    match compact_text_with(rt, alloc, model, &bench, &tests, split, workers, layout, out) {
+    match compact_text_with(
+        rt, alloc, model, &bench, &tests, split, workers, layout, out,
+    ) {
         Ok(count) => {
             let _ = writeln!(Formatted(err), "{} of {} tests kept", count.kept, count.all);
             Ok(())
