@@ -314,8 +314,8 @@ detects only z stuck at 1, which the next two detect, too:
 
 First it keeps the tests that are the first to detect some fault. Of these, from
 the last to the first, it keeps each one that detects a fault which no later one
-detects. Under transition faults there is only the first step, and each kept test
-keeps the test before it.
+detects. Under transition faults each test that a step keeps also keeps the test
+before it.
 
 The number of kept tests goes to standard error:
 

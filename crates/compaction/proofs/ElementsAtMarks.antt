@@ -169,6 +169,19 @@ both_marked (true ∷ marks) [] (suc t) e = both_marked marks [] t e
 both_marked (true ∷ marks) (mark ∷ inner) zero e = refl
 both_marked (true ∷ marks) (mark ∷ inner) (suc t) e = both_marked marks inner t e
 
+-- and what they leave of those is marked
+pub both_inner : (marks inner : List Bool) (t : ℕ)
+    → slice_get (both_marks marks inner) t ≡ Some true
+    → slice_get inner (ones (take t marks)) ≡ Some true
+both_inner [] inner t e = let bad : None ≡ Some true = e in absurd (cc)
+both_inner (false ∷ marks) inner zero e = let bad : Some false ≡ Some true = e in absurd (cc)
+both_inner (false ∷ marks) inner (suc t) e = both_inner marks inner t e
+both_inner (true ∷ marks) [] zero e = let bad : Some false ≡ Some true = e in absurd (cc)
+both_inner (true ∷ marks) [] (suc t) e =
+    let none : None ≡ Some true = both_inner marks [] t e in absurd (cc)
+both_inner (true ∷ marks) (mark ∷ inner) zero e = e
+both_inner (true ∷ marks) (mark ∷ inner) (suc t) e = both_inner marks inner t e
+
 pub both_counted : (marks inner : List Bool) → length (both_marks marks inner) ≡ length marks
 both_counted [] inner = refl
 both_counted (false ∷ marks) inner = ap suc (both_counted marks inner)

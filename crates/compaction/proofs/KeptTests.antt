@@ -30,10 +30,13 @@ use Rattle.workers.specs.Part.{stretch_size}
 use Rattle.workers.specs.Refused.{IsPartsFault}
 use Rattle.workers.specs.Stops.{no_stop}
 use Rattle.workers.specs.Verdict.{AreFirsts}
-use Rattle.compaction.specs.Compaction.{Covers, IsFirstForSome, IsLastForSome}
-use Rattle.compaction.specs.Compaction.{IsNeeded, IsNumbered, finds, is_first, at_marks, row_of}
-use Rattle.compaction.specs.Marks.{AreFinding, AreLast, AreLastOf}
-use Rattle.compaction.proofs.ElementsAtMarks.{ComesFrom, both_counted, both_marked, both_marks}
+use Rattle.compaction.specs.Compaction.{AreEarly, Covers, IsFirstForSome, IsFirstOrBefore}
+use Rattle.compaction.specs.Compaction.{IsLastForSome, IsLastOrBefore, IsNeeded, IsNumbered}
+use Rattle.compaction.specs.Compaction.{PassesTwice, at_marks, finds, is_first, row_of}
+use Rattle.compaction.specs.Marks.{AreDetecting, AreFinding, AreLast, AreLastOf, AreLastPairsOf}
+use Rattle.compaction.specs.Marks.{AreLasting, AreWithBefore}
+use Rattle.compaction.proofs.ElementsAtMarks.{ComesFrom, both_counted, both_inner, both_marked}
+use Rattle.compaction.proofs.ElementsAtMarks.{both_marks}
 use Rattle.compaction.proofs.ElementsAtMarks.{comes_from, earlier_place, marked_at, marked_twice}
 use Rattle.compaction.proofs.ElementsAtMarks.{ones, ones_counted, ones_next, ones_stay}
 use Rattle.compaction.proofs.ReversedLists.{reversed_back, reversed_to}
@@ -52,11 +55,11 @@ some_found (y ∷ firsts) t x (inr a) e =
     or_true true d h = refl
     or_true false d h = h
 
-own_first : (t : ℕ) (x : Option ℕ) → is_first t x ≡ true → x ≡ Some t
+pub own_first : (t : ℕ) (x : Option ℕ) → is_first t x ≡ true → x ≡ Some t
 own_first t None e = let bad : false ≡ true = e in cc
 own_first t (Some s) e = ap Some (eqb-true s t e)
 
-first_own : (t : ℕ) → is_first t (Some t) ≡ true
+pub first_own : (t : ℕ) → is_first t (Some t) ≡ true
 first_own t = eq-eqb t t refl
 
 -- one fault more
@@ -249,22 +252,16 @@ numbered_stuck c tests kept marks given numbers are numbered last_of = (
 
 -- ---- transition faults: with each test the one before it
 
-or_cases : (a b : Bool) → (a || b) ≡ true → (a ≡ true) ⊎ (b ≡ true)
+pub or_cases : (a b : Bool) → (a || b) ≡ true → (a ≡ true) ⊎ (b ≡ true)
 or_cases true b e = inl refl
 or_cases false b e = inr e
 
-or_left : (a b : Bool) → a ≡ true → (a || b) ≡ true
+pub or_left : (a b : Bool) → a ≡ true → (a || b) ≡ true
 or_left a b e = rw (e) refl
 
-or_right : (a b : Bool) → b ≡ true → (a || b) ≡ true
+pub or_right : (a b : Bool) → b ≡ true → (a || b) ≡ true
 or_right true b e = refl
 or_right false b e = e
-
--- the marks of tests with the one before each, from those of tests that find something
-pub record AreWithBefore (found marks : List Bool) : Type 0 where
-  pub count : length marks ≡ length found
-  pub each : (t : ℕ) → t < length found
-      → get_or marks t false ≡ (get_or found t false || get_or found (t + 1) false)
 
 on_where : (found marks : List Bool) → AreWithBefore found marks → (t : ℕ) → t < length found
     → (get_or found t false || get_or found (t + 1) false) ≡ true → slice_get marks t ≡ Some true
@@ -307,25 +304,12 @@ pub record LooksBackSame (m : Model) (c : List Statement) (tests : List Test)
   pub same : (i : ℕ) (l : Line) (b : Bool) → slice_get found (suc i) ≡ Some true
       → LooksBack c tests m l b (suc i)
       → LooksBack c (at_marks marks tests) m l b (suc (ones (take i marks)))
-  pub needs : (kept : List Test) (t k : ℕ)
-      → IsFirstForSome m c tests t ⊎ IsFirstForSome m c tests (t + 1)
-      → IsNeeded m c tests kept t k
 
-pub numbered_before : (m : Model) (c : List Statement) (tests : List Test)
-    (found marks : List Bool) (numbers : List ℕ) → AreFinding m c tests found
-    → AreWithBefore found marks → LooksBackSame m c tests found marks
-    → numbers ≡ at_marks marks (below (length tests))
-    → IsNumbered m c tests (at_marks marks tests) numbers
-numbered_before m c tests found marks numbers are before looks_back e = (
-  record {
-    marks = marks;
-    count = before.count ∙ are.count;
-    rows = refl;
-    covers = covers;
-    needed = needed;
-  },
-  e,
-)
+-- the rows detect what the tests do
+covers_before : (m : Model) (c : List Statement) (tests : List Test) (found marks : List Bool)
+    → AreDetecting m c tests found → AreWithBefore found marks
+    → LooksBackSame m c tests found marks → Covers m c tests (at_marks marks tests)
+covers_before m c tests found marks are before looks_back = covers
   where
     kept_pair : (s : ℕ) (f : Fault) → Contains (faults m c) f → slice_get found s ≡ Some true
         → DetectsAt c tests f s → (k : ℕ) × DetectsAt c (at_marks marks tests) f k
@@ -361,22 +345,78 @@ numbered_before m c tests found marks numbers are before looks_back e = (
 
     covers : Covers m c tests (at_marks marks tests)
     covers f t listed detects = let s = are.found f t listed detects in
-        kept_pair s.0 f listed s.2 s.1.0
+        kept_pair s.0 f listed s.2 s.1
 
-    needed : (t : ℕ) → slice_get marks t ≡ Some true
-        → IsNeeded m c tests (at_marks marks tests) t (row_of marks t)
-    needed t mark =
-        looks_back.needs (at_marks marks tests) t (row_of marks t) (go (or_cases
-        (get_or found t false) (get_or found (t + 1) false) (sym (before.each t lt)
-        ∙ get_or_from_slice_get marks t true false mark)))
-      where
-        lt : t < length found
-        lt = let h = slice_get_within marks t true mark in omega (arith, h, before.count)
+-- a marked test or the next is one that finds something
+found_or_next : (found marks : List Bool) → AreWithBefore found marks → (t : ℕ)
+    → slice_get marks t ≡ Some true
+    → (slice_get found t ≡ Some true) ⊎ (slice_get found (t + 1) ≡ Some true)
+found_or_next found marks before t mark = go (or_cases (get_or found t false)
+    (get_or found (t + 1) false) (sym (before.each t lt)
+    ∙ get_or_from_slice_get marks t true false mark))
+  where
+    lt : t < length found
+    lt = let h = slice_get_within marks t true mark in omega (arith, h, before.count)
 
-        go : (get_or found t false ≡ true) ⊎ (get_or found (t + 1) false ≡ true)
-            → IsFirstForSome m c tests t ⊎ IsFirstForSome m c tests (t + 1)
-        go (inl h) = inl (are.first t (mark_at_place found t h))
-        go (inr h) = inr (are.first (t + 1) (mark_at_place found (t + 1) h))
+    go : (get_or found t false ≡ true) ⊎ (get_or found (t + 1) false ≡ true)
+        → (slice_get found t ≡ Some true) ⊎ (slice_get found (t + 1) ≡ Some true)
+    go (inl h) = inl (mark_at_place found t h)
+    go (inr h) = inr (mark_at_place found (t + 1) h)
+
+-- the first test of a fault is marked
+first_is_marked : (m : Model) (c : List Statement) (tests : List Test) (found : List Bool) (t : ℕ)
+    → AreFinding m c tests found → IsFirstForSome m c tests t → slice_get found t ≡ Some true
+first_is_marked m c tests found t are first = go (cases_lt t s.0) (cases_lt s.0 t)
+  where
+    s : (s : ℕ) × IsFirst c tests first.0 (Some s) × (slice_get found s ≡ Some true)
+    s = are.found first.0 t first.1 first.2.0
+
+    go : (t < s.0) ⊎ (s.0 ≤ t) → (s.0 < t) ⊎ (t ≤ s.0) → slice_get found t ≡ Some true
+    go (inl early) other = absurd (s.1.1 t early first.2.0)
+    go (inr le) (inl late) = absurd (first.2.1 s.0 late s.1.0)
+    go (inr le) (inr ge) =
+        let same : s.0 ≡ t = omega (arith, le, ge) in
+        subst (λ k. slice_get found k ≡ Some true) same s.2
+
+-- the marks of the first pass are those that the definition names
+early_marks : (m : Model) (c : List Statement) (tests : List Test) (found marks : List Bool)
+    → AreFinding m c tests found → AreWithBefore found marks → AreEarly m c tests marks
+early_marks m c tests found marks are before = (
+  before.count ∙ are.count,
+  λ t. (
+    λ mark. there t (found_or_next found marks before t mark),
+    λ first. back t first,
+  ),
+)
+  where
+    there : (t : ℕ) → (slice_get found t ≡ Some true) ⊎ (slice_get found (t + 1) ≡ Some true)
+        → IsFirstOrBefore m c tests t
+    there t (inl h) = inl (are.first t h)
+    there t (inr h) = inr (are.first (t + 1) h)
+
+    back : (t : ℕ) → IsFirstOrBefore m c tests t → slice_get marks t ≡ Some true
+    back t (inl first) =
+        itself found marks before t (first_is_marked m c tests found t are first)
+    back t (inr first) =
+        the_one_before found marks before t (subst (λ k. slice_get found k ≡ Some true) (add-one t)
+        (first_is_marked m c tests found (t + 1) are first))
+
+-- which tests find something, in both passes
+finding_detects : (m : Model) (c : List Statement) (tests : List Test) (found : List Bool)
+    → AreFinding m c tests found → AreDetecting m c tests found
+finding_detects m c tests found are = record {
+  count = are.count;
+  some = λ t mark. let first = are.first t mark in (first.0, first.1, first.2.0);
+  found = λ f t listed d. let s = are.found f t listed d in (s.0, s.1.0, s.2);
+}
+
+lasting_detects : (m : Model) (c : List Statement) (tests : List Test) (last : List Bool)
+    → AreLasting m c tests last → AreDetecting m c tests last
+lasting_detects m c tests last are = record {
+  count = are.count;
+  some = λ t mark. let own = are.last t mark in (own.0, own.1, own.2);
+  found = are.found;
+}
 
 -- ---- transition faults of a list, where each test but the first is the second of a pair
 
@@ -386,7 +426,6 @@ looks_back_transition c tests found marks before = record {
   not_first = λ l b looks. looks;
   same = λ i l b on looks.
       initialized_same c tests marks i l b (the_one_before found marks before i on) looks;
-  needs = λ kept t k h. h;
 }
 
 -- ---- transition faults of a list of pairs: a pair is kept whole, so it is a pair of the rows
@@ -397,18 +436,19 @@ or_false false = refl
 
 -- the first test of a pair finds nothing
 first_finds_none : (c : List Statement) (tests : List Test) (found : List Bool)
-    → AreFinding TransitionPairs c tests found → (q : ℕ) → get_or found (2 * q) false ≡ false
+    → AreDetecting TransitionPairs c tests found → (q : ℕ) → get_or found (2 * q) false ≡ false
 first_finds_none c tests found are q = go (get_or found (2 * q) false) refl
   where
     go : (b : Bool) → get_or found (2 * q) false ≡ b → get_or found (2 * q) false ≡ false
     go false e = e
-    go true e = absurd (not_second (second (are.first (2 * q) (mark_at_place found (2 * q) e))))
+    go true e = absurd (not_second (second (are.some (2 * q) (mark_at_place found (2 * q) e))))
       where
-        second : IsFirstForSome TransitionPairs c tests (2 * q) → IsSecondOfPair (2 * q)
-        second first =
-            let looks : LooksBack c tests TransitionPairs first.0.line first.0.stuck (2 * q) =
-            subst (λ x. LooksBack c tests x first.0.line first.0.stuck (2 * q))
-            (listed_model TransitionPairs c first.0 first.1) first.2.0.3 in
+        second : (f : Fault) × Contains (faults TransitionPairs c) f × DetectsAt c tests f (2 * q)
+            → IsSecondOfPair (2 * q)
+        second some =
+            let looks : LooksBack c tests TransitionPairs some.0.line some.0.stuck (2 * q) =
+            subst (λ x. LooksBack c tests x some.0.line some.0.stuck (2 * q))
+            (listed_model TransitionPairs c some.0 some.1) some.2.3 in
             looks.0
 
         not_second : IsSecondOfPair (2 * q) → ⊥
@@ -416,7 +456,7 @@ first_finds_none c tests found are q = go (get_or found (2 * q) false) refl
 
 -- both tests of a pair are marked, or none is
 marked_alike : (c : List Statement) (tests : List Test) (found marks : List Bool)
-    → AreFinding TransitionPairs c tests found → AreWithBefore found marks → (q : ℕ)
+    → AreDetecting TransitionPairs c tests found → AreWithBefore found marks → (q : ℕ)
     → 2 * q + 1 < length found → get_or marks (2 * q) false ≡ get_or marks (2 * q + 1) false
 marked_alike c tests found marks are before q lt =
     let x = get_or found (2 * q + 1) false in
@@ -465,7 +505,7 @@ even_before marks (suc p) le alike = go (even_before marks p (omega (arith, le))
         twice earlier.0 (second ∙ (first ∙ earlier.1))
 
 looks_back_pairs : (c : List Statement) (tests : List Test) (found marks : List Bool)
-    → AreFinding TransitionPairs c tests found → AreWithBefore found marks
+    → AreDetecting TransitionPairs c tests found → AreWithBefore found marks
     → LooksBackSame TransitionPairs c tests found marks
 looks_back_pairs c tests found marks are before = record {
   not_first = λ l b looks. looks.1;
@@ -473,7 +513,6 @@ looks_back_pairs c tests found marks are before = record {
     second i on looks.0,
     initialized_same c tests marks i l b (the_one_before found marks before i on) looks.1,
   );
-  needs = λ kept t k h. h;
 }
   where
     second : (i : ℕ) → slice_get found (suc i) ≡ Some true → IsSecondOfPair (suc i)
@@ -506,27 +545,95 @@ stuck_numbered m c tests rows kept marks given numbers model are is numbered las
     (subst (λ xs. AreLastOf c xs kept given numbers) is last))
 
 -- both models under which a test looks back to the one before it
-pub before_numbered : (m x : Model) (c : List Statement) (tests kept : List Test)
-    (found marks : List Bool) (numbers : List ℕ) → m ≡ x
-    → (x ≡ Transition) ⊎ (x ≡ TransitionPairs)
-    → AreFinding m c tests found → AreWithBefore found marks → kept ≡ at_marks marks tests
-    → numbers ≡ at_marks marks (below (length tests)) → IsNumbered m c tests kept numbers
-before_numbered m x c tests kept found marks numbers same either are before is e =
-    subst (λ xs. IsNumbered m c tests xs numbers) (sym is)
-    (numbered_before m c tests found marks numbers are before
-    (subst (λ y. LooksBackSame y c tests found marks) (sym same) (go either)) e)
+covers_pass : (m : Model) (c : List Statement) (tests : List Test) (found marks : List Bool)
+    → (m ≡ Transition) ⊎ (m ≡ TransitionPairs) → AreDetecting m c tests found
+    → AreWithBefore found marks → Covers m c tests (at_marks marks tests)
+covers_pass m c tests found marks either are before =
+    covers_before m c tests found marks are before (go either)
   where
-    go : (x ≡ Transition) ⊎ (x ≡ TransitionPairs) → LooksBackSame x c tests found marks
+    go : (m ≡ Transition) ⊎ (m ≡ TransitionPairs) → LooksBackSame m c tests found marks
     go (inl e) = subst (λ y. LooksBackSame y c tests found marks) (sym e)
         (looks_back_transition c tests found marks before)
     go (inr e) = subst (λ y. LooksBackSame y c tests found marks) (sym e) (looks_back_pairs c tests
-        found marks (subst (λ y. AreFinding y c tests found) (same ∙ e) are) before)
+        found marks (subst (λ y. AreDetecting y c tests found) e are) before)
+
+-- why a test passes twice
+twice_needed : (m : Model) (c : List Statement) (tests kept : List Test) (t k : ℕ)
+    → (m ≡ Transition) ⊎ (m ≡ TransitionPairs) → PassesTwice m c tests t
+    → IsNeeded m c tests kept t k
+twice_needed m c tests kept t k (inl e) twice =
+    subst (λ x. IsNeeded x c tests kept t k) (sym e)
+    (subst (λ x. PassesTwice x c tests t) e twice)
+twice_needed m c tests kept t k (inr e) twice =
+    subst (λ x. IsNeeded x c tests kept t k) (sym e)
+    (subst (λ x. PassesTwice x c tests t) e twice)
+
+pub pairs_numbered : (m : Model) (c : List Statement) (tests rows kept : List Test)
+    (found marks : List Bool) (given numbers : List ℕ)
+    → (m ≡ Transition) ⊎ (m ≡ TransitionPairs) → AreFinding m c tests found
+    → AreWithBefore found marks → rows ≡ at_marks marks tests
+    → given ≡ at_marks marks (below (length tests))
+    → AreLastPairsOf m c rows kept given numbers → IsNumbered m c tests kept numbers
+pairs_numbered m c tests rows kept found marks given numbers either are before is nums pairs = (
+  record {
+    marks = both;
+    count = both_counted marks inner ∙ (before.count ∙ are.count);
+    rows = pairs.4 ∙ (ap (at_marks inner) is ∙ marked_twice marks inner tests);
+    covers = covers;
+    needed = needed;
+  },
+  pairs.5 ∙ (ap (at_marks inner) nums ∙ marked_twice marks inner (below (length tests))),
+)
+  where
+    last : List Bool
+    last = pairs.0
+
+    inner : List Bool
+    inner = pairs.1
+
+    both : List Bool
+    both = both_marks marks inner
+
+    covers : Covers m c tests kept
+    covers f t listed d =
+        let early = covers_pass m c tests found marks either
+        (finding_detects m c tests found are) before f t listed d in
+        let late = covers_pass m c rows last inner either
+        (lasting_detects m c rows last pairs.2) pairs.3 f early.0 listed
+        (subst (λ xs. DetectsAt c xs f early.0) (sym is) early.1) in
+        subst (λ xs. (k : ℕ) × DetectsAt c xs f k) (sym pairs.4) late
+
+    needed : (t : ℕ) → slice_get both t ≡ Some true
+        → IsNeeded m c tests kept t (row_of both t)
+    needed t mark =
+        let early = both_marked marks inner t mark in
+        let row : slice_get inner (row_of marks t) ≡ Some true =
+        subst (λ k. slice_get inner k ≡ Some true) (sym (ones_counted (take t marks)))
+        (both_inner marks inner t mark) in
+        twice_needed m c tests kept t (row_of both t) either (
+          marks,
+          early_marks m c tests found marks are before,
+          early,
+          subst (λ xs. IsLastOrBefore m c xs (row_of marks t)) is
+              (go (row_of marks t) (found_or_next last inner pairs.3 (row_of marks t) row)),
+        )
+      where
+        go : (j : ℕ) → (slice_get last j ≡ Some true) ⊎ (slice_get last (j + 1) ≡ Some true)
+            → IsLastOrBefore m c rows j
+        go j (inl h) = inl (pairs.2.last j h)
+        go j (inr h) = inr (pairs.2.last (j + 1) h)
 
 -- an answer of one kind is one of another
 pub ok_as : {T E : Type 0} (A B : T → Type 0) (r : Result T E) → ((x : T) → A x → B x) → IfOk r A
     → IfOk r B
 ok_as A B (Ok x) into h = into x h
 ok_as A B (Err e) into h = h
+
+-- and answers of two kinds are one of a third
+pub both_as : {T E : Type 0} (A B C : T → Type 0) (r : Result T E) → ((x : T) → A x → B x → C x)
+    → IfOk r A → IfOk r B → IfOk r C
+both_as A B C (Ok x) into a b = into x a b
+both_as A B C (Err e) into a b = b
 
 -- ---- refusals
 

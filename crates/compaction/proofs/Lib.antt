@@ -6,4 +6,5 @@ mod SteepestOrder
 mod OrderedTests
 mod ReversedLists
 mod KeptTests
+mod LastTests
 pub mod Public

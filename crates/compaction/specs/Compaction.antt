@@ -1,5 +1,5 @@
 -- When rows are a compaction of a list of tests.
-use Rattle.std.specs.Prelude.{◌≡◌, ◌⊎◌, ℕ, ◌+◌, ◌<◌, ◌==◌, Bool, true, false, List, [], ◌∷◌, length}
+use Rattle.std.specs.Prelude.{◌≡◌, ◌⊎◌, ◌↔◌, ℕ, ◌+◌, ◌<◌, ◌==◌, Bool, true, false, List, [], ◌∷◌, length}
 use Rattle.std.specs.Prelude.{Contains, Option, Some, None, count_by, slice_get, take}
 use Rattle.std.specs.List.{list_any}
 use Rattle.bench_net.specs.Statement.{Statement}
@@ -39,25 +39,43 @@ abbrev pub IsLastForSome : Model → List Statement → List Test → ℕ → Ty
 IsLastForSome m c tests t = (f : Fault) × Contains (faults m c) f × DetectsAt c tests f t
     × ((later : ℕ) → t < later → ¬ DetectsAt c tests f later)
 
+-- it or the next is the first of the list for some fault; it or the next is the last
+abbrev pub IsFirstOrBefore : Model → List Statement → List Test → ℕ → Type 0
+IsFirstOrBefore m c tests t = IsFirstForSome m c tests t ⊎ IsFirstForSome m c tests (t + 1)
+
+abbrev pub IsLastOrBefore : Model → List Statement → List Test → ℕ → Type 0
+IsLastOrBefore m c tests t = IsLastForSome m c tests t ⊎ IsLastForSome m c tests (t + 1)
+
+-- which row a marked place of a list gives, counted from 0: as many places before it are marked
+abbrev pub row_of : List Bool → ℕ → ℕ
+row_of marks t = count_by (λ mark. mark) (take t marks)
+
+-- The marks of the first pass for transition faults: a test is marked exactly if it or the next is
+-- the first of the list for some fault.
+abbrev pub AreEarly : Model → List Statement → List Test → List Bool → Type 0
+AreEarly m c tests early = (length early ≡ length tests)
+    × ((t : ℕ) → (slice_get early t ≡ Some true) ↔ IsFirstOrBefore m c tests t)
+
+-- the first pass keeps the test, and of its rows this one or the next is the last for some fault
+abbrev pub PassesTwice : Model → List Statement → List Test → ℕ → Type 0
+PassesTwice m c tests t = (early : List Bool) × AreEarly m c tests early
+    × (slice_get early t ≡ Some true)
+    × IsLastOrBefore m c (at_marks early tests) (row_of early t)
+
 -- Why test t of the list is kept as row k: under stuck-at faults it is the first of the list and
--- the last of the rows for some faults; under transition faults it or the next is the first, and
--- where the list is one of pairs this is the second of its pair.
+-- the last of the rows for some faults. Under transition faults it or the next is the first, and
+-- of the tests for which that is so it or the next is the last; where the list is one of pairs
+-- this is the second of its pair.
 abbrev pub IsNeeded : Model → List Statement → List Test → List Test → ℕ → ℕ → Type 0
 IsNeeded StuckAt c tests kept t k =
     IsFirstForSome StuckAt c tests t × IsLastForSome StuckAt c kept k
-IsNeeded Transition c tests kept t k =
-    IsFirstForSome Transition c tests t ⊎ IsFirstForSome Transition c tests (t + 1)
-IsNeeded TransitionPairs c tests kept t k =
-    IsFirstForSome TransitionPairs c tests t ⊎ IsFirstForSome TransitionPairs c tests (t + 1)
+IsNeeded Transition c tests kept t k = PassesTwice Transition c tests t
+IsNeeded TransitionPairs c tests kept t k = PassesTwice TransitionPairs c tests t
 
 -- the second list detects each fault of the model that the first one detects
 abbrev pub Covers : Model → List Statement → List Test → List Test → Type 0
 Covers m c tests kept = (f : Fault) (t : ℕ) → Contains (faults m c) f → DetectsAt c tests f t
     → (k : ℕ) × DetectsAt c kept f k
-
--- which row a marked place of a list gives, counted from 0: as many places before it are marked
-abbrev pub row_of : List Bool → ℕ → ℕ
-row_of marks t = count_by (λ mark. mark) (take t marks)
 
 -- The tests that are kept are marked, each by its place in the list: the rows are these, in order,
 -- they detect each fault that the tests detect, and each test that is marked is needed as its row.

@@ -1,12 +1,16 @@
 -- What is known of the marks and of the rows between the two passes.
-use Rattle.std.specs.Prelude.{◌≡◌, ℕ, Bool, true, List, length, Contains, Some, slice_get}
+use Rattle.std.specs.Prelude.{◌≡◌, ◌+◌, ◌<◌, ◌||◌, ℕ, Bool, true, false, List, length, Contains}
+use Rattle.std.specs.Prelude.{None, Option, Some, slice_get, slice_index_or}
 use Rattle.bench_net.specs.Statement.{Statement}
 use Rattle.fault_model.specs.declared.Model.{Model}
 use Rattle.fault_model.specs.declared.Model.TheVariants.{StuckAt}
 use Rattle.fault_model.specs.Fault.{Fault, faults}
 use Rattle.fault_model.specs.Solution.{Test}
 use Rattle.fault_model.specs.Detection.{DetectsAt}
+use Rattle.fault_model.specs.Collapse.{representatives}
 use Rattle.block_sim.specs.First.{IsFirst}
+use Rattle.block_sim.specs.Parts.{Parts}
+use Rattle.block_sim.specs.Words.{lane}
 use Rattle.compaction.specs.Compaction.{Covers, IsFirstForSome, IsLastForSome, IsSublist}
 use Rattle.compaction.specs.Compaction.{at_marks}
 
@@ -18,6 +22,63 @@ pub record AreFinding (m : Model) (c : List Statement) (tests : List Test)
   pub first : (t : ℕ) → slice_get marks t ≡ Some true → IsFirstForSome m c tests t
   pub found : (f : Fault) (t : ℕ) → Contains (faults m c) f → DetectsAt c tests f t
       → (s : ℕ) × IsFirst c tests f (Some s) × (slice_get marks s ≡ Some true)
+
+-- the tests that are marked detect some fault, and each fault that a test detects is detected by one
+-- of them
+pub record AreDetecting (m : Model) (c : List Statement) (tests : List Test)
+    (marks : List Bool) : Type 0 where
+  pub count : length marks ≡ length tests
+  pub some : (t : ℕ) → slice_get marks t ≡ Some true
+      → (f : Fault) × Contains (faults m c) f × DetectsAt c tests f t
+  pub found : (f : Fault) (t : ℕ) → Contains (faults m c) f → DetectsAt c tests f t
+      → (s : ℕ) × DetectsAt c tests f s × (slice_get marks s ≡ Some true)
+
+-- the same where each of them is the last of some fault
+pub record AreLasting (m : Model) (c : List Statement) (tests : List Test)
+    (marks : List Bool) : Type 0 where
+  pub count : length marks ≡ length tests
+  pub last : (t : ℕ) → slice_get marks t ≡ Some true → IsLastForSome m c tests t
+  pub found : (f : Fault) (t : ℕ) → Contains (faults m c) f → DetectsAt c tests f t
+      → (s : ℕ) × DetectsAt c tests f s × (slice_get marks s ≡ Some true)
+
+-- the marks of tests with the one before each, from those of tests that find something
+pub record AreWithBefore (found marks : List Bool) : Type 0 where
+  pub count : length marks ≡ length found
+  pub each : (t : ℕ) → t < length found → slice_index_or marks t false
+      ≡ (slice_index_or found t false || slice_index_or found (t + 1) false)
+
+-- of some tests the last ones of some faults with the one before each, and their numbers
+abbrev pub AreLastPairsOf : Model → List Statement → List Test → List Test → List ℕ → List ℕ
+    → Type 0
+AreLastPairsOf m c tests kept given numbers = (last inner : List Bool)
+    × AreLasting m c tests last × AreWithBefore last inner × (kept ≡ at_marks inner tests)
+    × (numbers ≡ at_marks inner given)
+
+-- the last lane of the first ones of a word that is 1, if there is one
+abbrev pub IsLastLane : ℕ → ℕ → Option ℕ → Type 0
+IsLastLane word lanes None = (j : ℕ) → j < lanes → lane word j ≡ false
+IsLastLane word lanes (Some k) = (k < lanes) × (lane word k ≡ true)
+    × ((j : ℕ) → k < j → j < lanes → lane word j ≡ false)
+
+-- the last test that detects a fault, or none where no test does
+abbrev pub IsLast : List Statement → List Test → Fault → Option ℕ → Type 0
+IsLast c tests f None = (t : ℕ) → ¬ DetectsAt c tests f t
+IsLast c tests f (Some t) = DetectsAt c tests f t
+    × ((later : ℕ) → t < later → ¬ DetectsAt c tests f later)
+
+-- the same of the representative of a class
+abbrev pub IsLastOfClass : Parts → ℕ → Option ℕ → Type 0
+IsLastOfClass job class last = (r : Fault)
+    × (slice_get (representatives job.list.model job.circuit) class ≡ Some r)
+    × IsLast job.circuit job.tests.tests r last
+
+-- the last tests of the first classes of a job are marked
+pub record AreLastMarks (job : Parts) (classes : ℕ) (marks : List Bool) : Type 0 where
+  pub count : length marks ≡ length job.tests.tests
+  pub some : (t : ℕ) → t < length job.tests.tests → slice_index_or marks t false ≡ true
+      → (class : ℕ) × (class < classes) × IsLastOfClass job class (Some t)
+  pub all : (class : ℕ) → class < classes → (last : Option ℕ) × IsLastOfClass job class last
+      × ((t : ℕ) → last ≡ Some t → slice_index_or marks t false ≡ true)
 
 -- the rows are some of the tests, detect the same stuck-at faults, and each is the last of them for
 -- some fault

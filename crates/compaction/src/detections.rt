@@ -78,8 +78,15 @@ fn bit_of(row: &[u64], test: u32) -> bool
     requires { test / 64 < length row.now }
     ensures { result ≡ lane (slice_index_or row.now (test / 64) 0) (test % 64) }
 {
-    let word = row[(test / BLOCK_SIZE) as usize];
-    (word >> (test % BLOCK_SIZE)) & 1 == 1
+    lane_bit(row[(test / BLOCK_SIZE) as usize], test % BLOCK_SIZE)
+}
+
+/// Returns the bit of a word at a lane.
+pub fn lane_bit(word: u64, place: u32) -> bool
+    requires { place < 64 }
+    ensures { result ≡ lane word place }
+{
+    (word >> place) & 1 == 1
 }
 
 /// Returns for each class of a job a word for each block, with the tests that detect the class.

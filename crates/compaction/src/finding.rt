@@ -41,18 +41,18 @@ fn marks_of(alloc: Global, verdicts: &Verdicts, tests: u32) -> Result<Vec<bool>,
 {
     let mut marks = vec![in alloc; false; tests as usize]?;
     for fault in 0..verdicts.total() {
-        mark_first(&mut marks, verdicts.first(fault));
+        mark_test(&mut marks, verdicts.first(fault));
     }
     Ok(marks)
 }
 
-/// Marks the first test of a fault, if it is one of these tests.
-fn mark_first(marks: &mut [bool], first: Option<u32>)
+/// Marks the first or the last test of a fault, if it is one of these tests.
+pub fn mark_test(marks: &mut [bool], test: Option<u32>)
     ensures count { length marks.new ≡ length marks.old }
     ensures each { (t : ℕ) → t < length marks.old → slice_index_or marks.new t false
-        ≡ (slice_index_or marks.old t false || is_first t first) }
+        ≡ (slice_index_or marks.old t false || is_first t test) }
 {
-    let Some(test) = first else {
+    let Some(test) = test else {
         return;
     };
     let place = test as usize;

@@ -4,6 +4,7 @@
 
 mod detections;
 mod finding;
+mod lasting;
 mod ordered;
 mod passes;
 mod rows;

@@ -3,7 +3,7 @@
 ghost use Rattle.std.specs.Prelude.{◌≡◌, ◌<◌, ◌≤◌, ⊤, IfErr, IfOk, OnOk, length};
 ghost use Rattle.block_sim.specs.Parts.{BelongTogether, with_tests};
 ghost use Rattle.compaction.specs.Compaction.{IsCompaction, IsNumbered};
-ghost use Rattle.compaction.specs.Marks.{AreLastOf};
+ghost use Rattle.compaction.specs.Marks.{AreLastOf, AreLastPairsOf};
 ghost use Rattle.patterns.specs.Tests.{IsTestList};
 ghost use Rattle.fault_model.specs.declared.Model.TheVariants as model;
 ghost use Rattle.workers.specs.Refused.{ArePartsWithin, IsPartsFault, IsRunFault};
@@ -11,11 +11,12 @@ ghost use Rattle.workers.specs.Stops.{no_stop};
 
 use crate::Kept;
 use crate::finding::{finding_tests, mark_before};
+use crate::lasting::lasting_tests;
 use crate::rows::{all_numbers, kept_tests, reversed_tests};
 use block_sim::Job;
 use fault_model::Model;
 use patterns::Tests;
-use std::alloc::Global;
+use std::alloc::{AllocError, Global};
 use std::sync::Wait;
 use std::thread::Threads;
 use workers::{RunFault, parts_for};
@@ -26,9 +27,9 @@ use workers::{RunFault, parts_for};
 /// The first pass keeps the tests that are the first to detect some fault. The second pass goes
 /// over these from the last to the first and keeps those that still detect a new fault:
 /// reverse-order fault simulation (Schulz, Trischler and Sarfert, SOCRATES: A Highly Efficient
-/// Automatic Test Pattern Generation System, 1988). Under [`Model::Transition`] there is only the
-/// first pass, and a kept test keeps the test before it. So under [`Model::TransitionPairs`], where
-/// only the capture test detects, pairs are kept and left out whole.
+/// Automatic Test Pattern Generation System, 1988). Under transition faults a test that is kept in
+/// a pass keeps the test before it. So under [`Model::TransitionPairs`], where only the capture
+/// test detects, pairs are kept and left out whole.
 ///
 /// The job keeps its circuit, its faults and its classes. Its tests are others after the second
 /// pass. It fails as [`workers::run_open`] does.
@@ -89,7 +90,8 @@ pub fn compact_in_parts<R: Threads + Wait>(
         }
         Model::Transition | Model::TransitionPairs => {
             mark_before(&mut found);
-            Ok(kept_tests(alloc, job.tests(), &numbers, &found)?)
+            let kept = kept_tests(alloc, job.tests(), &numbers, &found)?;
+            Ok(last_pairs(rt, alloc, job, kept, workers)?)
         }
     }
 }
@@ -123,4 +125,29 @@ fn last_tests<R: Threads + Wait>(
     let mut found = finding_tests(rt, alloc, job, parts, workers)?;
     found.reverse();
     Ok(kept_tests(alloc, &given.tests, &given.numbers, &found)?)
+}
+
+/// Returns the tests that detect a fault which no later one detects, each with the test before it.
+fn last_pairs<R: Threads + Wait>(
+    rt: &R,
+    alloc: Global,
+    job: &mut Job,
+    given: Kept,
+    workers: u32,
+) -> Result<Kept, AllocError>
+    requires job { BelongTogether job.old }
+    requires list { IsTestList given.tests }
+    requires width { given.tests.width ≡ job.old.tests.width }
+    requires numbers { length given.numbers.items ≡ length given.tests.tests }
+    ensures last { IfOk result (λ kept. AreLastPairsOf job.old.list.model job.old.circuit
+        given.tests.tests kept.tests.tests given.numbers.items kept.numbers.items) }
+    ensures list { IfOk result (λ kept. IsTestList kept.tests) }
+    ensures width { IfOk result (λ kept. kept.tests.width ≡ job.old.tests.width) }
+    ensures job { job.new ≡ with_tests job.old job.new.tests }
+{
+    let Kept { tests, numbers } = given;
+    job.set_tests_of_any_size_in_threads(rt, alloc, tests, workers)?;
+    let mut last = lasting_tests(alloc, job)?;
+    mark_before(&mut last);
+    kept_tests(alloc, job.tests(), &numbers, &last)
 }

@@ -1,11 +1,11 @@
-use Rattle.std.proofs.Common.{◌≡◌, ◌+◌, ◌∙◌, ap, arith, false, get_or, length, sym}
+use Rattle.std.proofs.Common.{◌≡◌, ◌⊎◌, ◌+◌, ◌∙◌, ap, arith, false, get_or, length, subst, sym}
 use Rattle.std.specs.Prelude.{◌||◌}
-use Rattle.fault_model.specs.declared.Model.TheVariants.{StuckAt}
+use Rattle.fault_model.specs.declared.Model.TheVariants.{StuckAt, Transition, TransitionPairs}
 use Rattle.patterns.specs.Least.{below}
 use Rattle.patterns.proofs.Public.{length-below}
 use Rattle.compaction.specs.Compaction.{IsNumbered, at_marks}
-use Rattle.compaction.specs.Marks.{AreLastOf}
-use Rattle.compaction.proofs.KeptTests.{AreWithBefore, before_numbered, ok_as, stuck_numbered}
+use Rattle.compaction.specs.Marks.{AreLastOf, AreWithBefore}
+use Rattle.compaction.proofs.KeptTests.{ok_as, pairs_numbered, stuck_numbered}
 use Rattle.compaction.proofs.PushedElements.{written_over}
 use Rattle.compaction.proofs.ElementsAtMarks.{as_many_marked, marked_few}
 use Rattle.compaction.proofs.passes.compact_in_parts.Goals as goal
@@ -70,12 +70,23 @@ kept_tests-requires-in-Transition-clause-numbers g c =
     ∙ (length-below c.count.result ∙ (c.count.ensures
     ∙ ap (λ t. length t.tests) (c.tests.ensures.part ∙ sym c.tests-in-Transition.ensures.part)))
 
+pub last_pairs-requires-clause-numbers : goal.last_pairs-requires-clause-numbers
+last_pairs-requires-clause-numbers g c =
+    let same = ap length (c.deref-in-Transition.ensures.value ∙ c.in_ok-numbers.ensures)
+    ∙ (length-below c.count.result ∙ (c.count.ensures
+    ∙ ap (λ t. length t.tests) (c.tests.ensures.part ∙ sym c.tests-in-Transition.ensures.part))) in
+    ap length c.in_ok-kept-in-Transition.ensures.numbers
+    ∙ (as_many_marked c.deref-in-Transition-2.result.now c.deref-in-Transition.result.now
+    c.tests-in-Transition.result.now.tests same
+    ∙ sym (ap length c.in_ok-kept-in-Transition.ensures.rows))
+
 pub returns-clause-compacted : goal.returns-clause-compacted
 returns-clause-compacted g c =
     let job = c.args.job.now in
     let found = c.in_ok-found.found.items in
     let new = c.mark_before.new.marks in
-    let kept = c.in_ok-kept_tests-in-Transition.field-0 in
+    let kept = c.in_ok-kept-in-Transition.kept in
+    let last = c.in_ok-last_pairs-in-Transition.field-0 in
     let model : job.list.model ≡ c.model.result = sym (ap (λ l. l.model) c.faults.ensures.part)
     ∙ sym c.model.ensures in
     let len : c.in_ok-found.found.len ≡ length new =
@@ -95,12 +106,14 @@ returns-clause-compacted g c =
     let all : c.deref-in-Transition.result.now ≡ below (length job.tests.tests) =
     c.deref-in-Transition.ensures.value ∙ (c.in_ok-numbers.ensures ∙ ap below tests) in
     let rows : kept.tests.tests ≡ at_marks new job.tests.tests =
-    c.in_ok-kept_tests-in-Transition.ensures.rows
+    c.in_ok-kept-in-Transition.ensures.rows
     ∙ (ap (λ m. at_marks m c.tests-in-Transition.result.now.tests) marks
     ∙ ap (λ t. at_marks new t.tests) c.tests-in-Transition.ensures.part) in
     let numbers : kept.numbers.items ≡ at_marks new (below (length job.tests.tests)) =
-    c.in_ok-kept_tests-in-Transition.ensures.numbers
+    c.in_ok-kept-in-Transition.ensures.numbers
     ∙ (ap (λ m. at_marks m c.deref-in-Transition.result.now) marks ∙ ap (at_marks new) all) in
-    before_numbered job.list.model c.model.result job.circuit job.tests.tests kept.tests.tests
-    found new kept.numbers.items model c.in-Transition.is c.in_ok-found.ensures.marks before rows
-    numbers
+    let either = subst (λ m. (m ≡ Transition) ⊎ (m ≡ TransitionPairs)) (sym model)
+    c.in-Transition.is in
+    pairs_numbered job.list.model job.circuit job.tests.tests kept.tests.tests last.tests.tests
+    found new kept.numbers.items last.numbers.items either c.in_ok-found.ensures.marks before rows
+    numbers c.in_ok-last_pairs-in-Transition.ensures.last
