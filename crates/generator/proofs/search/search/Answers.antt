@@ -15,7 +15,7 @@ use Rattle.generator.specs.RandomTests.{seeded}
 use Rattle.generator.proofs.LeftClasses.{left_within}
 use Rattle.generator.proofs.RandomWords.{round_more, seeded_is}
 use Rattle.generator.proofs.Refusals.{round_refused}
-use Rattle.generator.proofs.Searches.{search_over, searching_along, searching_more, searching_none}
+use Rattle.generator.proofs.Searches.{enough_rounds, search_over, searching_along, searching_more, searching_none}
 use Rattle.generator.proofs.search.search.Goals.{then-len, else-len, then-is_empty-via-then-is_empty, then-is_empty-via-else-is_empty+then-quiet-ge-QUIET_BLOCKS, then-is_empty-via-else-is_empty+else-quiet-ge-QUIET_BLOCKS+then-count-room}
 use Rattle.generator.proofs.search.search.Goals as goal
 
@@ -57,6 +57,15 @@ returns-then-is_empty-clause-early g c =
     search_over c.args.job.now left.items kept room c.args.settings.seed c.min-blocks.result
     c.loop-round._round quiet c.circuit.ensures.together
     (omega (arith, c.room_of-room.ensures.some)) over was.searching
+
+pub returns-clause-early : goal.returns-clause-early
+returns-clause-early g c =
+    let start = c.args.job.now in
+    enough_rounds start.list.model start.circuit c.args.settings.seed c.min-blocks.result
+    (length start.classes.representative) c.loop-round.left.items c.loop-round.kept.tests
+    c.loop-round._round c.loop-round.quiet
+    (omega (arith, c.min-blocks.ensures, c.room_of-room.ensures.some))
+    (omega (arith, c.loop-round-test.false)) c.loop-round.invariant.searching
 
 pub returns-in_err-firsts-clause-refused : goal.returns-in_err-firsts-clause-refused
 returns-in_err-firsts-clause-refused g c =
