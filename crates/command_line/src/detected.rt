@@ -49,23 +49,25 @@ pub(crate) fn do_detections<'a, R: Threads + Wait, S: Source, W: Out>(
     let bench = read_option(alloc, matches, "bench", files)?;
     let tests = read_option(alloc, matches, "tests", files)?;
     let split = read_split(matches)?;
-    let done = match (split, format) {
-        (split, Some(format)) => {
+    let done = match format {
+        Some(format) => {
             histogram_table_in(
                 rt, alloc, model, &bench, &tests, split, most, workers, format, out,
             )
         }
-        (split, None) if matches.get_flag("histogram") => {
-            histogram_text_in(
-                rt, alloc, model, &bench, &tests, split, most, workers, list, out,
-            )
-        }
-        (Split::Whole, None) => {
-            detections_text_in(rt, alloc, model, &bench, &tests, most, workers, list, out)
-        }
-        (Split::Parts(_) | Split::Fitting, None) => detections_text_of_any_size(
-            rt, alloc, model, &bench, &tests, most, workers, list, out,
-        ),
+        None => match split {
+            split if matches.get_flag("histogram") => {
+                histogram_text_in(
+                    rt, alloc, model, &bench, &tests, split, most, workers, list, out,
+                )
+            }
+            Split::Whole => {
+                detections_text_in(rt, alloc, model, &bench, &tests, most, workers, list, out)
+            }
+            Split::Parts(_) | Split::Fitting => detections_text_of_any_size(
+                rt, alloc, model, &bench, &tests, most, workers, list, out,
+            ),
+        },
     };
     match done {
         Ok(()) => Ok(()),
