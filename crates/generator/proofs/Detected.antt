@@ -143,7 +143,8 @@ pub kept_early : (m : Model) (c : List Statement) (tests new : List (List Bool))
 kept_early m c tests new marks pairs room old own are none big has detects =
     let first = first_mark marks has in
     let f = detects first.0 first.1 in
-    go m (subst (λ p. AreKept tests marks p room old new) own are) first.0 first.1 first.2 f.0 f.1 f.2
+    go m (subst (λ p. AreKept tests marks p room old new) own are) first.0 first.1 first.2 f.0 f.1
+    f.2
   where
     go : (m : Model) → AreKept tests marks (in_pairs m) room old new → (t : ℕ)
         → IsMarked marks t → ((j : ℕ) → j < t → IsMarked marks j → ⊥) → (f : Fault)

@@ -204,7 +204,8 @@ zero_word n block word e =
 pub none_noted : (n : ℕ) (words : List ℕ) (marks : List Bool) → words ≡ replicate n 0
     → AreNoted words marks
 none_noted n words marks e = λ block word at ne.
-    absurd (ne (zero_word n block word (subst (λ (ws : List ℕ). slice_get ws block ≡ Some word) e at)))
+    let zeros = subst (λ (ws : List ℕ). slice_get ws block ≡ Some word) e at in
+    absurd (ne (zero_word n block word zeros))
 
 pub no_mark : (n : ℕ) (marks : List Bool) → marks ≡ replicate n false → HasMark marks → ⊥
 no_mark n marks e h =

@@ -70,7 +70,8 @@ searching_more job left firsts still old new room seed blocks round quiet next b
 
     go : IsSearching job.list.model job.circuit seed blocks n left old round quiet
         → IsSearching job.list.model job.circuit seed blocks n still new (round + 1) next
-    go (inl d) = inl (early_along job.list.model job.circuit old new (λ k row low e. stay k row e) d)
+    go (inl d) =
+        inl (early_along job.list.model job.circuit old new (λ k row low e. stay k row e) d)
     go (inr e) = pick (some_first firsts)
       where
         vain : ((t : ℕ) → HasFirst firsts t → ⊥)
@@ -155,7 +156,8 @@ enough_rounds m c seed blocks n left kept round quiet some long (inr e) =
     inr (inr (blocks, round, enough, e.tried))
 
 -- what a compaction of the best keeps
-pub compacted_some : (m : Model) (c : List Statement) (seed : ℕ) (found best kept : List (List Bool))
+pub compacted_some : (m : Model) (c : List Statement) (seed : ℕ)
+    (found best kept : List (List Bool))
     → (DetectsEarly m c found → DetectsSome m c best) → IsCompaction m c best kept
     → DetectsEarly m c found ⊎ FindsNone m c seed → DetectsSome m c kept ⊎ FindsNone m c seed
 compacted_some m c seed found best kept of_best is (inl d) =

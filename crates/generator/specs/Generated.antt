@@ -45,8 +45,8 @@ abbrev pub IsInVain : Model → List Statement → ℕ → ℕ → ℕ → Type 
 IsInVain m c seed blocks k = (tests : TestList) × IsRound seed (length (sources c)) blocks k tests
     × ¬ DetectsSome m c tests.tests
 
--- A search finds nothing if there is no fault, or if none of its random tests detects one. These are
--- the tests of the first rounds of its seed, all of the same size: at least 20 blocks.
+-- A search finds nothing if there is no fault, or if none of its random tests detects one. These
+-- are the tests of the first rounds of its seed, all of the same size: at least 20 blocks.
 abbrev pub FindsNone : Model → List Statement → ℕ → Type 0
 FindsNone m c seed = ((f : Fault) → ¬ Contains (faults m c) f)
     ⊎ ((blocks : ℕ) × (rounds : ℕ) × (20 ≤ rounds * blocks)

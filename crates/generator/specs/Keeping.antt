@@ -23,7 +23,7 @@ abbrev pub AreNoted : List ℕ → List Bool → Type 0
 AreNoted words marks = (block word : ℕ) → slice_get words block ≡ Some word → word ≢ 0
     → HasMark marks
 
--- this test is the first test of some class, from the first tests of classes
+-- this test is one of the first tests of classes
 abbrev pub HasFirst : List (Option ℕ) → ℕ → Type 0
 HasFirst firsts t = (k : ℕ) × (slice_get firsts k ≡ Some (Some t))
 
@@ -42,9 +42,9 @@ pub record IsFirstWanted (marks : List Bool) (pairs : Bool) (t : ℕ) : Type 0 w
   pub wanted : IsWanted marks pairs t
   pub first : (earlier : ℕ) → earlier < t → ¬ IsWanted marks pairs earlier
 
--- The wanted tests of a list are kept after the old ones, as far as there is room: all old tests stay,
--- and no test is new if none is wanted. If there is no old test, and room for two, the first wanted
--- test comes first, and the test after it in the list comes second, if it is wanted.
+-- The wanted tests of a list are kept after the old ones, as far as there is room: all old tests
+-- stay, and no test is new if none is wanted. If there is no old test, and room for two, the first
+-- wanted test comes first, and the test after it in the list comes second, if it is wanted.
 pub record AreKept (tests : List (List Bool)) (marks : List Bool) (pairs : Bool) (room : ℕ)
     (old new : List (List Bool)) : Type 0 where
   pub stay : (k : ℕ) (test : List Bool) → slice_get old k ≡ Some test

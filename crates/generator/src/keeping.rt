@@ -7,8 +7,8 @@ ghost use Rattle.patterns.specs.Tests.{blocks};
 ghost use Rattle.block_sim.specs.Parts.{HasRoom};
 ghost use Rattle.workers.specs.Verdict.{AreClassFirsts};
 ghost use Rattle.generator.specs.Generated.{DetectsEarly};
-ghost use Rattle.generator.specs.Keeping.{AreKept, AreNeeded, AreNoted, HasFirst, HasMark, IsMarked};
-ghost use Rattle.generator.specs.Keeping.{IsWanted, in_pairs};
+ghost use Rattle.generator.specs.Keeping.{AreKept, AreNeeded, AreNoted, HasFirst, HasMark};
+ghost use Rattle.generator.specs.Keeping.{IsMarked, IsWanted, in_pairs};
 
 use block_sim::{Job, Workspace, detecting};
 use fault_model::Model;

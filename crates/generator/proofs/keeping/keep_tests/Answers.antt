@@ -27,7 +27,8 @@ returns-clause-early c =
     let needed : AreNeeded firsts marks =
     subst (AreNeeded firsts) (sym c.deref.ensures.value) c.in_ok-marks.ensures in
     let own : pairs ≡ in_pairs job.list.model =
-    c.in_pairs-pairs.ensures ∙ ap in_pairs (c.model.ensures ∙ ap (λ l. l.model) c.faults.ensures.part) in
+    c.in_pairs-pairs.ensures
+    ∙ ap in_pairs (c.model.ensures ∙ ap (λ l. l.model) c.faults.ensures.part) in
     on_ok_weaker c.add_wanted.result
     (λ kept none big t has.
     round_early job c.args.classes.now firsts marks pairs c.args.room old.tests new.tests

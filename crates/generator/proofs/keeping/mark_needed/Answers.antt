@@ -3,7 +3,8 @@ use Rattle.std.proofs.lemmas.Option.{slice_get_within}
 use Rattle.generator.proofs.keeping.mark_needed.Goals as goal
 
 pub need_one-requires-clause-test : goal.need_one-requires-clause-test
-need_one-requires-clause-test c = c.requires.within c.in-Some.test (c.loop-place.place, c.in-Some.ensures)
+need_one-requires-clause-test c =
+    c.requires.within c.in-Some.test (c.loop-place.place, c.in-Some.ensures)
 
 pub returns : goal.returns
 returns c =

@@ -1,5 +1,5 @@
-use Rattle.std.proofs.Common.{◌≡◌, ◌<◌, ◌≤◌, ◌+◌, ◌*◌, ◌∙◌, ◌⊎◌, inl, inr, ℕ, List, All, length, refl}
-use Rattle.std.proofs.Common.{sym, ap, subst, arith, rules}
+use Rattle.std.proofs.Common.{◌≡◌, ◌<◌, ◌≤◌, ◌+◌, ◌*◌, ◌∙◌, ◌⊎◌, inl, inr, ℕ, List, All, length}
+use Rattle.std.proofs.Common.{refl, sym, ap, subst, arith, rules}
 use Rattle.std.proofs.lemmas.Bool.Decides.{nat_tests}
 use Rattle.bench_net.specs.Scan.{sources}
 use Rattle.bench_net.specs.Statement.{Statement}
@@ -15,8 +15,9 @@ use Rattle.generator.specs.RandomTests.{seeded}
 use Rattle.generator.proofs.LeftClasses.{left_within}
 use Rattle.generator.proofs.RandomWords.{round_more, seeded_is}
 use Rattle.generator.proofs.Refusals.{round_refused}
-use Rattle.generator.proofs.Searches.{enough_rounds, search_over, searching_along, searching_more, searching_none}
-use Rattle.generator.proofs.search.search.Goals.{then-len, else-len, then-is_empty-via-then-is_empty, then-is_empty-via-else-is_empty+then-quiet-ge-QUIET_BLOCKS, then-is_empty-via-else-is_empty+else-quiet-ge-QUIET_BLOCKS+then-count-room}
+use Rattle.generator.proofs.Searches.{enough_rounds, search_over, searching_along, searching_more}
+use Rattle.generator.proofs.Searches.{searching_none}
+use Rattle.generator.proofs.search.search.Goals.{then-len, else-len}
 use Rattle.generator.proofs.search.search.Goals as goal
 
 pub loop-round-init : goal.loop-round-init
@@ -47,11 +48,11 @@ returns-then-is_empty-clause-early g c =
     let room = c.room_of-room.result in
     let over : (length left.items ≡ 0) ⊎ ((20 ≤ quiet) ⊎ (room ≤ length kept)) =
     elim c.then-is_empty.branch [
-      | then-is_empty-via-then-is_empty w ↦
+      | goal.then-is_empty-via-then-is_empty w ↦
           inl (grind (arith, nat_tests, w.if-is_empty.ensures, left.ok.0))
-      | then-is_empty-via-else-is_empty+then-quiet-ge-QUIET_BLOCKS w ↦
+      | goal.then-is_empty-via-else-is_empty+then-quiet-ge-QUIET_BLOCKS w ↦
           inr (inl (omega (arith, w.if-quiet-ge-QUIET_BLOCKS.true)))
-      | then-is_empty-via-else-is_empty+else-quiet-ge-QUIET_BLOCKS+then-count-room w ↦
+      | goal.then-is_empty-via-else-is_empty+else-quiet-ge-QUIET_BLOCKS+then-count-room w ↦
           inr (inr (omega (arith, w.if-count-room.true, w.count.ensures)))
     ] in
     search_over c.args.job.now left.items kept room c.args.settings.seed c.min-blocks.result
@@ -71,7 +72,8 @@ pub returns-in_err-firsts-clause-refused : goal.returns-in_err-firsts-clause-ref
 returns-in_err-firsts-clause-refused g c =
     let was = c.loop-round.invariant in
     let job = c.take_random_tests.new.job in
-    let number = ap (λ (x : Collapsed). length x.representative) c.take_random_tests.ensures.classes in
+    let number =
+    ap (λ (x : Collapsed). length x.representative) c.take_random_tests.ensures.classes in
     let same = ap (λ (l : List ℕ). length l) c.deref.ensures.value in
     let less : length c.deref.result.now ≤ length job.classes.representative =
     omega (arith, number, same, was.few) in
@@ -143,7 +145,8 @@ loop-round-preserved g c =
     record {
       list = c.tests-tests.ensures.together.tests;
       made = subst
-          (λ s. IsMadeOf (length (sources start.circuit)) (64 * blocks) (next_words words s) job.tests)
+          (λ s.
+          IsMadeOf (length (sources start.circuit)) (64 * blocks) (next_words words s) job.tests)
           was.rest made;
     } in
     let is_round : IsRound seed (length (sources job.circuit)) blocks round job.tests =
