@@ -174,7 +174,10 @@ fn check_streams<'a, S: Source>(
 
 /// Returns the model that the command line names.
 pub(crate) fn read_model<'a>(matches: &ArgMatches<'a>) -> Result<Model, CommandError<'a>> {
-    match matches.get_str("model").and_then(model_named) {
+    let Some(name) = matches.get_str("model") else {
+        return Err(CommandError::Misused("--model"));
+    };
+    match model_named(name) {
         Some(model) => Ok(model),
         None => Err(CommandError::Misused("--model")),
     }
