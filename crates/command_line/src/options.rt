@@ -55,9 +55,7 @@ impl Task {
             Task::Curve => "Prints the coverage after each test that detects new faults",
             Task::Compact => "Writes fewer tests, which detect the same faults",
             Task::Responses => "Writes the fault-free response to each test",
-            Task::Schedule => {
-                "Simulates as run does, in a given order of moves, for tests of the simulator itself"
-            }
+            Task::Schedule => ABOUT_THE_ORDER,
             Task::Faults => "Lists all faults of a model with their classes",
             Task::Merge => "Makes the report of a run from its part files",
         }
@@ -170,6 +168,10 @@ static MERGE_CHOICES: [Choice; 7] = [
     Choice::FailUnder,
     Choice::PartTexts,
 ];
+
+/// The description of `schedule`.
+const ABOUT_THE_ORDER: &str =
+    "Simulates as run does, in a given order of moves, for tests of the simulator itself";
 
 /// The note on files after the options.
 const FILES: &str = "Each FILE is read whole. One FILE can be -, the standard input.";

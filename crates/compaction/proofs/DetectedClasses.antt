@@ -29,7 +29,8 @@ row_read rows class row at =
 pub has_blocks : (job : Parts) (rows : List (Vec ℕ Global)) → AreRows job rows
     → HasBlocks (record { words = words_of rows; tests = length job.tests.tests })
 has_blocks job rows are = λ class d lt.
-    let low : class < length rows = omega (arith, lt, length-map rows (λ (v : Vec ℕ Global). v.items)) in
+    let low : class < length rows =
+    omega (arith, lt, length-map rows (λ (v : Vec ℕ Global). v.items)) in
     let row = within_place rows class low in
     let at : slice_get (words_of rows) class ≡ Some (get_or (words_of rows) class d) =
     slice_get-get_or (words_of rows) class d lt in

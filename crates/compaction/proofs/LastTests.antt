@@ -1,6 +1,7 @@
 -- The last tests of the classes of a job.
 use Rattle.std.proofs.Common.{◌≡◌, ◌<◌, ◌≤◌, ◌+◌, ◌-◌, ◌*◌, ◌/◌, ◌∙◌, ◌⊎◌, ℕ, Bool, true, false}
-use Rattle.std.proofs.Common.{List, ap, arith, get_or, inl, inr, length, replicate, refl, subst, sym}
+use Rattle.std.proofs.Common.{List, ap, arith, get_or, inl, inr, length, replicate, refl}
+use Rattle.std.proofs.Common.{subst, sym}
 use Rattle.std.specs.Prelude.{◌||◌, Contains, None, Option, Some, slice_get, unwrap_or}
 use Rattle.std.specs.Bool.{Decides}
 use Rattle.std.proofs.lemmas.Bool.{cases_lt}
@@ -106,7 +107,8 @@ module _ (job : Parts) (class block word : ℕ)
     ),
   )
     where
-      go : (later : ℕ) → 64 * block + k < later → DetectsAt job.circuit job.tests.tests lanes.0 later
+      go : (later : ℕ) → 64 * block + k < later
+          → DetectsAt job.circuit job.tests.tests lanes.0 later
           → (later < 64 * (block + 1)) ⊎ (64 * (block + 1) ≤ later) → ⊥
       go later after d (inl low) =
           let le : 64 * block ≤ later = omega (arith, after) in

@@ -1,5 +1,6 @@
 -- Tests in steepest order, one after another.
-use Rattle.std.proofs.Common.{◌≡◌, ◌+◌, ◌<◌, ◌≤◌, ◌≢◌, ◌∙◌, ◌++◌, ◌∷◌, [], ℕ, zero, suc, Bool, true, false}
+use Rattle.std.proofs.Common.{◌≡◌, ◌+◌, ◌<◌, ◌≤◌, ◌≢◌, ◌∙◌, ◌++◌, ◌∷◌, [], ℕ, zero, suc}
+use Rattle.std.proofs.Common.{Bool, true, false}
 use Rattle.std.proofs.Common.{List, ap, arith, cond, count_by, get_or, inl, inr, length, not, refl}
 use Rattle.std.proofs.Common.{replicate, subst, sym, take, ◌⊎◌}
 use Rattle.std.specs.Prelude.{◌&&◌, ◌||◌, None, Some, slice_get}

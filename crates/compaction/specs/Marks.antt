@@ -23,8 +23,8 @@ pub record AreFinding (m : Model) (c : List Statement) (tests : List Test)
   pub found : (f : Fault) (t : ℕ) → Contains (faults m c) f → DetectsAt c tests f t
       → (s : ℕ) × IsFirst c tests f (Some s) × (slice_get marks s ≡ Some true)
 
--- the tests that are marked detect some fault, and each fault that a test detects is detected by one
--- of them
+-- the tests that are marked detect some fault, and each fault that a test detects is detected by
+-- one of them
 pub record AreDetecting (m : Model) (c : List Statement) (tests : List Test)
     (marks : List Bool) : Type 0 where
   pub count : length marks ≡ length tests

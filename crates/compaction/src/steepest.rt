@@ -41,7 +41,8 @@ fn all_news(alloc: Global, detections: &Detections) -> Result<Vec<usize>, AllocE
     ensures few { IfOk result (λ news. length news.items < 2 ^ 32) }
     ensures each { IfOk result (λ news. (t : ℕ) → t < detections.now.tests
         → slice_index_or news.items t 0
-        ≡ count_by (λ class. detects_by detections.now class t) (below (length detections.now.words))) }
+        ≡ count_by (λ class. detects_by detections.now class t)
+        (below (length detections.now.words))) }
 {
     let mut news = vec![in alloc; 0usize; detections.tests() as usize]?;
     for class in 0..detections.classes() {

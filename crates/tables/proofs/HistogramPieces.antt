@@ -1,7 +1,7 @@
 -- The rows of tables of a histogram, and from the histogram of a job to the table of the files that
 -- it was read from.
-use Rattle.std.proofs.Common.{◌≡◌, ◌<◌, ◌+◌, ◌∙◌, ◌++◌, [], ℕ, List, ap, arith, get_or, length, refl}
-use Rattle.std.proofs.Common.{subst, sym, take}
+use Rattle.std.proofs.Common.{◌≡◌, ◌<◌, ◌+◌, ◌∙◌, ◌++◌, [], ℕ, List, ap, arith, get_or, length}
+use Rattle.std.proofs.Common.{refl, subst, sym, take}
 use Rattle.std.proofs.lemmas.Option.{get_or_from_slice_get, slice_get-get_or, slice_get_within}
 use Rattle.std.specs.Prelude.{Some, codes, decimal, slice_get, zip}
 use Rattle.std.specs.List.{flat_map}

@@ -58,13 +58,15 @@ as_the_stem m c tests f s bit flag well listed same on told = (there, back)
     own_model = sym (listed_model m c f listed)
 
     there : flag ≡ true → IsActivated c tests f
-    there e = subst (λ k. IsActivated c tests (record { model = k; line = f.line; stuck = f.stuck }))
+    there e = subst
+        (λ k. IsActivated c tests (record { model = k; line = f.line; stuck = f.stuck }))
         own_model (subst (λ b. IsActivated c tests (record { model = m; line = f.line; stuck = b }))
         same (moved_on c (line.Stem s) f.line p.0 stem p.1 m tests bit (told.0 e)))
 
     back : IsActivated c tests f → flag ≡ true
     back h = told.1 (moved_on c f.line (line.Stem s) p.0 p.1 stem m tests bit
-        (subst (λ b. IsActivated c tests (record { model = m; line = f.line; stuck = b })) (sym same)
+        (subst (λ b. IsActivated c tests (record { model = m; line = f.line; stuck = b }))
+        (sym same)
         (subst (λ k. IsActivated c tests (record { model = k; line = f.line; stuck = f.stuck }))
         (sym own_model) h)))
 

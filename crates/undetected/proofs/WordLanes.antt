@@ -1,7 +1,7 @@
 -- What the operations on words of a block do in a lane.
 use Rattle.std.proofs.Common.{◌≡◌, ◌<◌, ◌≤◌, ◌^◌, ◌*◌, ◌/◌, ◌%◌, ◌+◌, ◌-◌, ◌∙◌, ◌&&◌, ◌||◌, ◌⊎◌, ℕ}
-use Rattle.std.proofs.Common.{◌≢◌, zero, suc, Bool, true, false, ap, arith, inl, inr, max, min, not, refl}
-use Rattle.std.proofs.Common.{subst, sym}
+use Rattle.std.proofs.Common.{◌≢◌, zero, suc, Bool, true, false, ap, arith, inl, inr, max, min}
+use Rattle.std.proofs.Common.{not, refl, subst, sym}
 use Rattle.std.specs.Prelude.{◌==◌, ◌↔◌, bit_and, bit_or}
 use Rattle.std.specs.Bool.{Decides}
 use Rattle.std.specs.Int.{bit_at, bit_not, trailing_zeros, w64}

@@ -13,7 +13,8 @@ returns c = λ k lt listed.
     let before = c.word_before.result in
     let bits : (t : ℕ) → suc t ≡ 64 * c.args.block + k
     → (lane before k ≡ c.args.bit) ↔ HasBit job.circuit
-    (slice_index_or job.tests.tests t []) (line.Stem c.args.signal) c.args.bit = λ t e. c.word_before.ensures k t c.args.bit lt e in
+    (slice_index_or job.tests.tests t []) (line.Stem c.args.signal) c.args.bit
+    = λ t e. c.word_before.ensures k t c.args.bit lt e in
     let fit = c.lanes_with-fits.ensures k lt in
     elim c.if-block-eq0.branch [
       | then-block-eq0 w ↦

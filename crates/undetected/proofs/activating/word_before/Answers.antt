@@ -9,7 +9,8 @@ returns c = λ k t bit lt e.
     let job = c.args.job.now in
     let s = c.args.signal in
     bits_before job.circuit job.tests.tests c.args.block k t s c.word.result c.if-block-eq0.last
-    c.one_lane_up.result bit c.circuit-circuit.ensures.together.circuit.well_formed c.requires.signal lt e
+    c.one_lane_up.result bit c.circuit-circuit.ensures.together.circuit.well_formed
+    c.requires.signal lt e
     c.word.ensures
     (λ j few. let one : suc j ≡ j + 1 = omega arith in ap (lane c.one_lane_up.result) one
     ∙ c.one_lane_up.ensures.later j few)
@@ -18,6 +19,7 @@ returns c = λ k t bit lt e.
       | then-block-eq0 w ↦ absurd (omega (arith, before, w.if-block-eq0.true))
       | else-block-eq0 w ↦
           let which : c.args.block - 1 ≡ b = omega (arith, before) in
-          rw (w.last-is) (subst (λ x. IsFaultFreeWord job.circuit job.tests.tests x s w.word-last.result)
+          rw (w.last-is) (subst
+          (λ x. IsFaultFreeWord job.circuit job.tests.tests x s w.word-last.result)
           which w.word-last.ensures)
     ])
