@@ -52,7 +52,7 @@ enum {
     FS_DONE,    /* the call did what it is for */
     FS_NO_JOB,  /* the handle has no job */
     FS_MEMORY,  /* memory ran out */
-    FS_REFUSED, /* a text or words are wrong; fs_fault tells why */
+    FS_REFUSED, /* a text or words are wrong; the fs_fault says why */
     FS_RANGE,   /* a number is out of range, or a length is not what it must be */
     FS_SHARED   /* another handle shares the job (fs_job_share) */
 };
@@ -111,7 +111,7 @@ void fs_job_free(fs_job *job);
  * that take tests return FS_SHARED; the last of them that is left takes tests again. */
 uint32_t fs_job_share(fs_job *job, fs_job *other);
 
-/* Tells how large the job is. */
+/* Writes the sizes of the job. */
 uint32_t fs_sizes_of(fs_job *job, fs_sizes *sizes);
 
 /* Takes tests in place of the job's. Words: for each block of 64 tests one for each source; bit k
@@ -122,70 +122,70 @@ uint32_t fs_set_words(fs_job *job, uint32_t count, const uint64_t *words, size_t
                       fs_fault *fault);
 uint32_t fs_set_text(fs_job *job, const uint8_t *text, size_t text_len, fs_fault *fault);
 
-/* Takes tests in words as fs_set_words does, but behind the job's last test: that is test 0 of the new
+/* Takes tests in words as fs_set_words does, but after the job's last test: that is test 0 of the new
  * list, and the new ones are tests 1, 2, .. So under FS_TRANSITION the pair of the last test and the
  * first new one isn't lost. If the job has no tests, all are new. */
 uint32_t fs_next_words(fs_job *job, uint32_t count, const uint64_t *words, size_t words_len,
                        fs_fault *fault);
 
-/* Tells the class of each fault, in the order in which `faultsim faults` lists them. classes_len is
- * the number of faults. */
+/* Writes the class of each fault, in the order of `faultsim faults`. classes_len is the number of
+ * faults. */
 uint32_t fs_classes_of(fs_job *job, uint32_t *classes, size_t classes_len);
 
-/* Tells the stem of each class: the signal at which the fanout-free region of its representative
+/* Writes the stem of each class: the signal at which the fanout-free region of its representative
  * ends. stems_len is the number of classes. A thread that simulates whole regions spares work. */
 uint32_t fs_stems_of(fs_job *job, uint32_t *stems, size_t stems_len);
 
-/* Tells the name of a signal, and in `wanted` how many bytes it has; no 0 follows it. If the text
- * has less room than that, the status is FS_RANGE, and `wanted` tells how much it takes. */
+/* Writes the name of a signal, and the number of its bytes in `wanted`; no 0 follows it. If the
+ * text has less room, the status is FS_RANGE, and `wanted` is the room that the name needs. */
 uint32_t fs_name_of(fs_job *job, uint32_t signal, uint8_t *text, size_t text_len, size_t *wanted);
 
-/* Tells the name of a fault, as each line of `faultsim faults` begins: `stem G1 sa0`, `pin G2 1 sa1`,
- * `data Q str`; no 0 follows it. `wanted` tells how many bytes it has, as of fs_name_of. */
+/* Writes the name of a fault, as each line of `faultsim faults` begins: `stem G1 sa0`, `pin G2 1 sa1`,
+ * `data Q str`; no 0 follows it. `wanted` is as in fs_name_of. */
 uint32_t fs_fault_text(fs_job *job, uint32_t fault, uint8_t *text, size_t text_len,
                        size_t *wanted);
 
-/* Tells the place of a signal in a test, from 0. The status is FS_RANGE if the signal is a gate's,
+/* Writes the place of a signal in a test, from 0. The status is FS_RANGE if the signal is a gate's,
  * or out of range. */
 uint32_t fs_source_of(fs_job *job, uint32_t signal, uint32_t *place);
 
-/* Tells the fault-free value of a signal: bit k of `word` is its value in test 64 * block + k. */
+/* Writes the fault-free value of a signal: bit k of `word` is its value in test 64 * block + k. */
 uint32_t fs_word(fs_job *job, uint32_t block, uint32_t signal, uint64_t *word);
 
-/* Tells the signal of each observer, and in `wanted` how many observers there are: the OUTPUT lines in
+/* Writes the signal of each observer, and the number of observers in `wanted`: the OUTPUT lines in
  * order, then the data pins of the flip-flops, in the order of the DFF lines. If the array has less
- * room than that, the status is FS_RANGE, and `wanted` tells how much it takes. */
+ * room, the status is FS_RANGE. */
 uint32_t fs_observers_of(fs_job *job, uint32_t *signals, size_t signals_len, size_t *wanted);
 
-/* Tells the fault-free values of the observers: words[block * observers + o] is the word of observer
- * o, as fs_word tells it. words_len is the number of blocks times that of observers. */
+/* Writes the fault-free values of the observers: words[block * observers + o] is the word of observer
+ * o, as from fs_word. words_len is the number of blocks times the number of observers. */
 uint32_t fs_responses(fs_job *job, uint64_t *words, size_t words_len);
 
-/* Tells for each class of a list the first test that detects it, or FS_NONE. The list may have any
+/* Writes for each class of a list the first test that detects it, or FS_NONE. The list may have any
  * order, and a class more than once. The lengths are equal. On any status but FS_DONE `firsts` is as
  * it was. */
 uint32_t fs_simulate(fs_job *job, const uint32_t *classes, size_t classes_len, uint32_t *firsts,
                      size_t firsts_len);
 
-/* Tells which tests of a block detect a class: bit k of `lanes` is 1 exactly if test
+/* Writes which tests of a block detect a class: bit k of `lanes` is 1 exactly if test
  * 64 * block + k does. */
 uint32_t fs_detecting(fs_job *job, uint32_t class_number, uint32_t block, uint64_t *lanes);
 
-/* Tells how many tests detect each class of a list; no more than `most` are counted of a class. The
- * lengths are equal. It takes no memory. */
+/* Counts the tests that detect each class of a list, up to `most` for a class. The lengths are equal.
+ * It takes no memory. */
 uint32_t fs_detections(fs_job *job, const uint32_t *classes, size_t classes_len, uint32_t most,
                        uint32_t *counts, size_t counts_len);
 
-/* Tells the report that `faultsim run` writes of the job, and in `wanted` how many bytes it has; no 0
- * follows it. `lines` tells which faults have a line, and with `classes` a last line tells the
- * coverage of the classes. If the text has less room, the status is FS_RANGE, and `wanted` tells how
- * much it takes. Each call simulates all classes. */
+/* Writes the report of `faultsim run` on the job, and the number of its bytes in `wanted`; no 0
+ * follows it. `lines` chooses which faults have a line; with `classes` a last line has the coverage
+ * of the classes. If the text has less room, the status is FS_RANGE, and `wanted` is the room that the
+ * report needs. Each call simulates all classes. */
 uint32_t fs_report(fs_job *job, uint32_t lines, bool classes, uint8_t *text, size_t text_len,
                    size_t *wanted);
 
-/* All in one call, without a handle: tells the first test of a text that detects each fault of a
- * circuit, or FS_NONE, and in `faults` the number of faults. If firsts_len is not that number, the
- * status is FS_RANGE, and `faults` tells the number nevertheless. If the model is out of range, and on
+/* All in one call, without a handle: writes the first test of a text that detects each fault of a
+ * circuit, or FS_NONE, and the number of faults in `faults`. If firsts_len is another number, the
+ * status is FS_RANGE, and `faults` is written nevertheless. If the model is out of range, and on
  * FS_MEMORY and FS_REFUSED, `faults` is as it was. */
 uint32_t fs_firsts(uint32_t model, const uint8_t *bench, size_t bench_len, const uint8_t *text,
                    size_t text_len, uint32_t *firsts, size_t firsts_len, uint32_t *faults,

@@ -165,7 +165,7 @@ public:
         return text([&](auto... room) { return fs_fault_text(&handle, fault, room...); });
     }
 
-    // Tells the place of a signal in a test, from 0, or none for the signal of a gate.
+    // Returns the place of a signal in a test, from 0, or none for the signal of a gate.
     std::optional<std::uint32_t> source_of(std::uint32_t signal) {
         std::uint32_t place = 0;
         std::uint32_t status = fs_source_of(&handle, signal, &place);
@@ -211,7 +211,7 @@ public:
         });
     }
 
-    // Tells for each class of a list the first test that detects it, or FS_NONE. The lengths are
+    // Returns for each class of a list the first test that detects it, or FS_NONE. The lengths are
     // equal.
     void simulate(std::span<const std::uint32_t> classes, std::span<std::uint32_t> firsts) {
         check(fs_simulate(&handle, at(classes), classes.size(), at(firsts), firsts.size()));
@@ -248,7 +248,7 @@ public:
 private:
     Job() = default;
 
-    // Returns the text of a call that tells in its last argument how many bytes it has.
+    // Returns the text of a call whose last argument gets the number of its bytes.
     static std::string text(auto call) {
         std::uint8_t nothing = 0;
         std::size_t wanted = 0;

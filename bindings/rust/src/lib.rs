@@ -129,7 +129,7 @@ impl Job {
         Ok(other)
     }
 
-    /// Tells how large the job is.
+    /// Returns the sizes of the job.
     pub fn sizes(&mut self) -> Sizes {
         let mut sizes = Sizes::default();
         // SAFETY: as above. A `Job` has a job, so the call is done.
@@ -168,7 +168,7 @@ impl Job {
         told(status, fault)
     }
 
-    /// Tells the class of each fault.
+    /// Returns the class of each fault.
     pub fn classes_of(&mut self) -> Vec<u32> {
         let mut of = vec![0; self.sizes().faults as usize];
         // SAFETY: as above, and the length is the number of faults.
@@ -176,7 +176,7 @@ impl Job {
         of
     }
 
-    /// Tells the stem of each class, the signal at which its fanout-free region ends.
+    /// Returns the stem of each class, the signal at which its fanout-free region ends.
     pub fn stems_of(&mut self) -> Vec<u32> {
         let mut stems = vec![0; self.sizes().classes as usize];
         // SAFETY: as above, and the length is the number of classes.
@@ -184,7 +184,7 @@ impl Job {
         stems
     }
 
-    /// Tells the name of a signal.
+    /// Returns the name of a signal.
     pub fn name_of(&mut self, signal: u32) -> Result<String, Error> {
         // SAFETY: as above; the call tests the number.
         self.text(|job, text, room, wanted| unsafe {
@@ -192,7 +192,7 @@ impl Job {
         })
     }
 
-    /// Tells the name of a fault, as each line of `faultsim faults` begins: `stem G1 sa0`.
+    /// Returns the name of a fault, as each line of `faultsim faults` begins: `stem G1 sa0`.
     pub fn fault_name(&mut self, fault: u32) -> Result<String, Error> {
         // SAFETY: as above; the call tests the number.
         self.text(|job, text, room, wanted| unsafe {
@@ -200,7 +200,7 @@ impl Job {
         })
     }
 
-    /// The text of a call that tells in its last argument how many bytes it has.
+    /// Returns the text of a call whose last argument gets the number of its bytes.
     fn text(
         &mut self,
         call: impl Fn(*mut Handle, *mut u8, usize, *mut usize) -> u32,
@@ -217,7 +217,7 @@ impl Job {
         }
     }
 
-    /// Tells the place of a signal in a test, from 0, or none for the signal of a gate.
+    /// Returns the place of a signal in a test, from 0, or none for the signal of a gate.
     pub fn source_of(&mut self, signal: u32) -> Option<u32> {
         let mut place = 0;
         // SAFETY: as above; the call tests the number.
@@ -236,7 +236,7 @@ impl Job {
         Ok(word)
     }
 
-    /// Tells the signal of each observer: the OUTPUT lines, and then the data pins of the flip-flops.
+    /// Returns the signal of each observer: the OUTPUT lines, and then the data pins of the flip-flops.
     pub fn observers(&mut self) -> Vec<u32> {
         let (mut signals, mut wanted) = (Vec::new(), 0);
         loop {
@@ -317,7 +317,7 @@ impl Job {
         Ok(counts)
     }
 
-    /// Tells how many faults the job's tests detect, and how many there are.
+    /// Returns the number of faults that the job's tests detect, and the number of all faults.
     pub fn coverage(&mut self) -> Result<(u32, u32), Error> {
         let firsts: Vec<_> = self.faults()?.map(|it| it.first).collect();
         let found = firsts.iter().filter(|it| it.is_some()).count();
@@ -355,12 +355,12 @@ pub struct FaultFirst {
     pub first: Option<u32>,
 }
 
-/// The test of a number, which tells that there is none if it is the greatest.
+/// The test of a number, none if the number is the greatest.
 fn some_test(first: u32) -> Option<u32> {
     (first != u32::MAX).then_some(first)
 }
 
-/// Tells the version of the calls in the library that is linked; this crate is for 1.
+/// Returns the version of the calls in the library that is linked; this crate is for 1.
 pub fn version() -> u32 {
     // SAFETY: the call takes nothing.
     unsafe { sys::fs_version() }

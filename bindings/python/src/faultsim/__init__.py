@@ -295,7 +295,7 @@ class Job:
         return stems
 
     def _text(self, function: Any, *numbers: Any) -> bytes:
-        """The bytes of a call that tells in its last argument how many they are."""
+        """Return the bytes of a call whose last argument gets their number."""
         wanted = ctypes.c_size_t()
         status = self._call(function, *numbers, b"", 0, wanted)
         if status != _library.RANGE or wanted.value == 0:
