@@ -122,9 +122,9 @@ uint32_t fs_set_words(fs_job *job, uint32_t count, const uint64_t *words, size_t
                       fs_fault *fault);
 uint32_t fs_set_text(fs_job *job, const uint8_t *text, size_t text_len, fs_fault *fault);
 
-/* Takes tests in words as fs_set_words does, but after the job's last test: that is test 0 of the new
- * list, and the new ones are tests 1, 2, .. So under FS_TRANSITION the pair of the last test and the
- * first new one isn't lost. If the job has no tests, all are new. */
+/* Takes tests in words as fs_set_words does, but after the job's last test: that is test 0 of the
+ * new list, and the new ones are tests 1, 2, .. So under FS_TRANSITION the pair of the last test
+ * and the first new one isn't lost. If the job has no tests, all are new. */
 uint32_t fs_next_words(fs_job *job, uint32_t count, const uint64_t *words, size_t words_len,
                        fs_fault *fault);
 
@@ -140,8 +140,8 @@ uint32_t fs_stems_of(fs_job *job, uint32_t *stems, size_t stems_len);
  * text has less room, the status is FS_RANGE, and `wanted` is the room that the name needs. */
 uint32_t fs_name_of(fs_job *job, uint32_t signal, uint8_t *text, size_t text_len, size_t *wanted);
 
-/* Writes the name of a fault, as each line of `faultsim faults` begins: `stem G1 sa0`, `pin G2 1 sa1`,
- * `data Q str`; no 0 follows it. `wanted` is as in fs_name_of. */
+/* Writes the name of a fault, as each line of `faultsim faults` begins: `stem G1 sa0`, `pin G2 1
+ * sa1`, `data Q str`; no 0 follows it. `wanted` is as in fs_name_of. */
 uint32_t fs_fault_text(fs_job *job, uint32_t fault, uint8_t *text, size_t text_len,
                        size_t *wanted);
 
@@ -157,13 +157,13 @@ uint32_t fs_word(fs_job *job, uint32_t block, uint32_t signal, uint64_t *word);
  * room, the status is FS_RANGE. */
 uint32_t fs_observers_of(fs_job *job, uint32_t *signals, size_t signals_len, size_t *wanted);
 
-/* Writes the fault-free values of the observers: words[block * observers + o] is the word of observer
- * o, as from fs_word. words_len is the number of blocks times the number of observers. */
+/* Writes the fault-free values of the observers: words[block * observers + o] is the word of
+ * observer o, as from fs_word. words_len is the number of blocks times the number of observers. */
 uint32_t fs_responses(fs_job *job, uint64_t *words, size_t words_len);
 
-/* Writes for each class of a list the first test that detects it, or FS_NONE. The list may have any
- * order, and a class more than once. The lengths are equal. On any status but FS_DONE `firsts` is as
- * it was. */
+/* Writes for each class of a list the first test that detects it, or FS_NONE. The list may have
+ * any order, and a class more than once. The lengths are equal. On any status but FS_DONE
+ * `firsts` is as it was. */
 uint32_t fs_simulate(fs_job *job, const uint32_t *classes, size_t classes_len, uint32_t *firsts,
                      size_t firsts_len);
 
@@ -171,15 +171,15 @@ uint32_t fs_simulate(fs_job *job, const uint32_t *classes, size_t classes_len, u
  * 64 * block + k does. */
 uint32_t fs_detecting(fs_job *job, uint32_t class_number, uint32_t block, uint64_t *lanes);
 
-/* Counts the tests that detect each class of a list, up to `most` for a class. The lengths are equal.
- * It takes no memory. */
+/* Counts the tests that detect each class of a list, up to `most` for a class. The lengths are
+ * equal. It takes no memory. */
 uint32_t fs_detections(fs_job *job, const uint32_t *classes, size_t classes_len, uint32_t most,
                        uint32_t *counts, size_t counts_len);
 
 /* Writes the report of `faultsim run` on the job, and the number of its bytes in `wanted`; no 0
- * follows it. `lines` chooses which faults have a line; with `classes` a last line has the coverage
- * of the classes. If the text has less room, the status is FS_RANGE, and `wanted` is the room that the
- * report needs. Each call simulates all classes. */
+ * follows it. `lines` chooses which faults have a line; with `classes` a last line has the
+ * coverage of the classes. If the text has less room, the status is FS_RANGE, and `wanted` is the
+ * room that the report needs. Each call simulates all classes. */
 uint32_t fs_report(fs_job *job, uint32_t lines, bool classes, uint8_t *text, size_t text_len,
                    size_t *wanted);
 
