@@ -1,5 +1,5 @@
 -- What is true at each step of a simulation by events, and what it tells. Each lane has a fault of
--- its own, so that a signal can be turned round in lanes in which it has either bit.
+-- its own, so that a signal can be complemented in lanes in which it has either bit.
 use Rattle.std.specs.Prelude.{◌≡◌, ◌≢◌, ◌⊎◌, ℕ, ◌<◌, ◌≤◌, Bool, true, false, not}
 use Rattle.std.specs.Prelude.{◌||◌, ◌==◌, nat_lt, List, Contains, Some, None}
 use Rattle.std.specs.Prelude.{count_by, slice_index_or, slice_set}

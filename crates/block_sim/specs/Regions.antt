@@ -1,5 +1,5 @@
--- Regions without fan-out: signals from which one way alone leads on, and what a signal that is
--- turned round does at their end.
+-- Regions without fan-out: signals from which one way alone leads on, and what complementing a
+-- signal does at their end.
 use Rattle.std.specs.Prelude.{◌≡◌, ◌≢◌, ◌↔◌, ◌==◌, ◌<◌, ◌≤◌, ◌+◌, ◌*◌, ℕ, Bool, true, false}
 use Rattle.std.specs.Prelude.{not, List, length, slice_get, option_map}
 use Rattle.std.specs.Prelude.{map, bit_and, slice_index_or, Contains, Option, Some, None}
@@ -113,16 +113,16 @@ HaveStems m c stems = (class r : ℕ) → slice_get stems class ≡ Some r
 abbrev pub flip : ℕ → Bool → Fault
 flip s bit = record { model = StuckAt; line = line.Stem s; stuck = not bit }
 
--- The test detects the signal turned round: stuck at the complement of the bit that it has without
+-- The test detects the complemented signal: stuck at the complement of the bit that it has without
 -- a fault.
 abbrev pub DetectsFlip : List Statement → Test → ℕ → Type 0
 DetectsFlip c t s = (bit : Bool) × HasBit c t (line.Stem s) bit × Detects c t (flip s bit)
 
--- the bits of a valuation, but one signal turned round
+-- the bits of a valuation, but one signal complemented
 abbrev pub complemented_at : List Statement → ℕ → (Name → Bool) → Name → Bool
 complemented_at c s v n = if signal c n == s then not (v n) else v n
 
--- The gate gives another bit where one signal is turned round and all others have the bits that
+-- The gate gives another bit where one signal is complemented and all others have the bits that
 -- they have without a fault.
 pub record Passes (c : List Statement) (t : Test) (s g : ℕ) : Type 0 where
   pub bits : Name → Bool
@@ -134,7 +134,7 @@ pub record Passes (c : List Statement) (t : Test) (s g : ℕ) : Type 0 where
   pub number : signal c name ≡ g
   pub differs : value kind (map (complemented_at c s bits) args) ≢ bits name
 
--- a signal that is turned round turns the next, and so on up to this one
+-- complementing a signal complements the next, and so on up to this one
 pub data Arrives (c : List Statement) (t : Test) : ℕ → ℕ → Type 0 where
   there : {s : ℕ} → Arrives c t s s
   over : {s g r : ℕ} → IsReadBy c g s → Passes c t s g → Arrives c t g r → Arrives c t s r
@@ -155,8 +155,8 @@ start_of (line.Stem s) = Some s
 start_of (line.Pin gate pin) = Some gate
 start_of _ = None
 
--- one step: a signal that one gate alone reads is detected turned round exactly where the gate
--- passes that on and is detected turned round
+-- one step: a signal that one gate alone reads is detected when complemented exactly where the gate
+-- passes that on and is detected when complemented
 abbrev pub StepLaw : List Statement → Type 0
 StepLaw c = (t : Test) (s g : ℕ) → IsReadBy c g s
     → DetectsFlip c t s ↔ (Passes c t s g × DetectsFlip c t g)
@@ -167,7 +167,7 @@ RegionLaw c = (t : Test) (s r : ℕ) → RunsTo c s r
     → DetectsFlip c t s ↔ (Arrives c t s r × DetectsFlip c t r)
 
 -- a fault on a stem or a gate's pin is detected exactly where it alters its first signal and that
--- is detected turned round
+-- is detected when complemented
 abbrev pub FaultLaw : List Statement → Type 0
 FaultLaw c = (m : Model) (f : Fault) (t : Test) (s : ℕ) → Contains (faults m c) f
     → start_of f.line ≡ Some s → Detects c t f ↔ (Alters c t f s × DetectsFlip c t s)
@@ -182,8 +182,8 @@ abbrev pub ObserverLaw : List Statement → Type 0
 ObserverLaw c = (m : Model) (f : Fault) (t : Test) → Contains (faults m c) f
     → start_of f.line ≡ None → Detects c t f ↔ HasBit c t f.line (not f.stuck)
 
--- Of the lanes of a mask a word tells those whose tests detect the signal turned round, each up to
--- the least that the word names; what it says of lanes above that is true where it says yes.
+-- Of the lanes of a mask a word has those whose tests detect the complemented signal, each up to
+-- the least that the word has; in lanes above that each 1 of it is right.
 pub record TellsFirstFlips (c : List Statement) (tests : List Test) (group mask s word : ℕ) :
     Type 0 where
   pub found : (k : ℕ) → k < 128 → lane mask k ≡ true → lane word k ≡ true
@@ -193,7 +193,7 @@ pub record TellsFirstFlips (c : List Statement) (tests : List Test) (group mask 
       → ¬ DetectsFlip c (test_of tests group k) s
 
 -- In the lanes of a mask a fault has come to a signal: a test detects the fault exactly where the
--- word has a 1 and the test detects the signal turned round.
+-- word has a 1 and the test detects the complemented signal.
 abbrev pub HasCome : List Statement → List Test → ℕ → Fault → ℕ → ℕ → ℕ → Type 0
 HasCome c tests group f mask s word = (k : ℕ) → k < 128 → lane mask k ≡ true
     → Detects c (test_of tests group k) f
@@ -205,8 +205,8 @@ AreLanesFor tests span c f lanes = (k : ℕ) → k < 128 → Decides (lane lanes
     (IsInSpan (length tests) span (128 * group_of span + k)
     × LooksBack c tests f.model f.line f.stuck (128 * group_of span + k))
 
--- On words: the lanes in which a fault has come to a signal and a word tells that the signal is
--- detected turned round, whatever the word says in other lanes. The least of them is the first test
+-- On words: the lanes in which a fault has come to a signal and a word says that the
+-- complemented signal is detected, whatever the word says in other lanes. The least of them is the first test
 -- of the span that detects the fault.
 abbrev pub LanesLaw : List Statement → Type 0
 LanesLaw c = (tests : List Test) (span : BlockSpan) (f : Fault) (s lanes arrived seen : ℕ)
@@ -221,6 +221,6 @@ IsReached c tests group f mask (Observed word) = (k : ℕ) → k < 128
     → Decides (lane word k) ((lane mask k ≡ true) × Detects c (test_of tests group k) f)
 IsReached c tests group f mask (Stem at) = HasCome c tests group f mask at.signal at.lanes
 
--- the faults that turn a signal round, each lane from the bit that the signal has there
+-- the faults that complement a signal, each lane from the bit that the signal has there
 abbrev pub flips : List ℕ → ℕ → ℕ → Fault
 flips good s k = flip s (lane (slice_index_or good s 0) k)

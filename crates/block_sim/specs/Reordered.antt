@@ -41,7 +41,7 @@ pub record HasSameActive (c d : List Statement) : Type 0 where
       → HasActiveByFlip c tests span s gates
       → HasActiveByFlip d tests span (place c d s) (map (place c d) gates)
 
--- the same tests detect a signal turned round, and the same is told of faults that come to it
+-- the same tests detect a complemented signal, and faults arrive at it in the same lanes
 pub record HasSameFlips (c d : List Statement) : Type 0 where
   pub detected : (t : Test) (s : ℕ) → DetectsFlip c t s ↔ DetectsFlip d t (place c d s)
   pub come : (tests : List Test) (group : ℕ) (f : Fault) (mask s word : ℕ)

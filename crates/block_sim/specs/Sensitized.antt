@@ -1,4 +1,4 @@
--- The lanes in which signals of a region, turned round, turn its stem round.
+-- The lanes in which complementing a signal of a region complements its stem.
 use Rattle.std.specs.Prelude.{◌≡◌, ◌↔◌, ℕ, ◌<◌, ◌≤◌, true, List, [], ◌∷◌, Some, None, length}
 use Rattle.std.specs.Prelude.{◌+◌, ◌*◌, Option, slice_index_or, vec_capacity}
 use Rattle.std.specs.Bool.{Decides}
@@ -17,8 +17,8 @@ use Rattle.block_sim.specs.Regions.{DetectsFlip, lone_reader}
 use Rattle.block_sim.specs.BlockSpans.{IsInSpan, group_of}
 use Rattle.block_sim.specs.Words.{lane, test_of, AreWords}
 
--- In the lanes of a mask a test detects a signal turned round exactly where the word has a 1 and
--- the test detects the stem turned round.
+-- In the lanes of a mask a test detects a complemented signal exactly where the word has a 1 and
+-- the test detects the complemented stem.
 abbrev pub CarriesFlip : List Statement → List Test → ℕ → ℕ → ℕ → ℕ → ℕ → Type 0
 CarriesFlip c tests group mask s stem word = (k : ℕ) → k < 128 → lane mask k ≡ true
     → DetectsFlip c (test_of tests group k) s

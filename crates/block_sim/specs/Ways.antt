@@ -1,6 +1,6 @@
 -- How many gates a call of a simulation evaluates at most: those on the way of each class that is
--- followed to the stem of its region, and those that the stem makes active where it is turned
--- round.
+-- followed to the stem of its region, and those that the stem makes active where it is
+-- complemented.
 use Rattle.std.specs.Prelude.{◌≡◌, ℕ, ◌+◌, ◌<◌, ◌&&◌, nat_lt, Bool, false, List, Contains}
 use Rattle.std.specs.Prelude.{Some, length, slice_get, if◌then◌else◌}
 use Rattle.std.specs.List.{enumerate_from, sum_by}
@@ -71,14 +71,14 @@ abbrev pub known_ways : (ℕ → ℕ) → ℕ → List Memo → ℕ
 known_ways way block memos =
     sum_by (λ at. if is_on block at.1 then way at.0 else 0) (enumerate_from 0 memos)
 
--- some test of the span makes the gate active, where the signal is turned round
+-- some test of the span makes the gate active, where the signal is complemented
 abbrev pub IsActiveByFlip : List Statement → List Test → BlockSpan → ℕ → ℕ → Type 0
 IsActiveByFlip c tests span s gate =
     (number : ℕ) × (t : Test) × (bit : Bool) × IsInSpan (length tests) span number
     × (slice_get tests number ≡ Some t) × HasBit c t (line.Stem s) bit
     × IsActiveBy c t (flip s bit) gate
 
--- the list names each gate that a signal makes active on the span where it is turned round
+-- the list names each gate that a signal makes active on the span where it is complemented
 abbrev pub HasActiveByFlip : List Statement → List Test → BlockSpan → ℕ → List ℕ → Type 0
 HasActiveByFlip c tests span s gates = (gate : ℕ) → IsActiveByFlip c tests span s gate
     → Contains gates gate

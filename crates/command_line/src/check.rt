@@ -27,13 +27,13 @@ pub(crate) fn do_check<'a, S: Source, W: Out, E: Out>(
     };
     let text = tests.as_ref().map(|tests| tests.as_slice());
     match check_texts(alloc, model, &bench, text) {
-        Ok(answer) => tell_answer(matches, &answer, out, err),
+        Ok(answer) => write_answer(matches, &answer, out, err),
         Err(AllocError) => Err(NO_MEMORY),
     }
 }
 
 /// Prints the result.
-fn tell_answer<'a, W: Out, E: Out>(
+fn write_answer<'a, W: Out, E: Out>(
     matches: &ArgMatches<'a>,
     answer: &Answer<'_>,
     out: &mut W,
@@ -46,14 +46,14 @@ fn tell_answer<'a, W: Out, E: Out>(
             }
             Ok(())
         }
-        Answer::BenchRefused(findings) => Err(tell_findings(matches, "bench", findings, err)),
-        Answer::TestsRefused(findings) => Err(tell_findings(matches, "tests", findings, err)),
-        Answer::TooManyPieces(excess) => Err(tell_excess(matches, excess, err)),
+        Answer::BenchRefused(findings) => Err(write_findings(matches, "bench", findings, err)),
+        Answer::TestsRefused(findings) => Err(write_findings(matches, "tests", findings, err)),
+        Answer::TooManyPieces(excess) => Err(write_excess(matches, excess, err)),
     }
 }
 
 /// Prints the errors of the file that an option names, and returns the first.
-fn tell_findings<'a, E: Out>(
+fn write_findings<'a, E: Out>(
     matches: &ArgMatches<'a>,
     option: &str,
     findings: &Findings<'_>,
@@ -70,7 +70,7 @@ fn tell_findings<'a, E: Out>(
 }
 
 /// Prints the excess of tests that are too many for one run, and returns the error.
-fn tell_excess<'a, E: Out>(
+fn write_excess<'a, E: Out>(
     matches: &ArgMatches<'a>,
     excess: &Excess,
     err: &mut E,

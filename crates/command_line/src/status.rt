@@ -44,7 +44,7 @@ pub(crate) const UNWRITTEN: CommandError<'static> = CommandError::Sim(SimFault::
 /// Memory is refused.
 pub(crate) const NO_MEMORY: CommandError<'static> = CommandError::Sim(SimFault::Memory);
 
-/// Returns the fault of the part text at a path. Want of memory is no fault of the text.
+/// Returns the error of the part text at a path. A refused allocation is no error of the text.
 pub(crate) fn part_fault(path: &str, fault: MergeFault) -> CommandError<'_> {
     match fault {
         MergeFault::Memory | MergeFault::Part(PartFault::Memory) => NO_MEMORY,
@@ -52,7 +52,7 @@ pub(crate) fn part_fault(path: &str, fault: MergeFault) -> CommandError<'_> {
     }
 }
 
-/// Returns the fault of part texts together. Want of memory is no fault of the texts.
+/// Returns the error of part texts together. A refused allocation is no error of the texts.
 pub(crate) fn merge_fault(fault: MergeFault) -> CommandError<'static> {
     match fault {
         MergeFault::Memory | MergeFault::Part(PartFault::Memory) => NO_MEMORY,

@@ -68,13 +68,13 @@ hit_found s h p n l hit =
 -- the result of a look at the next block of a class, if the blocks before it were clear
 pub record LooksAt (s : Shape) (class n : ℕ) (a d : Sitter) (x : PieceState) : Type 0 where
   pub within : n < block_count s
-  pub sees : Sees a a.told d
+  pub sees : Sees a a.exhausted d
   pub clear : AreClear s d.seen class n
   pub found : entry (piece_at s class n) d.seen ≡ x
 
 pub looks_at : (own s : Shape) (class n count : ℕ) (a b d : Sitter) (x : PieceState) → own ≡ s
-    → count ≡ block_count own → n < count → Sees a a.told b → AreClear s b.seen class n
-    → Sees b b.told d
+    → count ≡ block_count own → n < count → Sees a a.exhausted b → AreClear s b.seen class n
+    → Sees b b.exhausted d
     → x ≡ entry (class + own.classes * n) d.seen → LooksAt s class n a d x
 looks_at own s class n count a b d x is many l before clear sees e = record {
   within = subst (λ (y : Shape). n < block_count y) is (omega arith);

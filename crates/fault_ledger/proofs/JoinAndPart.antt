@@ -15,7 +15,7 @@ use Rattle.fault_ledger.specs.declared.words.Post.{Post}
 use Rattle.fault_ledger.specs.declared.words.View.{View}
 use Rattle.fault_ledger.specs.History.{piece_count}
 use Rattle.fault_ledger.specs.Face.{shape_fault}
-use Rattle.fault_ledger.specs.Words.{field, word_with, word_count, total, times, told_of, ForEach}
+use Rattle.fault_ledger.specs.Words.{field, word_with, word_count, total, times, exhausted_of, ForEach}
 use Rattle.fault_ledger.specs.Words.{Knows, IsKept, newcomer_posts, everybody, front, others}
 use Rattle.fault_ledger.specs.Words.{front_of, others_of, both_of, nobody}
 use Rattle.fault_ledger.proofs.SumsOverViews.{total-set, for_append, set_known}
@@ -27,9 +27,9 @@ length-newcomers : (w n : ℕ) → length (newcomer_posts w n) ≡ n
 length-newcomers w zero = refl
 length-newcomers w (suc n) = ap suc (length-newcomers (suc w) n)
 
-told-newcomers : (w n : ℕ) → told_of (newcomer_posts w n) ≡ 0
-told-newcomers w zero = refl
-told-newcomers w (suc n) = let i = told-newcomers (suc w) n in omega arith
+exhausted-newcomers : (w n : ℕ) → exhausted_of (newcomer_posts w n) ≡ 0
+exhausted-newcomers w zero = refl
+exhausted-newcomers w (suc n) = let i = exhausted-newcomers (suc w) n in omega arith
 
 times-before : (x w n : ℕ) → x < w → times x (newcomer_posts w n) ≡ 0
 times-before x w zero l = refl
@@ -106,9 +106,9 @@ part_length : (ps : List Post) → length (front ps) + length (others ps) ≡ le
 part_length [] = refl
 part_length (p ∷ ps) = omega arith
 
-part_told : (ps : List Post) → told_of (front ps) + told_of (others ps) ≡ told_of ps
-part_told [] = refl
-part_told (p ∷ ps) = omega arith
+part_exhausted : (ps : List Post) → exhausted_of (front ps) + exhausted_of (others ps) ≡ exhausted_of ps
+part_exhausted [] = refl
+part_exhausted (p ∷ ps) = omega arith
 
 part_times : (x : ℕ) (ps : List Post) → times x (front ps) + times x (others ps) ≡ times x ps
 part_times x [] = refl
@@ -128,8 +128,8 @@ splits s id v t kept at =
         sized = k.sized;
         marked = k.marked;
         counted = k.counted;
-        bounded = (let b = k.bounded in let e = part_total (λ v. told_of v.posts) t.views id v
-            (front_of v) (others_of v) at (part_told v.posts) in omega arith);
+        bounded = (let b = k.bounded in let e = part_total (λ v. exhausted_of v.posts) t.views id v
+            (front_of v) (others_of v) at (part_exhausted v.posts) in omega arith);
         staffed = (let b = k.staffed in let e = part_total (λ v. length v.posts) t.views id v
             (front_of v) (others_of v) at (part_length v.posts) in omega arith);
         apart = (λ x. let b = k.apart x in let e = part_total (λ v. times x v.posts) t.views id v
@@ -151,9 +151,9 @@ splits s id v t kept at =
     in_others P [] k = tt
     in_others P (p ∷ ps) k = k.1
 
-told-append : (ps qs : List Post) → told_of (ps ++ qs) ≡ told_of ps + told_of qs
-told-append [] qs = omega arith
-told-append (p ∷ ps) qs = let i = told-append ps qs in omega arith
+exhausted-append : (ps qs : List Post) → exhausted_of (ps ++ qs) ≡ exhausted_of ps + exhausted_of qs
+exhausted-append [] qs = omega arith
+exhausted-append (p ∷ ps) qs = let i = exhausted-append ps qs in omega arith
 
 times-append : (x : ℕ) (ps qs : List Post) → times x (ps ++ qs) ≡ times x ps + times x qs
 times-append x [] qs = omega arith
@@ -183,8 +183,8 @@ joins s id other v w same t kept at apart there =
         sized = k.sized;
         marked = k.marked;
         counted = k.counted;
-        bounded = (let q = k.bounded in let e = join_total (λ v. told_of v.posts) t.views id other v
-            w b nobody at there (told-append w.posts v.posts) refl in omega arith);
+        bounded = (let q = k.bounded in let e = join_total (λ v. exhausted_of v.posts) t.views id other v
+            w b nobody at there (exhausted-append w.posts v.posts) refl in omega arith);
         staffed = (let q = k.staffed in let e = join_total (λ v. length v.posts) t.views id other v
             w b nobody at there (length-append w.posts v.posts) refl in omega arith);
         apart = (λ x. let q = k.apart x in let e = join_total (λ v. times x v.posts) t.views id

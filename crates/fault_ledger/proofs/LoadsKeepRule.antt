@@ -10,7 +10,7 @@ use Rattle.fault_ledger.specs.declared.words.Post.{Post}
 use Rattle.fault_ledger.specs.declared.words.View.{View}
 use Rattle.fault_ledger.specs.History.{History, piece_count, claims, entry, ContinuesWithout}
 use Rattle.fault_ledger.specs.Answer.{IsLegal}
-use Rattle.fault_ledger.specs.Words.{code_of, field_in, field, total, times, told_of, ForEach}
+use Rattle.fault_ledger.specs.Words.{code_of, field_in, field, total, times, exhausted_of, ForEach}
 use Rattle.fault_ledger.specs.Words.{Knows, IsKeptBy, IsKept, see, Looks}
 use Rattle.fault_ledger.proofs.Histories.{held_goes_on, claims_past, goes_on_same}
 use Rattle.fault_ledger.proofs.ListsByPlace.{set_same}
@@ -28,8 +28,8 @@ pub look_keeps : (s : Shape) (h : History) (words : List ℕ) (views : List View
     → length now ≡ length words
     → ((p : ℕ) → p < piece_count s → field_in now p ≡ code_of (entry p h))
     → claims h ≡ min (slice_index now 0) (piece_count s)
-    → slice_index now 0 + told_of v.posts ≤ piece_count s + total
-    (λ v. told_of v.posts) views + told_of ps
+    → slice_index now 0 + exhausted_of v.posts ≤ piece_count s + total
+    (λ v. exhausted_of v.posts) views + exhausted_of ps
     → length ps ≡ length v.posts → ((x : ℕ) → times x ps ≡ times x v.posts)
     → ForEach (Knows s h v.shape) ps
     → IsKeptBy s h now (set views id (record { shape = v.shape; posts = ps }))
@@ -41,7 +41,7 @@ look_keeps s h words views kept id v at ps now len marked counted bounded long t
       sized = len ∙ kept.sized;
       marked = marked;
       counted = counted;
-      bounded = (let t = total-set (λ v. told_of v.posts) views id v w' at in omega arith);
+      bounded = (let t = total-set (λ v. exhausted_of v.posts) views id v w' at in omega arith);
       staffed = (let t = same_total (λ v. length v.posts) views id v w' at long in
           let k = kept.staffed in omega arith);
       apart = (λ x. let t = same_total (λ v. times x v.posts) views id v w' at (times_same x) in
@@ -70,11 +70,11 @@ see_knows s h words views kept shape (p ∷ ps) k = (
 )
 
 see_same : (h : History) (ps : List Post) → (length (see h ps) ≡ length ps)
-    × (told_of (see h ps) ≡ told_of ps) × ((x : ℕ) → times x (see h ps) ≡ times x ps)
+    × (exhausted_of (see h ps) ≡ exhausted_of ps) × ((x : ℕ) → times x (see h ps) ≡ times x ps)
 see_same h [] = (refl, refl, λ x. refl)
 see_same h (p ∷ ps) = let i = see_same h ps in (
   ap suc i.0,
-  ap (λ n. (if p.told then 1 else 0) + n) i.1,
+  ap (λ n. (if p.exhausted then 1 else 0) + n) i.1,
   λ x. ap (λ n. (if eqb p.worker x then 1 else 0) + n) (i.2 x),
 )
 
@@ -90,7 +90,7 @@ looks_allowed s slots id i shape p ps out t kept homes at lt =
     let mine : ForEach (Knows s h shape) (p ∷ ps) = k.known id v at in
     let same : set t.words i (slice_index t.words i) ≡ t.words = set_same t.words i in
     let w : View = record { shape = shape; posts = see h (p ∷ ps) } in
-    let told = (see_same h (p ∷ ps)).1 in
+    let exhausted = (see_same h (p ∷ ps)).1 in
     let k' : IsKeptBy s h t.words (set t.views id w) =
     look_keeps s h t.words t.views k id v at (see h (p ∷ ps)) t.words refl k.marked k.counted
     (let b = k.bounded in omega arith) (see_same h (p ∷ ps)).0 (see_same h (p ∷ ps)).2

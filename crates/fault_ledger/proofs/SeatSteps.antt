@@ -66,9 +66,9 @@ recalls_after s class known e h r = record {
       (λ o. true≢false (sym x ∙ ap is_hit o))) ∙ x;
 }
 
-pub remembers_sees : (a b : Sitter) (told : Bool) (clear : List Remembered) → Sees a told b
+pub remembers_sees : (a b : Sitter) (exhausted : Bool) (clear : List Remembered) → Sees a exhausted b
     → Remembers a clear → Remembers b clear
-remembers_sees a b told clear s r =
+remembers_sees a b exhausted clear s r =
     let h = b.seen in
     subst (λ (x : Sitter). Remembers x clear) (sym s.seat)
     (λ class. recalls_goes_on a.place.shape a.worker class
@@ -109,7 +109,7 @@ remembers_set a clear class n r now other = go (eqb other class) refl
         (r other)
 
 -- a seat that sees more
-pub sitter_sees : (a b : Sitter) → IsSitter a → Sees a a.told b → IsSitter b
+pub sitter_sees : (a b : Sitter) → IsSitter a → Sees a a.exhausted b → IsSitter b
 sitter_sees a b i s =
     let h = b.seen in
     subst IsSitter (sym s.seat) (record {
@@ -122,25 +122,25 @@ sitter_sees a b i s =
       );
     })
 
-pub seated_sees : (a b : Sitter) (worker : ℕ) (told : Bool) (classes : ℕ) (piece : Option ℕ)
-    (clear : List Remembered) → IsSeated a worker told classes piece clear → Sees a a.told b
-    → IsSeated b worker told classes piece clear
-seated_sees a b worker told classes piece clear i s = record {
+pub seated_sees : (a b : Sitter) (worker : ℕ) (exhausted : Bool) (classes : ℕ) (piece : Option ℕ)
+    (clear : List Remembered) → IsSeated a worker exhausted classes piece clear → Sees a a.exhausted b
+    → IsSeated b worker exhausted classes piece clear
+seated_sees a b worker exhausted classes piece clear i s = record {
   sitter = sitter_sees a b i.sitter s;
   worker_is = i.worker_is ∙ ap (λ (x : Sitter). x.worker) (sym s.seat);
-  told_is = i.told_is ∙ ap (λ (x : Sitter). x.told) (sym s.seat);
+  exhausted_is = i.exhausted_is ∙ ap (λ (x : Sitter). x.exhausted) (sym s.seat);
   classes_is = i.classes_is ∙ ap (λ (x : Sitter). x.place.shape.classes) (sym s.seat);
   piece_is = i.piece_is ∙ sym (held_goes_on a.worker b.seen a.seen s.newer)
       ∙ ap (λ (x : Sitter). held_by x.worker b.seen) (sym s.seat);
-  remembers = remembers_sees a b a.told clear s i.remembers;
+  remembers = remembers_sees a b a.exhausted clear s i.remembers;
 }
 
 -- a seat that gets Exhausted
-pub seated_ends : (a b : Sitter) (worker : ℕ) (told : Bool) (classes : ℕ) (piece : Option ℕ)
-    (clear : List Remembered) → IsSeated a worker told classes piece clear → piece ≡ None
+pub seated_ends : (a b : Sitter) (worker : ℕ) (exhausted : Bool) (classes : ℕ) (piece : Option ℕ)
+    (clear : List Remembered) → IsSeated a worker exhausted classes piece clear → piece ≡ None
     → Sees a true b → claims b.seen ≡ piece_count a.place.shape
     → IsSeated b worker true classes piece clear
-seated_ends a b worker told classes piece clear i none s all =
+seated_ends a b worker exhausted classes piece clear i none s all =
     let h = b.seen in
     let same = held_goes_on a.worker h a.seen s.newer in
     subst (λ (x : Sitter). IsSeated x worker true classes piece clear) (sym s.seat) (record {
@@ -151,7 +151,7 @@ seated_ends a b worker told classes piece clear i none s all =
         ended = λ t. (same ∙ sym i.piece_is ∙ none, all);
       };
       worker_is = i.worker_is;
-      told_is = refl;
+      exhausted_is = refl;
       classes_is = i.classes_is;
       piece_is = i.piece_is ∙ sym same;
       remembers = λ class. recalls_goes_on a.place.shape a.worker class
@@ -159,22 +159,22 @@ seated_ends a b worker told classes piece clear i none s all =
     })
 
 -- a seat that holds a piece has not got Exhausted
-pub untold : (a : Sitter) (worker : ℕ) (told : Bool) (classes : ℕ) (piece : Option ℕ)
-    (clear : List Remembered) (p : ℕ) → IsSeated a worker told classes piece clear → piece ≡ Some p
-    → a.told ≡ false
-untold a worker told classes piece clear p i e = go a.told refl
+pub untold : (a : Sitter) (worker : ℕ) (exhausted : Bool) (classes : ℕ) (piece : Option ℕ)
+    (clear : List Remembered) (p : ℕ) → IsSeated a worker exhausted classes piece clear → piece ≡ Some p
+    → a.exhausted ≡ false
+untold a worker exhausted classes piece clear p i e = go a.exhausted refl
   where
-    go : (b : Bool) → a.told ≡ b → b ≡ false
+    go : (b : Bool) → a.exhausted ≡ b → b ≡ false
     go false t = refl
     go true t = let q : Some p ≡ None = sym e ∙ i.piece_is ∙ (i.sitter.ended t).0 in absurd (cc)
 
 -- a seat after an event of its own
-pub seated_makes : (a b : Sitter) (e : Event) (r : Reply) (worker : ℕ) (told : Bool) (classes : ℕ)
+pub seated_makes : (a b : Sitter) (e : Event) (r : Reply) (worker : ℕ) (exhausted : Bool) (classes : ℕ)
     (piece now : Option ℕ) (clear : List Remembered)
-    → IsSeated a worker told classes piece clear → a.told ≡ false → Makes a e r b
-    → held_by a.worker b.seen ≡ now → IsSeated b worker told classes now clear
-seated_makes a b e r worker told classes piece now clear i free m holds =
-    subst (λ (x : Sitter). IsSeated x worker told classes now clear) (sym m.seat) (record {
+    → IsSeated a worker exhausted classes piece clear → a.exhausted ≡ false → Makes a e r b
+    → held_by a.worker b.seen ≡ now → IsSeated b worker exhausted classes now clear
+seated_makes a b e r worker exhausted classes piece now clear i free m holds =
+    subst (λ (x : Sitter). IsSeated x worker exhausted classes now clear) (sym m.seat) (record {
       sitter = record {
         limits = i.sitter.limits;
         among = i.sitter.among;
@@ -182,7 +182,7 @@ seated_makes a b e r worker told classes piece now clear i free m holds =
         ended = λ t. absurd (true≢false (sym t ∙ free));
       };
       worker_is = i.worker_is;
-      told_is = i.told_is;
+      exhausted_is = i.exhausted_is;
       classes_is = i.classes_is;
       piece_is = sym holds ∙ ap (λ (x : Sitter). held_by a.worker x.seen) m.seat;
       remembers = subst (λ (x : Sitter). Remembers x clear) m.seat
@@ -217,24 +217,24 @@ dropped_free a b r m =
     ∙ ap (λ y. if y then None else held_by a.worker m.before) (eq-eqb a.worker a.worker refl)
 
 -- a piece that a seat holds is one of the pieces
-pub seated_piece : (a : Sitter) (worker : ℕ) (told : Bool) (classes : ℕ) (piece : Option ℕ)
-    (clear : List Remembered) (p : ℕ) → IsSeated a worker told classes piece clear → piece ≡ Some p
+pub seated_piece : (a : Sitter) (worker : ℕ) (exhausted : Bool) (classes : ℕ) (piece : Option ℕ)
+    (clear : List Remembered) (p : ℕ) → IsSeated a worker exhausted classes piece clear → piece ≡ Some p
     → p < piece_count a.place.shape
-seated_piece a worker told classes piece clear p i e =
+seated_piece a worker exhausted classes piece clear p i e =
     held_piece a.place.shape a.worker p a.seen i.sitter.legal (sym i.piece_is ∙ e)
 
 -- the piece that a seat holds is one
-pub seated_same : (a b : Sitter) (worker : ℕ) (told : Bool) (classes : ℕ) (piece : Option ℕ)
+pub seated_same : (a b : Sitter) (worker : ℕ) (exhausted : Bool) (classes : ℕ) (piece : Option ℕ)
     (clear : List Remembered)
-    (p q : ℕ) → IsSeated a worker told classes piece clear → a ≡ b → piece ≡ Some p
+    (p q : ℕ) → IsSeated a worker exhausted classes piece clear → a ≡ b → piece ≡ Some p
     → held_by b.worker b.seen ≡ Some q → q ≡ p
-seated_same a b worker told classes piece clear p q i view is holds =
+seated_same a b worker exhausted classes piece clear p q i view is holds =
     let e : Some q ≡ Some p =
     sym holds ∙ ap (λ (x : Sitter). held_by x.worker x.seen) (sym view) ∙ sym i.piece_is ∙ is in
     cc
 
 -- looks, and then an event
-pub makes_after : (a b d : Sitter) (e : Event) (r : Reply) → Sees a a.told b → Makes b e r d
+pub makes_after : (a b d : Sitter) (e : Event) (r : Reply) → Sees a a.exhausted b → Makes b e r d
     → Makes a e r d
 makes_after a b d e r s m =
     let h = b.seen in
@@ -248,17 +248,17 @@ makes_after a b d e r s m =
     }
 
 -- the same looks twice
-pub sees_twice : (a b d : Sitter) → Sees a a.told b → Sees b b.told d → Sees a a.told d
+pub sees_twice : (a b d : Sitter) → Sees a a.exhausted b → Sees b b.exhausted d → Sees a a.exhausted d
 sees_twice a b d s t =
     let h = b.seen in
-    let go = subst (λ (x : Sitter). Sees x x.told d) s.seat t in
+    let go = subst (λ (x : Sitter). Sees x x.exhausted d) s.seat t in
     record {
       seat = go.seat;
       newer = goes_on_twice a.worker d.seen h a.seen go.newer s.newer;
       legal = go.legal;
     }
 
-pub sees_same : (a : Sitter) → IsSitter a → Sees a a.told a
+pub sees_same : (a : Sitter) → IsSitter a → Sees a a.exhausted a
 sees_same a i = record { seat = refl; newer = goes_on_same a.worker a.seen; legal = i.legal }
 
 -- the replies after the history that a seat has seen
@@ -286,13 +286,13 @@ exhausted_at a h i e all =
     else Claimed claim_is.Exhausted) (le-ltb (claims h) (piece_count s) few))
 
 -- the piece of a seat after it has seen more
-pub held_sees : (a b : Sitter) → Sees a a.told b → held_by b.worker b.seen ≡ held_by a.worker a.seen
+pub held_sees : (a b : Sitter) → Sees a a.exhausted b → held_by b.worker b.seen ≡ held_by a.worker a.seen
 held_sees a b s = let h = b.seen in ap (λ (x : Sitter). held_by x.worker h) s.seat
     ∙ held_goes_on a.worker h a.seen s.newer
 
 -- a drop that finds no hit
 pub finds_nothing : (a b : Sitter) (p : ℕ) → IsSitter a → held_by a.worker a.seen ≡ Some p
-    → Sees a a.told b
+    → Sees a a.exhausted b
     → (at : History) × ContinuesWithout a.worker at a.seen × ContinuesWithout a.worker b.seen at
     × (has_earlier_hit a.place.shape at p ≡ false) → FindsNoHit a b
 finds_nothing a b p i e s x = record {
@@ -305,10 +305,10 @@ finds_nothing a b p i e s x = record {
 }
 
 -- the place of its seat stays
-pub sees_kept : (a b : Sitter) → Sees a a.told b
-    → (b.place ≡ a.place) × (b.worker ≡ a.worker) × (b.told ≡ a.told)
+pub sees_kept : (a b : Sitter) → Sees a a.exhausted b
+    → (b.place ≡ a.place) × (b.worker ≡ a.worker) × (b.exhausted ≡ a.exhausted)
 sees_kept a b sees = (
   ap (λ (x : Sitter). x.place) sees.seat,
   ap (λ (x : Sitter). x.worker) sees.seat,
-  ap (λ (x : Sitter). x.told) sees.seat,
+  ap (λ (x : Sitter). x.exhausted) sees.seat,
 )

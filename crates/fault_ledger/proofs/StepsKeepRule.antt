@@ -24,11 +24,11 @@ use Rattle.fault_ledger.specs.History.{History, piece_count, block_of, worker_of
 use Rattle.fault_ledger.specs.History.{held_by, holds, entry}
 use Rattle.fault_ledger.specs.Answer.{fits_size, has_earlier_hit, events_of, after, call_of}
 use Rattle.fault_ledger.specs.Words.{code_of, field, field_in, in_field, word_with, total, times}
-use Rattle.fault_ledger.specs.Words.{told_of, ForEach, Knows, IsKeptBy, IsKept, one, post, Claims}
+use Rattle.fault_ledger.specs.Words.{exhausted_of, ForEach, Knows, IsKeptBy, IsKept, one, post, Claims}
 use Rattle.fault_ledger.specs.Words.{Reports, Drops}
 use Rattle.fault_ledger.proofs.Histories.{held_goes_on, held-holds, held_open, holds-not}
 use Rattle.fault_ledger.proofs.Histories.{goes_on_same}
-use Rattle.fault_ledger.proofs.SumsOverViews.{total-two, total-mono, told-length, times-none}
+use Rattle.fault_ledger.proofs.SumsOverViews.{total-two, total-mono, exhausted-length, times-none}
 use Rattle.fault_ledger.proofs.SumsOverViews.{for_each, set_known}
 use Rattle.fault_ledger.proofs.Acceptance.{claim_answer, report_answer, drop_answer, hit_goes_on}
 use Rattle.fault_ledger.proofs.LoadsKeepRule.{same_total, look_keeps}
@@ -44,15 +44,15 @@ Goes {S} s t id me i f after_it = (w : View) × (a : Act S) × Valid t.homes me.
     × after_it (slice_index t.words i) (w, carried_after me.1 a)
 
 -- the workers of another view are others
-others_apart : (s : Shape) (views : List View) (id j w : ℕ) (told : Bool) (seen : History)
+others_apart : (s : Shape) (views : List View) (id j w : ℕ) (exhausted : Bool) (seen : History)
     (u : View) → ((x : ℕ) → total (λ v. times x v.posts) views ≤ 1)
-    → get_elem? views id ≡ some (one s w told seen) → j ≢ id → get_elem? views j ≡ some u
+    → get_elem? views id ≡ some (one s w exhausted seen) → j ≢ id → get_elem? views j ≡ some u
     → ForEach (λ p. p.worker ≢ w) u.posts
-others_apart s views id j w told seen u apart at n there =
-    let two = total-two (λ v. times w v.posts) views id j (one s w told seen) u
+others_apart s views id j w exhausted seen u apart at n there =
+    let two = total-two (λ v. times w v.posts) views id j (one s w exhausted seen) u
     (λ e. n (sym e)) at there in
     let here : eqb w w ≡ true = eq-eqb w w refl in
-    let once : times w (one s w told seen).posts ≡ 1 = ap (λ b. (if b then 1 else 0) + 0) here in
+    let once : times w (one s w exhausted seen).posts ≡ 1 = ap (λ b. (if b then 1 else 0) + 0) here in
     let most = apart w in
     times-none w u.posts (omega arith)
 
@@ -73,11 +73,11 @@ others_know s h e u =
       done = k.done;
     })
 
-told_total : (s : Shape) (h : History) (words : List ℕ) (views : List View)
-    → IsKeptBy s h words views → total (λ v. told_of v.posts) views ≤ s.workers
-told_total s h words views kept =
+exhausted_total : (s : Shape) (h : History) (words : List ℕ) (views : List View)
+    → IsKeptBy s h words views → total (λ v. exhausted_of v.posts) views ≤ s.workers
+exhausted_total s h words views kept =
     let a =
-    total-mono (λ v. told_of v.posts) (λ v. length v.posts) views (λ v. told-length v.posts) in
+    total-mono (λ v. exhausted_of v.posts) (λ v. length v.posts) views (λ v. exhausted-length v.posts) in
     let b = kept.staffed in
     omega arith
 
@@ -86,42 +86,42 @@ off b x y = absurd (cc)
 
 -- at a state that keeps the rule, a view of one worker
 module _ (s : Shape) (h : History) (words : List ℕ) (views : List View)
-    (kept : IsKeptBy s h words views) (id w : ℕ) (told : Bool) (seen : History)
-    (at : get_elem? views id ≡ some (one s w told seen)) where
-  knows : Knows s h s (post w told seen)
-  knows = (kept.known id (one s w told seen) at).0
+    (kept : IsKeptBy s h words views) (id w : ℕ) (exhausted : Bool) (seen : History)
+    (at : get_elem? views id ≡ some (one s w exhausted seen)) where
+  knows : Knows s h s (post w exhausted seen)
+  knows = (kept.known id (one s w exhausted seen) at).0
 
   -- the rule after one event of the worker
-  event_keeps : told ≡ false → (e : Event) (now : List ℕ) → worker_of e ≡ w
+  event_keeps : exhausted ≡ false → (e : Event) (now : List ℕ) → worker_of e ≡ w
       → after s h (call_of e) ≡ e ∷ h
       → length now ≡ length words
       → ((p : ℕ) → p < piece_count s → field_in now p ≡ code_of (entry p (e ∷ h)))
       → claims (e ∷ h) ≡ min (slice_index now 0) (piece_count s)
-      → slice_index now 0 ≤ piece_count s + total (λ v. told_of v.posts) views
-      → IsKeptBy s (e ∷ h) now (set views id (one s w told (e ∷ h)))
+      → slice_index now 0 ≤ piece_count s + total (λ v. exhausted_of v.posts) views
+      → IsKeptBy s (e ∷ h) now (set views id (one s w exhausted (e ∷ h)))
   event_keeps untold e now by accepts len marked counted bounded =
-      let v = one s w told seen in
-      let w' = one s w told (e ∷ h) in
+      let v = one s w exhausted seen in
+      let w' = one s w exhausted (e ∷ h) in
       record {
         limits = kept.limits;
         legal = (accepts, kept.legal);
         sized = len ∙ kept.sized;
         marked = marked;
         counted = counted;
-        bounded = (let t = same_total (λ v. told_of v.posts) views id v w' at refl in omega arith);
+        bounded = (let t = same_total (λ v. exhausted_of v.posts) views id v w' at refl in omega arith);
         staffed = (let t = same_total (λ v. length v.posts) views id v w' at refl in
             let k = kept.staffed in omega arith);
         apart = (λ x. let t = same_total (λ v. times x v.posts) views id v w' at refl in
             let k = kept.apart x in omega arith);
         known = set_known s (e ∷ h) views id w'
             (λ j u n there. others_know s h e u (subst (λ x. ForEach (λ p. p.worker ≢ x) u.posts)
-            (sym by) (others_apart s views id j w told seen u kept.apart at n there))
+            (sym by) (others_apart s views id j w exhausted seen u kept.apart at n there))
             (kept.known j u there)) (
               record {
                 same = refl;
                 among = knows.among;
                 newer = goes_on_same w (e ∷ h);
-                done = λ t. absurd (off told untold t);
+                done = λ t. absurd (off exhausted untold t);
               },
               tt,
             );
@@ -131,10 +131,10 @@ module _ (s : Shape) (h : History) (words : List ℕ) (views : List View)
   held_still = held_goes_on w h seen knows.newer
 
   -- a worker that holds a piece has not got Exhausted
-  holder_untold : (p : ℕ) → held_by w seen ≡ Some p → told ≡ false
-  holder_untold p holds = go told refl
+  holder_untold : (p : ℕ) → held_by w seen ≡ Some p → exhausted ≡ false
+  holder_untold p holds = go exhausted refl
     where
-      go : (b : Bool) → told ≡ b → told ≡ false
+      go : (b : Bool) → exhausted ≡ b → exhausted ≡ false
       go true t = let x = (knows.done t).0 in absurd (cc)
       go false t = t
 
@@ -186,7 +186,7 @@ module _ {S : Type 0} (s : Shape) (slots id w : ℕ) (seen : History) (out : Lis
       let n = slice_index t.words 0 in
       let small = shape_small s kept.limits in
       let bounded = kept.bounded in
-      let told = told_total s h t.words t.views kept in
+      let exhausted = exhausted_total s h t.words t.views kept in
       let mine = knows s h t.words t.views kept id w false seen at in
       let next : (n + 1) % 2 ^ 64 ≡ n + 1 = next-small n (omega arith) in
       let counted : claims h ≡ piece_count s = kept.counted ∙ min-eq_right (omega arith) in
@@ -250,10 +250,10 @@ fits_small outcome.Clear size fits l = omega arith
 fits_small (outcome.Hit k) size fits l = let a = ltb-true k size fits in omega arith
 
 -- a report or a drop of the piece that a worker holds
-module _ {S : Type 0} (s : Shape) (slots id w p : ℕ) (told : Bool) (seen : History)
+module _ {S : Type 0} (s : Shape) (slots id w p : ℕ) (exhausted : Bool) (seen : History)
     (out : List (ℕ × S)) (holding : held_by w seen ≡ Some p) where
   abbrev me' : Me S View
-  me' = (one s w told seen, out)
+  me' = (one s w exhausted seen, out)
 
   settles : (e : Event) (x : PieceState) (t : State S View) (h : History)
       (kept : IsKeptBy s h t.words t.views) → get_elem? t.views id ≡ some me'.0 → worker_of e ≡ w
@@ -262,15 +262,15 @@ module _ {S : Type 0} (s : Shape) (slots id w p : ℕ) (told : Bool) (seen : His
       → ((q : ℕ) → entry q (e ∷ h) ≡ (if holds w q h then x else entry q h)) → p < piece_count s
       → code_of x < 256
       → IsKeptBy s (e ∷ h) (marked_words t.words p (code_of x))
-      (set t.views id (one s w told (e ∷ h)))
+      (set t.views id (one s w exhausted (e ∷ h)))
   settles e x t h kept at by accepts same entries below small =
       let now = marked_words t.words p (code_of x) in
-      let here : held_by w h ≡ Some p = held_still s h t.words t.views kept id w told seen at
+      let here : held_by w h ≡ Some p = held_still s h t.words t.views kept id w exhausted seen at
       ∙ holding in
       let sized = kept.sized in
       let first : slice_index now 0 ≡ slice_index t.words 0 = marked_cursor t.words p (code_of x) in
-      event_keeps s h t.words t.views kept id w told seen at
-      (holder_untold s h t.words t.views kept id w told seen at p holding) e now by accepts
+      event_keeps s h t.words t.views kept id w exhausted seen at
+      (holder_untold s h t.words t.views kept id w exhausted seen at p holding) e now by accepts
       (length-set t.words (word_with p)
       (bit_or (slice_index t.words (word_with p)) (in_field p (code_of x))))
       (λ q l. made p q h w t.words x (entry q (e ∷ h)) here (omega arith) small
@@ -285,7 +285,7 @@ module _ {S : Type 0} (s : Shape) (slots id w p : ℕ) (told : Bool) (seen : His
   by_sum c T below small allowed t kept homes at lt =
       let h = kept.0 in
       let n = slice_index t.words (word_with p) in
-      let here : held_by w h ≡ Some p = held_still s h t.words t.views kept.1 id w told seen at
+      let here : held_by w h ≡ Some p = held_still s h t.words t.views kept.1 id w exhausted seen at
       ∙ holding in
       let free : field n (p % 8) ≡ 0 = kept.1.marked p below ∙ ap code_of (held_open w p h here) in
       subst (λ m. (v : View) × (a : Act S) × Valid t.homes me'.1 a
@@ -300,13 +300,13 @@ module _ {S : Type 0} (s : Shape) (slots id w p : ℕ) (told : Bool) (seen : His
   reports_by_or o below fits t kept homes at lt =
       let h = kept.0 in
       let e = Event.Report w o in
-      let mine = knows s h t.words t.views kept.1 id w told seen at in
-      let here : held_by w h ≡ Some p = held_still s h t.words t.views kept.1 id w told seen at
+      let mine = knows s h t.words t.views kept.1 id w exhausted seen at in
+      let here : held_by w h ≡ Some p = held_still s h t.words t.views kept.1 id w exhausted seen at
       ∙ holding in
       let accepts : after s h (call.Report w o) ≡ e ∷ h =
       ap (λ r. events_of (call.Report w o) r ++ h)
       (report_answer s h w p o mine.among here fits) in (
-        one s w told (e ∷ h),
+        one s w exhausted (e ∷ h),
         keeps,
         tt,
         (
@@ -331,12 +331,12 @@ module _ {S : Type 0} (s : Shape) (slots id w p : ℕ) (told : Bool) (seen : His
   drops_by_or below hit t kept homes at lt =
       let h = kept.0 in
       let e = Event.Drop w in
-      let mine = knows s h t.words t.views kept.1 id w told seen at in
-      let here : held_by w h ≡ Some p = held_still s h t.words t.views kept.1 id w told seen at
+      let mine = knows s h t.words t.views kept.1 id w exhausted seen at in
+      let here : held_by w h ≡ Some p = held_still s h t.words t.views kept.1 id w exhausted seen at
       ∙ holding in
       let accepts : after s h (call.Drop w) ≡ e ∷ h = ap (λ r. events_of (call.Drop w) r ++ h)
       (drop_answer s h w p mine.among here (hit_goes_on s w p h seen mine.newer hit)) in (
-        one s w told (e ∷ h),
+        one s w exhausted (e ∷ h),
         keeps,
         tt,
         (

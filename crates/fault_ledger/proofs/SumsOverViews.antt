@@ -9,7 +9,7 @@ use Rattle.fault_ledger.specs.declared.Shape.{Shape}
 use Rattle.fault_ledger.specs.declared.words.Post.{Post}
 use Rattle.fault_ledger.specs.declared.words.View.{View}
 use Rattle.fault_ledger.specs.History.{History}
-use Rattle.fault_ledger.specs.Words.{total, times, told_of, ForEach, Knows}
+use Rattle.fault_ledger.specs.Words.{total, times, exhausted_of, ForEach, Knows}
 
 pub total-set : (f : View → ℕ) (vs : List View) (i : ℕ) (v w : View) → get_elem? vs i ≡ some v
     → total f (set vs i w) + f v ≡ total f vs + f w
@@ -39,11 +39,11 @@ pub total-mono : (f g : View → ℕ) (vs : List View) → ((v : View) → f v �
 total-mono f g [] h = omega arith
 total-mono f g (x ∷ xs) h = let a = h x in let b = total-mono f g xs h in omega arith
 
-pub told-length : (ps : List Post) → told_of ps ≤ length ps
-told-length [] = omega arith
-told-length (p ∷ ps) = let i = told-length ps in go p.told i
+pub exhausted-length : (ps : List Post) → exhausted_of ps ≤ length ps
+exhausted-length [] = omega arith
+exhausted-length (p ∷ ps) = let i = exhausted-length ps in go p.exhausted i
   where
-    go : (b : Bool) → told_of ps ≤ length ps → (if b then 1 else 0) + told_of ps ≤ length (p ∷ ps)
+    go : (b : Bool) → exhausted_of ps ≤ length ps → (if b then 1 else 0) + exhausted_of ps ≤ length (p ∷ ps)
     go true i = omega arith
     go false i = omega arith
 

@@ -15,7 +15,7 @@ use Rattle.fault_ledger.proofs.TokenViews.{token_me}
 pub record Taken (shape : Shape) (table : TableId) (a : Sitter) (t : TableId)
     (me : Me ℕ View) : Type 0 where
   pub table_is : t ≡ table
-  pub me_is : me ≡ (one shape a.worker a.told a.seen, [])
+  pub me_is : me ≡ (one shape a.worker a.exhausted a.seen, [])
   pub place_is : a.place ≡ place_of table shape
 
 -- a token of the sitter `a` with this table and these views is moved out and made a table seat
@@ -29,21 +29,21 @@ taken {shape} {table} {place} {a} {old} {views} me is alone at here same seat =
     let m = token_me views (sitter old views) me alone seat.0 seat.1 in
     record {
       table_is = same ∙ ap (λ (x : Sitter). x.place.table) is ∙ ap (λ (p : Place). p.table) there;
-      me_is = m ∙ ap (λ (x : Sitter). (one x.place.shape x.worker x.told x.seen, [])) is
-          ∙ ap (λ (p : Place). (one p.shape a.worker a.told a.seen, [])) there;
+      me_is = m ∙ ap (λ (x : Sitter). (one x.place.shape x.worker x.exhausted x.seen, [])) is
+          ∙ ap (λ (p : Place). (one p.shape a.worker a.exhausted a.seen, [])) there;
       place_is = there;
     }
 
 -- the token of the table seat after a step, which stands for the same worker
 pub put_back : {shape : Shape} {table : TableId} {a : Sitter} {t : TableId} {me : Me ℕ View}
     → Taken shape table a t me
-    → (told : Bool) (h : History) {now_t : TableId} (now : Me ℕ View) (b : Badge View) → now_t ≡ t
-    → now.0 ≡ one shape a.worker told h → b.table_id ≡ now_t → b.views ≡ now.0 ∷ []
-    → sitter b.table_id b.views ≡ sitter_at a told h
-put_back {shape} {table} {a} taken told h now b same is table_of views_of =
+    → (exhausted : Bool) (h : History) {now_t : TableId} (now : Me ℕ View) (b : Badge View) → now_t ≡ t
+    → now.0 ≡ one shape a.worker exhausted h → b.table_id ≡ now_t → b.views ≡ now.0 ∷ []
+    → sitter b.table_id b.views ≡ sitter_at a exhausted h
+put_back {shape} {table} {a} taken exhausted h now b same is table_of views_of =
     let x : b.table_id ≡ table = table_of ∙ same ∙ taken.table_is in
-    let y : b.views ≡ one shape a.worker told h ∷ [] = views_of ∙ ap (λ (v : View). v ∷ []) is in
-    let s : sitter b.table_id b.views ≡ sitter table (one shape a.worker told h ∷ []) =
+    let y : b.views ≡ one shape a.worker exhausted h ∷ [] = views_of ∙ ap (λ (v : View). v ∷ []) is in
+    let s : sitter b.table_id b.views ≡ sitter table (one shape a.worker exhausted h ∷ []) =
     (λ k. sitter (x k) (y k)) in
-    s ∙ ap (λ (p : Place). record { place = p; worker = a.worker; told = told; seen = h })
+    s ∙ ap (λ (p : Place). record { place = p; worker = a.worker; exhausted = exhausted; seen = h })
     (sym taken.place_is)

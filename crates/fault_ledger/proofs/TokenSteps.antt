@@ -47,7 +47,7 @@ module _ {shape : Shape} {table : TableId} {a : Sitter} {t : TableId} {me : Me �
   look_allowed slots id i =
       subst (λ (m : Me ℕ View). Allows (IsKept shape) slots id m i (λ n. n)
       (Looks (step slots i 0 0 none) m)) (sym is.me_is)
-      (looks_allowed shape slots id i shape (post a.worker a.told a.seen) [] [])
+      (looks_allowed shape slots id i shape (post a.worker a.exhausted a.seen) [] [])
 
   -- the result of a look at a piece
   pub look_done : (slots p i n : ℕ) {now_t : TableId} (now : Me ℕ View) (b : Badge View)
@@ -55,13 +55,13 @@ module _ {shape : Shape} {table : TableId} {a : Sitter} {t : TableId} {me : Me �
       → b.views ≡ now.0 ∷ [] → p < piece_count shape
       → state_at (field n (p % 8)) ≡ entry p (sitter b.table_id b.views).seen
   look_done slots p i n now b place same looks table_of views_of below =
-      let l : Looks (step slots i 0 0 none) (one shape a.worker a.told a.seen, []) n now =
+      let l : Looks (step slots i 0 0 none) (one shape a.worker a.exhausted a.seen, []) n now =
       subst (λ (m : Me ℕ View). Looks (step slots i 0 0 none) m n now) is.me_is looks in
       let h = l.1.0 in
       ap state_at (l.1.1 p place below) ∙ legal_decoded shape p h l.1.2 ∙ ap (λ (x : Sitter).
-      entry p x.seen) (sym (put_back is a.told h now b same l.1.4 table_of views_of))
+      entry p x.seen) (sym (put_back is a.exhausted h now b same l.1.4 table_of views_of))
 
-  pub claim_allowed : (slots id : ℕ) → a.told ≡ false → held_by a.worker a.seen ≡ None → Allows
+  pub claim_allowed : (slots id : ℕ) → a.exhausted ≡ false → held_by a.worker a.seen ≡ None → Allows
       (IsKept shape) slots id me 0 (λ n. (n + 1) % 2 ^ 64) (Claims (step slots 0 1 0 none) me)
   claim_allowed slots id untold free =
       subst (λ (m : Me ℕ View). Allows (IsKept shape) slots id m 0
@@ -71,8 +71,8 @@ module _ {shape : Shape} {table : TableId} {a : Sitter} {t : TableId} {me : Me �
 
   -- an event that is done
   made : (e : Event) (now : View) (b : Badge View) (adds : Adds shape
-      (post a.worker a.told a.seen) e now) → answer shape adds.0 (call_of e) ≡ Done
-      → sitter b.table_id b.views ≡ sitter_at a a.told (e ∷ adds.0)
+      (post a.worker a.exhausted a.seen) e now) → answer shape adds.0 (call_of e) ≡ Done
+      → sitter b.table_id b.views ≡ sitter_at a a.exhausted (e ∷ adds.0)
       → Makes a e Done (sitter b.table_id b.views)
   made e now b adds answered seat = record {
     before = adds.0;
@@ -86,9 +86,9 @@ module _ {shape : Shape} {table : TableId} {a : Sitter} {t : TableId} {me : Me �
   -- a property of the step on a piece's field is a property of the word's number and the bits that
   -- the call computed
   at_bits : (P : Me ℕ View → ℕ → ℕ → Type 0) {i j k l : ℕ} → i ≡ j → k ≡ l
-      → P (one shape a.worker a.told a.seen, []) j l → P me i k
+      → P (one shape a.worker a.exhausted a.seen, []) j l → P me i k
   at_bits P {i} {j} {k} {l} place bits so =
-      let here : Me ℕ View = (one shape a.worker a.told a.seen, []) in
+      let here : Me ℕ View = (one shape a.worker a.exhausted a.seen, []) in
       subst (λ (m : Me ℕ View). P m i k) (sym is.me_is)
       (subst (λ x. P here x k) (sym place) (subst (λ x. P here j x) (sym bits) so))
 
@@ -100,7 +100,7 @@ module _ {shape : Shape} {table : TableId} {a : Sitter} {t : TableId} {me : Me �
   report_allowed slots id p i k o holding below fits place bits =
       at_bits (λ m j x. Allows (IsKept shape) slots id m j (λ n. (n + x) % 2 ^ 64)
       (Reports (step slots j x 0 none) m)) place bits
-      (reports_allowed shape slots id a.worker p a.told a.seen [] holding o below fits)
+      (reports_allowed shape slots id a.worker p a.exhausted a.seen [] holding o below fits)
 
   pub report_done : (slots p i k n : ℕ) (o : Outcome) {now_t : TableId} (now : Me ℕ View)
       (b : Badge View) → held_by a.worker a.seen ≡ Some p → k ≡ in_field p (code_of (state_of o))
@@ -108,15 +108,15 @@ module _ {shape : Shape} {table : TableId} {a : Sitter} {t : TableId} {me : Me �
       → b.views ≡ now.0 ∷ []
       → Makes a (Event.Report a.worker o) Done (sitter b.table_id b.views)
   report_done slots p i k n o now b holding bits same reports table_of views_of =
-      let r : Reports (step slots i k 0 none) (one shape a.worker a.told a.seen, []) n now =
+      let r : Reports (step slots i k 0 none) (one shape a.worker a.exhausted a.seen, []) n now =
       subst (λ (m : Me ℕ View). Reports (step slots i k 0 none) m n now) is.me_is reports in
       let e = Event.Report a.worker o in
-      let it : Adds shape (post a.worker a.told a.seen) e now.0 =
-      subst (λ x. Adds shape (post a.worker a.told a.seen) (Event.Report a.worker x) now.0)
+      let it : Adds shape (post a.worker a.exhausted a.seen) e now.0 =
+      subst (λ x. Adds shape (post a.worker a.exhausted a.seen) (Event.Report a.worker x) now.0)
       (same_outcome r.1.0 o (same_field p (code_of (state_of r.1.0)) (code_of (state_of o))
       (sym (r.1.1 p holding) ∙ bits))) r.1.2 in
       made e now.0 b it (report_answered shape it.0 a.worker o it.2.0)
-      (put_back is a.told (e ∷ it.0) now b same it.3 table_of views_of)
+      (put_back is a.exhausted (e ∷ it.0) now b same it.3 table_of views_of)
 
   pub drop_allowed : (slots id p i k : ℕ) → held_by a.worker a.seen ≡ Some p → p < piece_count shape
       → has_earlier_hit shape a.seen p ≡ true → i ≡ word_with p → k ≡ in_field p 2 → Allows
@@ -124,14 +124,14 @@ module _ {shape : Shape} {table : TableId} {a : Sitter} {t : TableId} {me : Me �
   drop_allowed slots id p i k holding below hit place bits =
       at_bits (λ m j x. Allows (IsKept shape) slots id m j (λ n. (n + x) % 2 ^ 64)
       (Drops (step slots j x 0 none) m)) place bits
-      (drops_allowed shape slots id a.worker p a.told a.seen [] holding below hit)
+      (drops_allowed shape slots id a.worker p a.exhausted a.seen [] holding below hit)
 
   pub drop_done : (slots i k n : ℕ) {now_t : TableId} (now : Me ℕ View) (b : Badge View) → now_t ≡ t
       → Drops (step slots i k 0 none) me n now → b.table_id ≡ now_t → b.views ≡ now.0 ∷ []
       → Makes a (Event.Drop a.worker) Done (sitter b.table_id b.views)
   drop_done slots i k n now b same drops table_of views_of =
-      let r : Drops (step slots i k 0 none) (one shape a.worker a.told a.seen, []) n now =
+      let r : Drops (step slots i k 0 none) (one shape a.worker a.exhausted a.seen, []) n now =
       subst (λ (m : Me ℕ View). Drops (step slots i k 0 none) m n now) is.me_is drops in
       let e = Event.Drop a.worker in
       made e now.0 b r.1 (drop_answered shape r.1.0 a.worker r.1.2.0)
-      (put_back is a.told (e ∷ r.1.0) now b same r.1.3 table_of views_of)
+      (put_back is a.exhausted (e ∷ r.1.0) now b same r.1.3 table_of views_of)

@@ -28,7 +28,7 @@ pub record Place : Type 0 where
 pub record Sitter : Type 0 where
   pub place : Place
   pub worker : ℕ
-  pub told : Bool
+  pub exhausted : Bool
   pub seen : History
 
 -- The invariant of a seat: its worker is one of the ledger's, and the history that it has seen is
@@ -37,7 +37,7 @@ pub record IsSitter (a : Sitter) : Type 0 where
   pub limits : shape_fault a.place.shape ≡ None
   pub among : a.worker < a.place.shape.workers
   pub legal : IsLegal a.place.shape a.seen
-  pub ended : a.told ≡ true
+  pub ended : a.exhausted ≡ true
       → (held_by a.worker a.seen ≡ None) × (claims a.seen ≡ piece_count a.place.shape)
 
 -- the memory of a class is true in a history: the first `clear` blocks are Clear, and the next one
@@ -55,11 +55,11 @@ Remembers a remembered = (class : ℕ)
     → Recalls a.place.shape a.seen class (slice_index_or remembered class nothing_seen)
 
 -- the data of a seat beside its token
-pub record IsSeated (a : Sitter) (worker : ℕ) (told : Bool) (classes : ℕ) (piece : Option ℕ)
+pub record IsSeated (a : Sitter) (worker : ℕ) (exhausted : Bool) (classes : ℕ) (piece : Option ℕ)
     (remembered : List Remembered) : Type 0 where
   pub sitter : IsSitter a
   pub worker_is : worker ≡ a.worker
-  pub told_is : told ≡ a.told
+  pub exhausted_is : exhausted ≡ a.exhausted
   pub classes_is : classes ≡ a.place.shape.classes
   pub piece_is : piece ≡ held_by a.worker a.seen
   pub remembers : Remembers a remembered
@@ -79,23 +79,23 @@ class_and_block shape piece = (class_of shape piece, block_of shape piece)
 
 -- the seat of the same worker at the same ledger, with this flag and this history
 abbrev pub sitter_at : Sitter → Bool → History → Sitter
-sitter_at old told h = record { place = old.place; worker = old.worker; told = told; seen = h }
+sitter_at old exhausted h = record { place = old.place; worker = old.worker; exhausted = exhausted; seen = h }
 
 -- a seat of a new ledger, and the seats of all its workers, by number
 abbrev pub newcomer : Place → ℕ → Sitter
-newcomer place w = record { place = place; worker = w; told = false; seen = [] }
+newcomer place w = record { place = place; worker = w; exhausted = false; seen = [] }
 
 abbrev pub newcomers : Place → List Sitter
 newcomers place = map (newcomer place) (below place.shape.workers)
 
 -- the seat's ledger, its worker and its flag are as before
 abbrev pub Keeps : Sitter → Sitter → Type 0
-Keeps old new = (new.place ≡ old.place) × (new.worker ≡ old.worker) × (new.told ≡ old.told)
+Keeps old new = (new.place ≡ old.place) × (new.worker ≡ old.worker) × (new.exhausted ≡ old.exhausted)
 
 -- No event of the seat: the history that it has seen afterwards is legal, begins with its earlier
 -- one, and has no new event of its worker.
-pub record Sees (old : Sitter) (told : Bool) (new : Sitter) : Type 0 where
-  pub seat : new ≡ sitter_at old told new.seen
+pub record Sees (old : Sitter) (exhausted : Bool) (new : Sitter) : Type 0 where
+  pub seat : new ≡ sitter_at old exhausted new.seen
   pub newer : ContinuesWithout old.worker new.seen old.seen
   pub legal : IsLegal old.place.shape new.seen
 
@@ -104,7 +104,7 @@ pub record Sees (old : Sitter) (told : Bool) (new : Sitter) : Type 0 where
 -- and the reply is the sequential fault list's after it.
 pub record Makes (old : Sitter) (e : Event) (reply : Reply) (new : Sitter) : Type 0 where
   pub before : History
-  pub seat : new ≡ sitter_at old old.told (e ∷ before)
+  pub seat : new ≡ sitter_at old old.exhausted (e ∷ before)
   pub newer : ContinuesWithout old.worker before old.seen
   pub legal : IsLegal old.place.shape (e ∷ before)
   pub replied : reply ≡ answer old.place.shape before (call_of e)
@@ -119,7 +119,7 @@ pub record Stays (old : Sitter) (c : Call) (reply : Reply) (new : Sitter) : Type
 -- some history `at`. It begins with the seat's earlier history, or is that, and the seat's later
 -- history begins with it.
 pub record FindsNoHit (old : Sitter) (new : Sitter) : Type 0 where
-  pub sees : Sees old old.told new
+  pub sees : Sees old old.exhausted new
   pub at : History
   pub first : ContinuesWithout old.worker at old.seen
   pub later : ContinuesWithout old.worker new.seen at
@@ -128,8 +128,8 @@ pub record FindsNoHit (old : Sitter) (new : Sitter) : Type 0 where
 -- Two seats that met. The first's history begins with both earlier ones, and the second's begins
 -- with the first's. Neither has new events of the two workers.
 pub record Meets (first second first_now second_now : Sitter) : Type 0 where
-  pub first_sees : Sees first first.told first_now
-  pub second_sees : Sees second second.told second_now
+  pub first_sees : Sees first first.exhausted first_now
+  pub second_sees : Sees second second.exhausted second_now
   pub first_has_second : ContinuesWithout second.worker first_now.seen second.seen
   pub second_has_first : ContinuesWithout first.worker second_now.seen first.seen
   pub second_goes_on : ContinuesWithout second.worker second_now.seen first_now.seen

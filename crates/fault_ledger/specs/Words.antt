@@ -67,9 +67,9 @@ times w [] = 0
 times w (p ∷ posts) = (if p.worker == w then 1 else 0) + times w posts
 
 -- the number of posts that have got Exhausted
-abbrev pub told_of : List Post → ℕ
-told_of [] = 0
-told_of (p ∷ posts) = (if p.told then 1 else 0) + told_of posts
+abbrev pub exhausted_of : List Post → ℕ
+exhausted_of [] = 0
+exhausted_of (p ∷ posts) = (if p.exhausted then 1 else 0) + exhausted_of posts
 
 abbrev pub ForEach : (Post → Type 0) → List Post → Type 0
 ForEach P [] = Unit {0}
@@ -81,7 +81,7 @@ pub record Knows (shape : Shape) (h : History) (of : Shape) (p : Post) : Type 0 
   pub same : of ≡ shape
   pub among : p.worker < shape.workers
   pub newer : ContinuesWithout p.worker h p.seen
-  pub done : p.told ≡ true → (held_by p.worker p.seen ≡ None) × (claims p.seen ≡ piece_count shape)
+  pub done : p.exhausted ≡ true → (held_by p.worker p.seen ≡ None) × (claims p.seen ≡ piece_count shape)
 
 -- The words and the views belong to this legal history. Word 0 is the cursor, which counts the
 -- claims that were tried, and field p % 8 of word p / 8 + 1 has the code of piece p. Past the
@@ -94,7 +94,7 @@ pub record IsKeptBy (shape : Shape) (h : History) (words : List ℕ)
   pub sized : length words ≡ word_count shape
   pub marked : (p : ℕ) → p < piece_count shape → field_in words p ≡ code_of (entry p h)
   pub counted : claims h ≡ min (slice_index words 0) (piece_count shape)
-  pub bounded : slice_index words 0 ≤ piece_count shape + total (λ v. told_of v.posts) views
+  pub bounded : slice_index words 0 ≤ piece_count shape + total (λ v. exhausted_of v.posts) views
   pub staffed : total (λ v. length v.posts) views ≤ shape.workers
   pub apart : (w : ℕ) → total (λ v. times w v.posts) views ≤ 1
   pub known : (id : ℕ) (v : View) → get_elem? views id ≡ some v
@@ -106,11 +106,11 @@ abbrev pub IsKept : {S : Type 0} → Shape → State S View → Type 0
 IsKept shape t = (h : History) × IsKeptBy shape h t.words t.views
 
 abbrev pub post : ℕ → Bool → History → Post
-post w told seen = record { worker = w; told = told; seen = seen }
+post w exhausted seen = record { worker = w; exhausted = exhausted; seen = seen }
 
 -- the view of a token that stands for one worker
 abbrev pub one : Shape → ℕ → Bool → History → View
-one shape w told seen = record { shape = shape; posts = post w told seen ∷ [] }
+one shape w exhausted seen = record { shape = shape; posts = post w exhausted seen ∷ [] }
 
 -- a fact on the one worker of a view; it is empty for a view of none or of several
 abbrev pub OfPosts : List Post → (Post → Type 0) → Type 0
@@ -122,7 +122,7 @@ OfPosts (p ∷ q ∷ posts) P = Unit {0}
 -- seen
 abbrev pub Adds : Shape → Post → Event → View → Type 0
 Adds shape p e v = (before : History) × ContinuesWithout p.worker before p.seen
-    × IsLegal shape (e ∷ before) × (v ≡ one shape p.worker p.told (e ∷ before))
+    × IsLegal shape (e ∷ before) × (v ≡ one shape p.worker p.exhausted (e ∷ before))
 
 -- a claim that found the number n: it is of piece n, or all pieces are claimed
 abbrev pub Claims : {S : Type 0} → Step S → Me S View → ℕ → Me S View → Type 0
@@ -150,7 +150,7 @@ Drops step me n me' = (me'.1 ≡ me.1)
 -- every worker of a view has seen this history
 abbrev pub see : History → List Post → List Post
 see h [] = []
-see h (p ∷ posts) = post p.worker p.told h ∷ see h posts
+see h (p ∷ posts) = post p.worker p.exhausted h ∷ see h posts
 
 -- a load that found n: each piece of that word has the state with the code in its field, in a legal
 -- history which begins with all that was seen
@@ -217,12 +217,12 @@ abbrev pub sitter : TableId → List View → Sitter
 sitter table views = record {
   place = place_of table (first_shape views);
   worker = (first_post (first_posts views)).worker;
-  told = (first_post (first_posts views)).told;
+  exhausted = (first_post (first_posts views)).exhausted;
   seen = (first_post (first_posts views)).seen;
 }
 
 abbrev pub StandsAlone : List View → Sitter → Type 0
-StandsAlone views a = views ≡ one a.place.shape a.worker a.told a.seen ∷ []
+StandsAlone views a = views ≡ one a.place.shape a.worker a.exhausted a.seen ∷ []
 
 -- a token that stands for several workers: its ledger, and its posts
 pub record Crowd : Type 0 where
@@ -233,4 +233,4 @@ abbrev pub crowd : TableId → View → Crowd
 crowd table v = record { place = place_of table v.shape; posts = v.posts }
 
 abbrev pub post_of : Sitter → Post
-post_of a = post a.worker a.told a.seen
+post_of a = post a.worker a.exhausted a.seen

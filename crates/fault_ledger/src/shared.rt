@@ -60,7 +60,7 @@ impl Model for SharedLedger {
 pub struct Seat {
     token: Token,
     worker: u32,
-    told: bool,
+    exhausted: bool,
     // The row of the piece that was claimed last.
     row: BlockRow,
     piece: Option<u32>,
@@ -90,7 +90,7 @@ impl Model for Seat {
 
     ghost view = { λ s. s.token };
 
-    ghost invariant = { λ s. IsSeated s.token s.worker s.told s.row s.piece s.remembered.items };
+    ghost invariant = { λ s. IsSeated s.token s.worker s.exhausted s.row s.piece s.remembered.items };
 }
 
 impl Seat {
@@ -168,14 +168,14 @@ impl SharedLedger {
         requires { seat.old.place ≡ self.now }
         ensures kept { (seat.new.place ≡ seat.old.place) × (seat.new.worker ≡ seat.old.worker) }
         ensures piece { (class block : ℕ) → result ≡ Ok (Claim.Piece class block)
-            → (seat.old.told ≡ false)
+            → (seat.old.exhausted ≡ false)
             × Makes seat.old (Event.Claim seat.old.worker) (claim_reply_of result) seat.new }
-        ensures exhausted { result ≡ Ok Claim.Exhausted → seat.old.told ≡ false
+        ensures exhausted { result ≡ Ok Claim.Exhausted → seat.old.exhausted ≡ false
             → Sees seat.old true seat.new
             × (claim_reply_of result
             ≡ answer self.now.shape seat.new.seen (call.Claim seat.old.worker)) }
-        ensures told { result ≡ Ok Claim.Exhausted → seat.new.told ≡ true }
-        ensures again { seat.old.told ≡ true
+        ensures marked { result ≡ Ok Claim.Exhausted → seat.new.exhausted ≡ true }
+        ensures again { seat.old.exhausted ≡ true
             → (result ≡ Ok Claim.Exhausted)
             × Stays seat.old (call.Claim seat.old.worker) (claim_reply_of result) seat.new }
         ensures refused { OnErr result
@@ -185,12 +185,12 @@ impl SharedLedger {
         if seat.piece.is_some() {
             return Err(Refusal::Holding);
         }
-        if seat.told {
+        if seat.exhausted {
             return Ok(Claim::Exhausted);
         }
         let piece = self.words.claim(&mut seat.token);
         if piece >= self.shape.pieces() {
-            seat.told = true;
+            seat.exhausted = true;
             return Ok(Claim::Exhausted);
         }
         let piece = piece as u32;
@@ -273,7 +273,7 @@ impl SharedLedger {
     fn finds_earlier_hit(&self, seat: &mut Seat, piece: u32) -> bool
         requires place { seat.old.place ≡ self.now }
         requires piece { piece < piece_count self.now.shape }
-        ensures sees { Sees seat.old seat.old.told seat.new }
+        ensures sees { Sees seat.old seat.old.exhausted seat.new }
         ensures block_zero { block_of self.now.shape piece ≡ 0
             → (result ≡ false) × (seat.new ≡ seat.old) }
         ensures found { result ≡ true → has_earlier_hit self.now.shape seat.new.seen piece ≡ true }
@@ -302,7 +302,7 @@ impl SharedLedger {
         requires place { token.old.place ≡ self.now }
         requires sitter { IsSitter token.old }
         requires range { (class < self.now.shape.classes) × (end ≤ block_count self.now.shape) }
-        ensures sees { Sees token.old token.old.told token.new }
+        ensures sees { Sees token.old token.old.exhausted token.new }
         ensures unmoved { end ≡ 0 → token.new ≡ token.old }
         ensures found { result ≡ true → (block : ℕ) × (block < end)
             × (is_hit (entry (piece_at self.now.shape class block) token.new.seen) ≡ true) }
@@ -325,7 +325,7 @@ impl SharedLedger {
         requires place { seat.old.place ≡ self.now }
         requires range { (class < self.now.shape.classes) × (end ≤ block_count self.now.shape) }
         ensures sitter { IsSitter seat.old }
-        ensures sees { Sees seat.old seat.old.told seat.new }
+        ensures sees { Sees seat.old seat.old.exhausted seat.new }
         ensures unmoved { end ≡ 0 → seat.new ≡ seat.old }
         ensures head { EndsClear self.now.shape seat.new.seen class end result.clear result.next }
     {
@@ -350,7 +350,7 @@ impl SharedLedger {
         requires sitter { IsSitter token.old }
         requires range { (class < self.now.shape.classes) × (end ≤ block_count self.now.shape) }
         requires known { AreClear self.now.shape token.old.seen class from }
-        ensures sees { Sees token.old token.old.told token.new }
+        ensures sees { Sees token.old token.old.exhausted token.new }
         ensures unmoved { end ≡ 0 → token.new ≡ token.old }
         ensures head { EndsClear self.now.shape token.new.seen class end result.clear result.next }
     {
@@ -376,7 +376,7 @@ impl SharedLedger {
         requires place { seat.old.place ≡ self.now }
         requires range { (class < self.now.shape.classes) × (block < block_count self.now.shape) }
         ensures kept { Keeps seat.old seat.new }
-        ensures seen { Sees seat.old seat.old.told seat.new }
+        ensures seen { Sees seat.old seat.old.exhausted seat.new }
         ensures state { result ≡ entry (piece_at self.now.shape class block) seat.new.seen }
     {
         self.words
@@ -390,7 +390,7 @@ impl SharedLedger {
         requires place { seat.old.place ≡ self.now }
         requires range { class < self.now.shape.classes }
         ensures kept { Keeps seat.old seat.new }
-        ensures seen { Sees seat.old seat.old.told seat.new }
+        ensures seen { Sees seat.old seat.old.exhausted seat.new }
         ensures status { result ≡ status self.now.shape seat.new.seen class }
         ensures no_block { block_count self.now.shape ≡ 0 → seat.new ≡ seat.old }
     {
@@ -413,7 +413,7 @@ impl SharedLedger {
     pub fn finished(&self, seat: &mut Seat) -> Finish
         requires { seat.old.place ≡ self.now }
         ensures kept { Keeps seat.old seat.new }
-        ensures seen { Sees seat.old seat.old.told seat.new }
+        ensures seen { Sees seat.old seat.old.exhausted seat.new }
         ensures finish { result ≡ finish self.now.shape seat.new.seen }
         ensures no_piece { (self.now.shape.classes ≡ 0) ⊎ (block_count self.now.shape ≡ 0)
             → seat.new ≡ seat.old }
@@ -521,7 +521,7 @@ fn seats_of(
         seats.push(Seat {
             token,
             worker,
-            told: false,
+            exhausted: false,
             row: BlockRow::of_block_0(shape.classes),
             piece: None,
             remembered,
@@ -553,7 +553,7 @@ fn token_of(seat: Seat) -> Token
     let Seat {
         token,
         worker: _,
-        told: _,
+        exhausted: _,
         row: _,
         piece: _,
         remembered: _,

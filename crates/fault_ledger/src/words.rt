@@ -71,7 +71,7 @@ const HIT: u64 = 128;
 /// history that it has seen, the newest event first.
 pub(crate) struct Post {
     pub(crate) worker: u32,
-    pub(crate) told: bool,
+    pub(crate) exhausted: bool,
     pub(crate) seen: LinkedList<Event>,
 }
 
@@ -266,7 +266,7 @@ impl Words {
     /// number is the worker's, if there is one, and else all are claimed.
     pub(crate) fn claim(&self, token: &mut Token) -> u64
         requires place { token.old.place ≡ self.now }
-        requires free { (token.old.told ≡ false)
+        requires free { (token.old.exhausted ≡ false)
             × (held_by token.old.worker token.old.seen ≡ None) }
         ensures piece { result < piece_count self.now.shape
             → Makes token.old (Event.Claim token.old.worker)
@@ -329,7 +329,7 @@ impl Words {
     pub(crate) fn look(&self, token: &mut Token, piece: u32) -> PieceState
         requires place { token.old.place ≡ self.now }
         requires piece { piece < piece_count self.now.shape }
-        ensures seen { Sees token.old token.old.told token.new }
+        ensures seen { Sees token.old token.old.exhausted token.new }
         ensures state { result ≡ entry piece token.new.seen }
     {
         let mut seat = take_seat(&mut token.badge);

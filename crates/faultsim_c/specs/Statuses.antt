@@ -111,6 +111,6 @@ IsTextsReply netlist text _ = ⊥
 
 -- the circuit or its tests have this error
 abbrev pub AreRefusedTexts : List ℕ → List ℕ → FsFault → Type 0
-AreRefusedTexts netlist text told =
-    ((f : BenchFault) × IsRefused netlist f × (told ≡ error_numbers (refusal.Bench f)))
-    ⊎ ((f : TestFault) × IsRefusedFor netlist text f × (told ≡ error_numbers (refusal.Tests f)))
+AreRefusedTexts netlist text numbers =
+    ((f : BenchFault) × IsRefused netlist f × (numbers ≡ error_numbers (refusal.Bench f)))
+    ⊎ ((f : TestFault) × IsRefusedFor netlist text f × (numbers ≡ error_numbers (refusal.Tests f)))

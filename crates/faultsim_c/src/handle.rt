@@ -16,7 +16,7 @@ use std::mem::replace;
 pub struct FsJob {
     live: bool,
     pub(crate) held: Held,
-    ghost told: { IsTrue live ↔ IsSome held.holding },
+    ghost lives: { IsTrue live ↔ IsSome held.holding },
 }
 
 /// Makes a handle of no job.

@@ -24,7 +24,7 @@ pub(crate) fn simulate(
 {
     let _tests = session.job().tests();
     let found = session.first_tests(alloc, classes)?;
-    tell_firsts(found.as_slice(), firsts);
+    write_firsts(found.as_slice(), firsts);
     Ok(())
 }
 
@@ -41,12 +41,12 @@ pub(crate) fn fault_firsts(
 {
     let _tests = session.job().tests();
     let verdicts = session.verdicts(alloc)?;
-    tell_verdicts(&verdicts, firsts);
+    write_verdicts(&verdicts, firsts);
     Ok(())
 }
 
 /// Writes first tests as their numbers, as far as there is room.
-fn tell_firsts(found: &[Option<u32>], firsts: &mut [u32])
+fn write_firsts(found: &[Option<u32>], firsts: &mut [u32])
     requires { length firsts.old ≡ length found.now }
     ensures { AreFirstNumbers found.now firsts.new }
 {
@@ -56,7 +56,7 @@ fn tell_firsts(found: &[Option<u32>], firsts: &mut [u32])
 }
 
 /// Writes the first tests of all faults by their numbers.
-fn tell_verdicts(verdicts: &Verdicts, firsts: &mut [u32])
+fn write_verdicts(verdicts: &Verdicts, firsts: &mut [u32])
     requires { length firsts.old ≡ length verdicts.now.firsts }
     ensures { AreFirstNumbers verdicts.now.firsts firsts.new }
 {

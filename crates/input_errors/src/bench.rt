@@ -111,11 +111,11 @@ fn look_through<'a>(
     found: &mut Found<'a>,
 ) -> Result<(), AllocError> {
     let names = look_at_lines(alloc, text, found)?;
-    tell_names(alloc, text, fault, &names, found)
+    report_names(alloc, text, fault, &names, found)
 }
 
 /// Reports the errors of the names of a file, or of their number.
-fn tell_names<'a>(
+fn report_names<'a>(
     alloc: Global,
     text: &'a [u8],
     fault: BenchFault,
@@ -131,9 +131,9 @@ fn tell_names<'a>(
         BenchFault::Empty => found.push(empty())?,
         _ => (),
     }
-    tell_again(text, names, found)?;
-    tell_undefined(alloc, text, names, found)?;
-    tell_cycles(alloc, text, names, found)
+    report_redefined(text, names, found)?;
+    report_undefined(alloc, text, names, found)?;
+    report_cycles(alloc, text, names, found)
 }
 
 /// Returns the error of a file without a statement.
@@ -208,7 +208,7 @@ fn at_name<'a>(text: &'a [u8], at: Use<'a>, fault: BenchFault, note: Note<'a>) -
 }
 
 /// Reports the lines that define a name again.
-fn tell_again<'a>(
+fn report_redefined<'a>(
     text: &'a [u8],
     names: &Names<'a>,
     found: &mut Found<'a>,
@@ -251,7 +251,7 @@ fn near_name<'a>(
 }
 
 /// Reports the reads of names that no line defines.
-fn tell_undefined<'a>(
+fn report_undefined<'a>(
     alloc: Global,
     text: &'a [u8],
     names: &Names<'a>,
@@ -274,14 +274,14 @@ fn tell_undefined<'a>(
 }
 
 /// Reports the cycles of gates.
-fn tell_cycles<'a>(
+fn report_cycles<'a>(
     alloc: Global,
     text: &'a [u8],
     names: &Names<'a>,
     found: &mut Found<'a>,
 ) -> Result<(), AllocError> {
-    let told = cycles(alloc, names)?;
-    for cycle in &told {
+    let reported = cycles(alloc, names)?;
+    for cycle in &reported {
         if found.is_full() {
             found.count();
             continue;

@@ -36,7 +36,7 @@ struct Visit {
 #[derive(Drop)]
 struct Search {
     states: Vec<State>,
-    told: Vec<bool>,
+    reported: Vec<bool>,
     path: Vec<Visit>,
     found: Vec<Cycle>,
 }
@@ -47,7 +47,7 @@ pub(crate) fn cycles(alloc: Global, names: &Names<'_>) -> Result<Vec<Cycle>, All
     let count = names.pins.len();
     let mut search = Search {
         states: vec![in alloc; State::New; count]?,
-        told: vec![in alloc; false; count]?,
+        reported: vec![in alloc; false; count]?,
         path: Vec::new(alloc),
         found: Vec::new(alloc),
     };
@@ -122,22 +122,22 @@ fn step(
 /// gates was reported.
 fn close(alloc: Global, root: usize, gate: usize, search: &mut Search) -> Result<(), AllocError> {
     let mut gates = vec![in alloc; gate]?;
-    let mut is_told = false;
+    let mut is_reported = false;
     let mut lowest = gate;
     for visit in search.path.iter().rev() {
-        is_told |= search.told.get(visit.gate).copied().unwrap_or(false);
+        is_reported |= search.reported.get(visit.gate).copied().unwrap_or(false);
         lowest = lowest.min(visit.gate);
         gates.push(visit.gate)?;
         if visit.gate == gate {
             break;
         }
     }
-    if is_told {
+    if is_reported {
         return Ok(());
     }
-    for told in &gates {
-        if let Some(is_told) = search.told.get_mut(*told) {
-            *is_told = true;
+    for reported in &gates {
+        if let Some(is_reported) = search.reported.get_mut(*reported) {
+            *is_reported = true;
         }
     }
     let at = if search.found.is_empty() {

@@ -41,16 +41,16 @@ fn look_at_rows<'a>(
         if rows > MAX_TESTS {
             continue;
         }
-        tell_row(alloc, text, row, width, found)?;
+        report_row(alloc, text, row, width, found)?;
     }
     if rows > MAX_TESTS {
-        tell_too_many(rows, found)?;
+        report_too_many(rows, found)?;
     }
     Ok(())
 }
 
 /// Reports that there are too many rows.
-fn tell_too_many<'a>(rows: u32, found: &mut Found<'a>) -> Result<(), AllocError> {
+fn report_too_many<'a>(rows: u32, found: &mut Found<'a>) -> Result<(), AllocError> {
     found.push(Finding {
         fault: InputError::Tests(TestFault::TooMany),
         text: &[],
@@ -79,7 +79,7 @@ fn placed<'a>(text: &'a [u8], row: Row<'a>) -> PlacedRow<'a> {
 }
 
 /// Reports the error of a row, if it has one.
-fn tell_row<'a>(
+fn report_row<'a>(
     alloc: Global,
     text: &'a [u8],
     row: Row<'a>,

@@ -14,8 +14,8 @@ use Rattle.patterns.specs.declared.TestFault.{TestFault}
 use Rattle.patterns.specs.declared.TestFault.TheVariants as fault
 use Rattle.patterns.specs.Tests.{TestList, HasTests, IsTestRefusal, max_tests, test_fault}
 use Rattle.patterns.specs.Tests.{test_faults}
-use Rattle.patterns.specs.Behind.{HasTestsBehind, IsRefusalBehind, faults_behind}
-use Rattle.patterns.specs.Behind.{with_tests}
+use Rattle.patterns.specs.LaterRows.{HasTestsAfter, IsRefusalAfter, errors_after}
+use Rattle.patterns.specs.LaterRows.{with_tests}
 use Rattle.patterns.specs.Stretches.{AreTestsBetween}
 use Rattle.patterns.proofs.OneAnswer.{refusal-test_faults}
 
@@ -99,7 +99,7 @@ count_is t before is = ap length is ∙ length-map before bits
 faults_left : (text : List ℕ) (width : ℕ) (t : TestList) (before left : List Row)
     → rows text ≡ before ++ left
     → filter_map (test_fault width) (enumerate_from 0 before) ≡ [] → t.width ≡ width
-    → t.tests ≡ map bits before → test_faults text width ≡ faults_behind t left
+    → t.tests ≡ map bits before → test_faults text width ≡ errors_after t left
 faults_left text width t before left whole none same is =
     ap (λ all. filter_map (test_fault width) (enumerate_from 0 all)) whole
     ∙ faults-append width before left none
@@ -107,8 +107,8 @@ faults_left text width t before left whole none same is =
     ∙ ap (λ w. filter_map (test_fault w) (enumerate_from (length t.tests) left)) (sym same)
 
 refusal_behind : (before : TestList) (left : List Row) (f : TestFault)
-    → IsRefusalBehind before left f
-    → (more : List TestFault) × (faults_behind before left ≡ f ∷ more)
+    → IsRefusalAfter before left f
+    → (more : List TestFault) × (errors_after before left ≡ f ∷ more)
 refusal_behind before left fault.Memory is = absurd is
 refusal_behind before left (fault.BadByte line) is = is
 refusal_behind before left (fault.BadWidth line) is = is
@@ -116,7 +116,7 @@ refusal_behind before left fault.TooMany is = is
 
 module _ (text front : List ℕ) (width : ℕ) (t : TestList) (left : List Row)
     (has : HasTests front width t) (whole : rows text ≡ rows front ++ left) where
-  pub HasTests-behind : (all : TestList) → HasTestsBehind t left all → HasTests text width all
+  pub HasTests-behind : (all : TestList) → HasTestsAfter t left all → HasTests text width all
   HasTests-behind all behind = (
     faults_left text width t (rows front) left whole has.0 has.1 has.2 ∙ behind.0,
     ap (λ l. l.width) behind.1 ∙ has.1,
@@ -126,14 +126,14 @@ module _ (text front : List ℕ) (width : ℕ) (t : TestList) (left : List Row)
         ∙ sym (ap (map bits) whole),
   )
 
-  pub IsTestRefusal-behind : (f : TestFault) → IsRefusalBehind t left f
+  pub IsTestRefusal-behind : (f : TestFault) → IsRefusalAfter t left f
       → IsTestRefusal text width f
   IsTestRefusal-behind f refused =
       let found = refusal_behind t left f refused in
       refusal-test_faults text width f found.0
       (faults_left text width t (rows front) left whole has.0 has.1 has.2 ∙ found.1)
 
-  pub refused-behind : (f : TestFault) → (f ≡ fault.Memory) ⊎ IsRefusalBehind t left f
+  pub refused-behind : (f : TestFault) → (f ≡ fault.Memory) ⊎ IsRefusalAfter t left f
       → (f ≡ fault.Memory) ⊎ IsTestRefusal text width f
   refused-behind f (inl memory) = inl memory
   refused-behind f (inr refused) = inr (IsTestRefusal-behind f refused)

@@ -5,7 +5,7 @@ ghost use Rattle.std.specs.Prelude.{length, slice_index, slice_index_or, IfOk, I
 ghost use Rattle.std.specs.Int.{bit_at};
 ghost use Rattle.patterns.specs.Making.{IsMadeOf, IsPushRefusal, IsWordsRefusal, digit, row_text};
 ghost use Rattle.patterns.specs.Making.{test_text, with_test};
-ghost use Rattle.patterns.specs.Behind.{HasTestsBehind, IsRefusalBehind, with_tests};
+ghost use Rattle.patterns.specs.LaterRows.{HasTestsAfter, IsRefusalAfter, with_tests};
 ghost use Rattle.patterns.specs.Tests.{HasTests, IsTestList, IsTestRefusal, IsWord, as_number, bit};
 ghost use Rattle.patterns.specs.Tests.{blocks, max_tests, size_of, test_fault};
 ghost use Rattle.text_lines.specs.Reading.{row_of, rows_left};
@@ -67,9 +67,9 @@ pub fn read_tests(alloc: Global, text: &[u8], width: u32) -> Result<Tests, TestF
 /// Reads rows as tests, and appends them to `before`. If the rows before them in a file have those
 /// tests, the result is the tests of the file.
 pub(crate) fn read_rows(alloc: Global, before: Tests, rows: Rows<'_>) -> Result<Tests, TestFault>
-    ensures tests { IfOk result (λ t. HasTestsBehind before (rows_left rows.entry) t) }
+    ensures tests { IfOk result (λ t. HasTestsAfter before (rows_left rows.entry) t) }
     ensures refused { IfErr result (λ fault. (fault ≡ TestFault.Memory)
-        ⊎ IsRefusalBehind before (rows_left rows.entry) fault) }
+        ⊎ IsRefusalAfter before (rows_left rows.entry) fault) }
 {
     let width = before.width();
     let mut tests = before;

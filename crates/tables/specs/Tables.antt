@@ -23,7 +23,7 @@ use Rattle.tables.specs.declared.table.Format.{Format}
 use Rattle.tables.specs.declared.table.Format.TheVariants.{Csv, Json}
 use Rattle.tables.specs.Rows.{RowCells, row_cells}
 
--- What is told of the faults: the name of the column, what it has for each fault in the order of
+-- The column that the run or the classes give: its name, its value for each fault in the order of
 -- the list, which faults have a row, and the sums as a JSON object.
 pub record LastColumn : Type 0 where
   pub name : List ℕ
@@ -31,8 +31,7 @@ pub record LastColumn : Type 0 where
   pub lines : Lines
   pub summary : List ℕ
 
--- whether a fault has a row, by what is told of it: those without a value alone, where these are
--- asked for
+-- whether a fault with this value has a row: with `Undetected`, a fault without a value alone
 abbrev pub has_row : Lines → Option ℕ → Bool
 has_row Undetected value = is_none value
 has_row All value = true
@@ -95,8 +94,8 @@ json_object column row value =
 -- the rows of the faults that have one
 abbrev pub rows_text : (RowCells → Option ℕ → List ℕ) → List Statement → Lines
     → List (Fault × Option ℕ) → List ℕ
-rows_text row c lines told =
-    flat_map (λ at. if has_row lines at.1 then row (row_cells c at.0) at.1 else []) told
+rows_text row c lines column =
+    flat_map (λ at. if has_row lines at.1 then row (row_cells c at.0) at.1 else []) column
 
 -- the header of a table as comma-separated values
 abbrev pub csv_header : List ℕ → List ℕ
@@ -105,8 +104,8 @@ csv_header column = row_text default_writer (codes "kind" ∷ codes "name" ∷ c
 
 -- the table as comma-separated values: a header, and a record for each row
 abbrev pub csv_table : List Statement → List Fault → LastColumn → List ℕ
-csv_table c list told = csv_header told.name
-    ++ rows_text csv_record c told.lines (zip list told.values)
+csv_table c list column = csv_header column.name
+    ++ rows_text csv_record c column.lines (zip list column.values)
 
 -- a JSON object of sums and of an array of rows
 abbrev pub object_text : List ℕ → List ℕ → List ℕ
@@ -115,16 +114,16 @@ object_text summary rows =
 
 -- the table as a JSON object, in which the first row has no comma before it
 abbrev pub json_table : List Statement → List Fault → LastColumn → List ℕ
-json_table c list told = object_text told.summary
-    (drop 1 (rows_text (json_object told.name) c told.lines (zip list told.values)))
+json_table c list column = object_text column.summary
+    (drop 1 (rows_text (json_object column.name) c column.lines (zip list column.values)))
 
 abbrev pub table_text : Format → List Statement → List Fault → LastColumn → List ℕ
-table_text Csv c list told = csv_table c list told
-table_text Json c list told = json_table c list told
+table_text Csv c list column = csv_table c list column
+table_text Json c list column = json_table c list column
 
 -- the bytes are this table
 abbrev pub IsTable : Format → List Statement → List Fault → LastColumn → List ℕ → Type 0
-IsTable format c list told bytes = bytes ≡ table_text format c list told
+IsTable format c list column bytes = bytes ≡ table_text format c list column
 
 -- the bytes are the table of a run of a bench text and a test text under a model: each fault with
 -- the first test that detects it, or none
@@ -154,7 +153,7 @@ IsClassTableOfCircuit m c format bytes = (classes : Collapsed) × AreClassesOf m
     × (bytes ≡ table_text format c (faults m c)
     (class_column classes.class_of (length classes.representative)))
 
--- what the program keeps of what is told
+-- the column that the program passes on
 abbrev pub column_in : Column → LastColumn
 column_in (column.First verdicts lines) = first_column verdicts.now.firsts lines
 column_in (column.Merged merged lines) = first_column (run_of merged.now).firsts lines

@@ -119,9 +119,9 @@ works_twice job over a b d x y = record {
 }
 
 -- looks
-pub sees_works : (job : Parts) (over : ClassSelection) (a b : Sitter) (told : Bool) → Sees a told b
+pub sees_works : (job : Parts) (over : ClassSelection) (a b : Sitter) (ended : Bool) → Sees a ended b
     → WorksOver job over a b
-sees_works job over a b told s = record {
+sees_works job over a b ended s = record {
   place = ap (λ (x : Sitter). x.place) s.seat;
   worker = ap (λ (x : Sitter). x.worker) s.seat;
   newer = s.newer.0;
@@ -178,11 +178,11 @@ given a b class block m =
 
 -- a drop that was made
 pub dropped : (job : Parts) (over : ClassSelection) (a b : Sitter) (r : Reply)
-    → Makes a (Event.Drop a.worker) r b → WorksOver job over a b × (b.told ≡ a.told)
+    → Makes a (Event.Drop a.worker) r b → WorksOver job over a b × (b.exhausted ≡ a.exhausted)
     × (held_by b.worker b.seen ≡ None)
 dropped job over a b r m = (
   makes_works job over a b (Event.Drop a.worker) r m tt,
-  ap (λ (x : Sitter). x.told) m.seat,
+  ap (λ (x : Sitter). x.exhausted) m.seat,
   ap (λ (x : Sitter). held_by x.worker x.seen) m.seat
       ∙ ap (λ t. cond t None (held_by a.worker m.before)) (eq-eqb a.worker a.worker refl),
 )
@@ -191,7 +191,7 @@ dropped job over a b r m = (
 pub reported : (job : Parts) (over : ClassSelection) (a b : Sitter) (o : Outcome) (r : Reply)
     → Makes a (Event.Report a.worker o) r b
     → GivesTrue job over a.place.shape (held_by a.worker a.seen) o
-    → WasNoDrop a.place.shape a.worker a.seen → WorksOver job over a b × (b.told ≡ a.told)
+    → WasNoDrop a.place.shape a.worker a.seen → WorksOver job over a b × (b.exhausted ≡ a.exhausted)
     × (held_by b.worker b.seen ≡ None)
 reported job over a b o r m t n = (
   makes_works job over a b (Event.Report a.worker o) r m (
@@ -202,7 +202,7 @@ reported job over a b o r m t n = (
     )),
     tt,
   ),
-  ap (λ (x : Sitter). x.told) m.seat,
+  ap (λ (x : Sitter). x.exhausted) m.seat,
   ap (λ (x : Sitter). held_by x.worker x.seen) m.seat
       ∙ ap (λ t. cond t None (held_by a.worker m.before)) (eq-eqb a.worker a.worker refl),
 )
@@ -289,7 +289,7 @@ module _ (job : Parts) (over : ClassSelection) (a b : Sitter) (p : Place) (class
   module _ (d : Sitter) (o : Outcome) (found : FindsNoHit a b)
       (true : IsTrueOutcome job.list.model job.circuit job.tests.tests (over.class_at class) block
       o) where
-    sees : Sees a a.told b
+    sees : Sees a a.exhausted b
     sees = found.sees
 
     here : b.place ≡ a.place
@@ -312,7 +312,7 @@ module _ (job : Parts) (over : ClassSelection) (a b : Sitter) (p : Place) (class
 
     pub then_reported : (r : Reply) → Makes b (Event.Report b.worker o) r d → WorksOver job over a d
     then_reported r m =
-        works_twice job over a b d (sees_works job over a b a.told sees)
+        works_twice job over a b d (sees_works job over a b a.exhausted sees)
         (reported job over b d o r m (true_of_piece job over b.place.shape class block o
         (held_by b.worker b.seen) own_class_b still true) no_drop).0
 
@@ -324,11 +324,11 @@ module _ (job : Parts) (over : ClassSelection) (a b : Sitter) (p : Place) (class
 
 -- the work after a claim that got Exhausted
 pub exhausted : (job : Parts) (over : ClassSelection) (a b : Sitter) (r : Reply) → IsSitter a
-    → (a.told ≡ false → Sees a true b) → (a.told ≡ true → Stays a (call.Claim a.worker) r b)
+    → (a.exhausted ≡ false → Sees a true b) → (a.exhausted ≡ true → Stays a (call.Claim a.worker) r b)
     → WorksOver job over a b
-exhausted job over a b r i sees stays = go a.told refl
+exhausted job over a b r i sees stays = go a.exhausted refl
   where
-    go : (t : Bool) → a.told ≡ t → WorksOver job over a b
+    go : (t : Bool) → a.exhausted ≡ t → WorksOver job over a b
     go false e = sees_works job over a b true (sees e)
     go true e = subst (WorksOver job over a) (sym (stays e).seat) (works_same job over a i)
 
@@ -388,9 +388,9 @@ pub settled_works : (job : Parts) (over : ClassSelection) (s : Shape) (n : ℕ) 
 settled_works job over s n a b x t = subst (λ h. AreSettled s h n) (sym x.begins)
     (settled_past s n x.newer a.seen t)
 
-pub settled_sees : (s : Shape) (n : ℕ) (a b : Sitter) (told : Bool) → Sees a told b
+pub settled_sees : (s : Shape) (n : ℕ) (a b : Sitter) (ended : Bool) → Sees a ended b
     → AreSettled s a.seen n → AreSettled s b.seen n
-settled_sees s n a b told x t = subst (λ h. AreSettled s h n) (sym x.newer.1)
+settled_sees s n a b ended x t = subst (λ h. AreSettled s h n) (sym x.newer.1)
     (settled_past s n x.newer.0 a.seen t)
 
 pub not_waiting : (r : Status) → ((x : ℕ) → r ≡ status_is.Waiting x → ⊥)

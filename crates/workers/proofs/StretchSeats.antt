@@ -64,16 +64,16 @@ claims_stretch a b p class block at tests m =
     }
 
 -- a claim that got Exhausted
-pub sees_all : (a b : Sitter) (r : Reply) → IsSitter a → IsSitter b → b.told ≡ true
+pub sees_all : (a b : Sitter) (r : Reply) → IsSitter a → IsSitter b → b.exhausted ≡ true
     → (b.place ≡ a.place) × (b.worker ≡ a.worker)
-    → (a.told ≡ false → Sees a true b) → (a.told ≡ true → Stays a (call.Claim a.worker) r b)
+    → (a.exhausted ≡ false → Sees a true b) → (a.exhausted ≡ true → Stays a (call.Claim a.worker) r b)
     → SeesAllClaimed a b
-sees_all a b r i j told same sees stays = go a.told refl
+sees_all a b r i j ended same sees stays = go a.exhausted refl
   where
     all : claims b.seen ≡ piece_count a.place.shape
-    all = (j.ended told).1 ∙ ap (λ (p : Place). piece_count p.shape) same.0
+    all = (j.ended ended).1 ∙ ap (λ (p : Place). piece_count p.shape) same.0
 
-    go : (t : Bool) → a.told ≡ t → SeesAllClaimed a b
+    go : (t : Bool) → a.exhausted ≡ t → SeesAllClaimed a b
     go false e = let s = sees e in record {
       place = same.0;
       worker = same.1;

@@ -79,7 +79,7 @@ IsStopped shape stops w h = (piece : ℕ) × (held_by w h ≡ Some piece)
 -- how a seat stands at each end of its work
 abbrev pub EndsAs : Stops → Sitter → End → Type 0
 EndsAs stops seat Exhausted =
-    (seat.told ≡ true) × (held_by seat.worker seat.seen ≡ None)
+    (seat.exhausted ≡ true) × (held_by seat.worker seat.seen ≡ None)
     × (claims seat.seen ≡ piece_count seat.place.shape)
 EndsAs stops seat AllSettled =
     (held_by seat.worker seat.seen ≡ None)

@@ -96,7 +96,7 @@ fn finish_piece<C: ClassSelection, K: Simulator>(
     requires range { (class < ledger.now.shape.classes) × (block < block_count ledger.now.shape) }
     requires serves { K.serves simulator.old job.now }
     ensures works { WorksOver job.now (C.chosen classes.now) seat.old seat.new }
-    ensures told { seat.new.told ≡ seat.old.told }
+    ensures exhausted { seat.new.exhausted ≡ seat.old.exhausted }
     ensures free { held_by seat.new.worker seat.new.seen ≡ None }
     ensures serves { K.serves simulator.new job.now }
 {
@@ -118,7 +118,7 @@ fn lowest_waiting(ledger: &SharedLedger, seat: &mut Seat, classes: u32, from: u3
     requires classes { classes ≡ ledger.now.shape.classes }
     requires range { from ≤ classes }
     requires settled { AreSettled ledger.now.shape seat.old.seen from }
-    ensures sees { Sees seat.old seat.old.told seat.new }
+    ensures sees { Sees seat.old seat.old.exhausted seat.new }
     ensures settled { AreSettled ledger.now.shape seat.new.seen result }
     ensures range { result ≤ classes }
 {

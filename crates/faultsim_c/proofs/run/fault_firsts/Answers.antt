@@ -5,6 +5,6 @@ use Rattle.faultsim_c.proofs.run.fault_firsts.Goals as goal
 
 pub returns-clause-done : goal.returns-clause-done
 returns-clause-done c =
-    faults_told c.args.session.now c.in_ok-verdicts.verdicts.firsts c.tell_verdicts.new.firsts
+    faults_told c.args.session.now c.in_ok-verdicts.verdicts.firsts c.write_verdicts.new.firsts
     (subst BelongTogether c.job.ensures c.tests-tests.ensures.together)
-    c.in_ok-verdicts.ensures.firsts c.tell_verdicts.ensures
+    c.in_ok-verdicts.ensures.firsts c.write_verdicts.ensures

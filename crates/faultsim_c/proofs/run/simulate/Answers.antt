@@ -7,8 +7,8 @@ use Rattle.faultsim_c.proofs.run.simulate.Goals as goal
 pub returns-clause-done : goal.returns-clause-done
 returns-clause-done c =
     classes_told c.args.session.now c.args.classes.now c.in_ok-found.found.items
-    c.tell_firsts.new.firsts (subst BelongTogether c.job.ensures c.tests-tests.ensures.together)
+    c.write_firsts.new.firsts (subst BelongTogether c.job.ensures c.tests-tests.ensures.together)
     c.in_ok-found.ensures.firsts
-    (subst (λ (l : List (Option ℕ)). AreFirstNumbers l c.tell_firsts.new.firsts)
+    (subst (λ (l : List (Option ℕ)). AreFirstNumbers l c.write_firsts.new.firsts)
     c.as_slice.ensures.value
-    c.tell_firsts.ensures)
+    c.write_firsts.ensures)

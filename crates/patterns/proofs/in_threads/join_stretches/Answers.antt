@@ -4,7 +4,7 @@ use Rattle.std.specs.Vec.Iter.{into_iter_items, into_iter_len}
 use Rattle.std.proofs.lemmas.Result.{IfErr-weaker, IfOk-weaker}
 use Rattle.patterns.specs.declared.TestFault.TheVariants as fault
 use Rattle.text_lines.specs.Reading.{rows_left}
-use Rattle.patterns.specs.Behind.{HasTestsBehind, IsRefusalBehind}
+use Rattle.patterns.specs.LaterRows.{HasTestsAfter, IsRefusalAfter}
 use Rattle.patterns.specs.Stretches.{AreTestsBetween, HasStretch}
 use Rattle.patterns.specs.Tests.{HasTests, IsTestList, IsTestRefusal, max_tests}
 use Rattle.patterns.proofs.OneAnswer.{has_tests_list}
@@ -89,7 +89,7 @@ returns-clause-tests c =
     let width = c.args.width in
     let before = c.loop-part.all in
     let left = rows_left c.from_place-rows.result in
-    IfOk-weaker c.read_rows.result (HasTestsBehind before left) (HasTests text width)
+    IfOk-weaker c.read_rows.result (HasTestsAfter before left) (HasTests text width)
     (HasTests-behind text (take c.loop-part.place text) width before left
     c.loop-part.invariant.tests
     c.from_place-rows.ensures)
@@ -101,7 +101,7 @@ returns-clause-list c =
     let width = c.args.width in
     let before = c.loop-part.all in
     let left = rows_left c.from_place-rows.result in
-    IfOk-weaker c.read_rows.result (HasTestsBehind before left) IsTestList
+    IfOk-weaker c.read_rows.result (HasTestsAfter before left) IsTestList
     (λ t behind. has_tests_list text width t
     (HasTests-behind text (take c.loop-part.place text) width before left
     c.loop-part.invariant.tests c.from_place-rows.ensures t behind))
@@ -114,7 +114,7 @@ returns-clause-refused c =
     let before = c.loop-part.all in
     let left = rows_left c.from_place-rows.result in
     IfErr-weaker c.read_rows.result
-    (λ f. (f ≡ fault.Memory) ⊎ IsRefusalBehind before left f)
+    (λ f. (f ≡ fault.Memory) ⊎ IsRefusalAfter before left f)
     (λ f. (f ≡ fault.Memory) ⊎ IsTestRefusal text width f)
     (refused-behind text (take c.loop-part.place text) width before left
     c.loop-part.invariant.tests c.from_place-rows.ensures)

@@ -1,13 +1,13 @@
 use Rattle.std.proofs.Common.{◌≡◌, ◌+◌, ◌%◌, ◌<◌, ◌≤◌, ◌++◌, length}
 use Rattle.std.specs.List.{filter_map, enumerate_from}
 use Rattle.patterns.specs.Tests.{max_tests, test_fault}
-use Rattle.patterns.specs.Behind.{faults_behind, tests_of_rows}
+use Rattle.patterns.specs.LaterRows.{errors_after, tests_of_rows}
 use Rattle.text_lines.specs.Reading.{rows_left}
 use Rattle.patterns.proofs.test_text.read_rows.Given as goal
 
 abbrev pub invariant-loop-row : goal.invariant-loop-row
 invariant-loop-row l = record {
-  faults : faults_behind l.fn.before (rows_left l.fn.rows) ≡ filter_map (test_fault l.width)
+  faults : errors_after l.fn.before (rows_left l.fn.rows) ≡ filter_map (test_fault l.width)
       (enumerate_from (length l.tests.tests + length l.octet.tests) (rows_left l.row-iterator));
   width : l.tests.width ≡ l.width;
   same : l.width ≡ l.fn.before.width;

@@ -11,8 +11,8 @@ returns-then-drop_held-clause-works g c =
     (dropped c.args.job.now (g.C.ClassSelection.chosen c.args.classes.now) c.args.seat.now
     c.drop_held.new.seat _ (c.drop_held.ensures.dropped c.if-drop_held.true)).0
 
-pub returns-then-drop_held-clause-told : goal.returns-then-drop_held-clause-told
-returns-then-drop_held-clause-told g c =
+pub returns-then-drop_held-clause-exhausted : goal.returns-then-drop_held-clause-exhausted
+returns-then-drop_held-clause-exhausted g c =
     (dropped c.args.job.now (g.C.ClassSelection.chosen c.args.classes.now) c.args.seat.now
     c.drop_held.new.seat _ (c.drop_held.ensures.dropped c.if-drop_held.true)).1
 

@@ -4,6 +4,6 @@ use Rattle.workers.proofs.piece_worker.lowest_waiting.Given as goal
 
 abbrev pub invariant-loop-class : goal.invariant-loop-class
 invariant-loop-class l = record {
-  sees : Sees l.fn.seat l.fn.seat.told l.seat;
+  sees : Sees l.fn.seat l.fn.seat.exhausted l.seat;
   settled : AreSettled l.ledger.shape l.seat.seen l.class;
 }

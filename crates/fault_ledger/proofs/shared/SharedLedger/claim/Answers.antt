@@ -37,7 +37,7 @@ pub invariant_of-seat : goal.invariant_of-seat
 invariant_of-seat c =
     let i = c.seat.inside in
     let e = ends c in
-    seated_ends i.token c.claim-piece.new.token i.worker i.told i.row i.piece i.remembered.items
+    seated_ends i.token c.claim-piece.new.token i.worker i.exhausted i.row i.piece i.remembered.items
     c.seat.invariant e.0 e.1 e.2
 
 pub returns-then-piece-pieces-clause-exhausted : goal.returns-then-piece-pieces-clause-exhausted
@@ -65,9 +65,9 @@ invariant_of-seat-2 c =
     (let a = c.pieces.ensures in let b = c.if-piece-pieces.false in omega arith) in
     let within =
     subst (λ (x : Shape). c.claim-piece.result < piece_count x) (sym c.self.invariant) some in
-    let seated = seated_makes i.token now (Event.Claim i.token.worker) _ i.worker i.told i.row
+    let seated = seated_makes i.token now (Event.Claim i.token.worker) _ i.worker i.exhausted i.row
     i.piece (Some c.claim-piece.result) i.remembered.items c.seat.invariant
-    (sym c.seat.invariant.told_is ∙ c.if-seat.false) (c.claim-piece.ensures.piece within)
+    (sym c.seat.invariant.exhausted_is ∙ c.if-seat.false) (c.claim-piece.ensures.piece within)
     (c.claim-piece.ensures.held within) in
-    subst (λ n. IsSeated now i.worker i.told n (Some c.claim-piece.result) i.remembered.items)
+    subst (λ n. IsSeated now i.worker i.exhausted n (Some c.claim-piece.result) i.remembered.items)
     (sym c.turn_to-class.ensures.classes) seated

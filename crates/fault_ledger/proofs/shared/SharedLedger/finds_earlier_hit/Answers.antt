@@ -26,7 +26,7 @@ placed c =
 pub invariant_of-seat : goal.invariant_of-seat
 invariant_of-seat c =
     let i = c.seat-2.inside in
-    seated_sees i.token c.finds_hit.new.token i.worker i.told i.row i.piece i.remembered.items
+    seated_sees i.token c.finds_hit.new.token i.worker i.exhausted i.row i.piece i.remembered.items
     c.seat-2.invariant c.finds_hit.ensures.sees
 
 pub returns-then-known-end-clause-found : goal.returns-then-known-end-clause-found
@@ -97,7 +97,7 @@ returns c =
     let n = c.passes_clear-head.result.clear in
     let is = placed (goal.at.returns c).After-class_and_block-class in
     let first = c.passes_clear-head.ensures.sees in
-    let then = subst (λ (x : Sitter). Sees x x.told d) c.seat-2.view_is c.finds_hit.ensures.sees in
+    let then = subst (λ (x : Sitter). Sees x x.exhausted d) c.seat-2.view_is c.finds_hit.ensures.sees in
     let e = head (goal.at.returns c).After-passes_clear-head
     (placed (goal.at.returns c).After-class_and_block-class) in
     let x = e.some c.in-Some.next c.in-Some.is in

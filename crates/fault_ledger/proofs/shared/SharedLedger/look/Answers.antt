@@ -4,5 +4,5 @@ use Rattle.fault_ledger.proofs.shared.SharedLedger.look.Goals as goal
 pub invariant_of-seat : goal.invariant_of-seat
 invariant_of-seat c =
     let i = c.seat.inside in
-    seated_sees i.token c.look.new.token i.worker i.told i.row i.piece i.remembered.items
+    seated_sees i.token c.look.new.token i.worker i.exhausted i.row i.piece i.remembered.items
     c.seat.invariant c.look.ensures.seen

@@ -4,11 +4,11 @@ use Rattle.fault_ledger.proofs.shared.SharedLedger.meet.Goals as goal
 pub invariant_of-first : goal.invariant_of-first
 invariant_of-first c =
     let i = c.first.inside in
-    seated_sees i.token c.meet.new.first i.worker i.told i.row i.piece i.remembered.items
+    seated_sees i.token c.meet.new.first i.worker i.exhausted i.row i.piece i.remembered.items
     c.first.invariant c.meet.ensures.first_sees
 
 pub invariant_of-second : goal.invariant_of-second
 invariant_of-second c =
     let i = c.second.inside in
-    seated_sees i.token c.meet.new.second i.worker i.told i.row i.piece i.remembered.items
+    seated_sees i.token c.meet.new.second i.worker i.exhausted i.row i.piece i.remembered.items
     c.second.invariant c.meet.ensures.second_sees

@@ -22,13 +22,13 @@ invariant_of-seat c =
       hit = λ t. let e = c.ends_in_hit-hit.ensures t in let x = head.some (state.Hit e.0) e.1 in
           ap is_hit x.2;
     } in
-    let seated = seated_sees i.token now i.worker i.told i.row i.piece i.remembered.items
+    let seated = seated_sees i.token now i.worker i.exhausted i.row i.piece i.remembered.items
     c.seat.invariant f.sees in
-    subst (IsSeated now i.worker i.told i.row i.piece) (sym c.remember.ensures)
+    subst (IsSeated now i.worker i.exhausted i.row i.piece) (sym c.remember.ensures)
     (record {
       sitter = seated.sitter;
       worker_is = seated.worker_is;
-      told_is = seated.told_is;
+      exhausted_is = seated.exhausted_is;
       classes_is = seated.classes_is;
       piece_is = seated.piece_is;
       remembers = remembers_set now i.remembered.items c.args.class known seated.remembers recalls;

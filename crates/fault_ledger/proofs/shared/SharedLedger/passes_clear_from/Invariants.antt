@@ -5,7 +5,7 @@ use Rattle.fault_ledger.proofs.shared.SharedLedger.passes_clear_from.Given as go
 
 abbrev pub invariant-loop-block : goal.invariant-loop-block
 invariant-loop-block l = record {
-  sees : Sees l.fn.token l.fn.token.told l.token;
+  sees : Sees l.fn.token l.fn.token.exhausted l.token;
   unmoved : l.end ≡ 0 → l.token ≡ l.fn.token;
   clear : AreClear l.self.shape l.token.seen l.class l.block;
 }

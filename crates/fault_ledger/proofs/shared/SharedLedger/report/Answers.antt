@@ -20,7 +20,7 @@ within c =
     let at : i.token.place ≡ c.args.self.now = ap (λ (a : Sitter). a.place) c.seat.view_is
     ∙ c.requires in
     subst (λ (p : Place). c.in-Some.piece < piece_count p.shape) at (seated_piece i.token i.worker
-    i.told i.row i.piece i.remembered.items c.in-Some.piece c.seat.invariant c.in-Some.is)
+    i.exhausted i.row i.piece i.remembered.items c.in-Some.piece c.seat.invariant c.in-Some.is)
 
 row_is : (c : In-Some) → c.seat.inside.row ≡ c.args.self.now.shape.classes
 row_is c = c.seat.invariant.classes_is ∙ ap (λ (x : Sitter). x.place.shape.classes) c.seat.view_is
@@ -76,15 +76,15 @@ report-requires-clause-piece c =
     let at : i.token.place ≡ c.self.inside.words = ap (λ (a : Sitter). a.place) c.seat.view_is
     ∙ c.requires ∙ sym c.self.view_is in
     subst (λ (p : Place). c.in-Some.piece < piece_count p.shape) at (seated_piece i.token i.worker
-    i.told i.row i.piece i.remembered.items c.in-Some.piece c.seat.invariant c.in-Some.is)
+    i.exhausted i.row i.piece i.remembered.items c.in-Some.piece c.seat.invariant c.in-Some.is)
 
 pub invariant_of-seat : goal.invariant_of-seat
 invariant_of-seat c =
     let i = c.seat.inside in
     let now = c.report.new.token in
     let e = Event.Report i.token.worker c.args.outcome in
-    seated_makes i.token now e Done i.worker i.told i.row i.piece None i.remembered.items
+    seated_makes i.token now e Done i.worker i.exhausted i.row i.piece None i.remembered.items
     c.seat.invariant
-    (untold i.token i.worker i.told i.row i.piece i.remembered.items c.in-Some.piece
+    (untold i.token i.worker i.exhausted i.row i.piece i.remembered.items c.in-Some.piece
     c.seat.invariant c.in-Some.is) c.report.ensures
     (reported_free i.token now c.args.outcome Done c.report.ensures)

@@ -3,7 +3,7 @@ use Rattle.std.proofs.lemmas.List.{length-set}
 use Rattle.std.proofs.lemmas.Option.{get_or_from_slice_get}
 use Rattle.faultsim_c.specs.Calls.{first_number}
 use Rattle.faultsim_c.proofs.Tables.{next}
-use Rattle.faultsim_c.proofs.run.tell_verdicts.Goals as goal
+use Rattle.faultsim_c.proofs.run.write_verdicts.Goals as goal
 
 pub loop-fault-preserved : goal.loop-fault-preserved
 loop-fault-preserved c =

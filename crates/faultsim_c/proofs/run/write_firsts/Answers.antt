@@ -2,7 +2,7 @@ use Rattle.std.proofs.Common.{◌≡◌, ◌∙◌, None, ap, arith, get_or}
 use Rattle.std.proofs.lemmas.List.{length-set}
 use Rattle.faultsim_c.specs.Calls.{first_number}
 use Rattle.faultsim_c.proofs.Tables.{next}
-use Rattle.faultsim_c.proofs.run.tell_firsts.Goals as goal
+use Rattle.faultsim_c.proofs.run.write_firsts.Goals as goal
 
 pub loop-place-preserved : goal.loop-place-preserved
 loop-place-preserved c =

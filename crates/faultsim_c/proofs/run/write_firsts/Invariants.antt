@@ -1,7 +1,7 @@
 use Rattle.std.proofs.Common.{◌≡◌, ℕ, ◌<◌, None, get_or, length}
 use Rattle.std.specs.Prelude.{slice_index}
 use Rattle.faultsim_c.specs.Calls.{first_number}
-use Rattle.faultsim_c.proofs.run.tell_firsts.Given as goal
+use Rattle.faultsim_c.proofs.run.write_firsts.Given as goal
 
 abbrev pub invariant-loop-place : goal.invariant-loop-place
 invariant-loop-place l = (length l.firsts ≡ length l.fn.firsts)
