@@ -1,4 +1,4 @@
--- Which lanes of a group have tests that activate a fault.
+-- The lanes of a group whose tests activate a fault.
 use Rattle.std.proofs.Common.{◌≡◌, ◌≢◌, ◌<◌, ◌≤◌, ◌+◌, ◌*◌, ◌-◌, ◌^◌, ℕ, min, not, Bool, true}
 use Rattle.std.proofs.Common.{List, length, arith, ap, subst, sym, refl, ◌∙◌, ◌⊎◌, inl, inr}
 use Rattle.std.specs.Prelude.{[], IfSome, Some, bit_and, nat_lt, slice_get}
@@ -23,7 +23,7 @@ use Rattle.block_sim.specs.Words.{lane, test_of}
 use Rattle.block_sim.proofs.ListPlaces.{index_of}
 use Rattle.block_sim.proofs.Steps.{lane_of_zero, lanes_decide}
 
--- the lanes below the size of a group are those of the tests of the list
+-- the lanes below the size of a group are the lanes of tests of the list
 pub listed_lanes : (count group size low k : ℕ) → 128 * group < count
     → size ≡ min (count - 128 * group) 128 → lane low k ≡ nat_lt k size → k < 128
     → Decides (lane low k) (128 * group + k < count)
@@ -32,7 +32,7 @@ listed_lanes count group size low k some is at lt = (
   λ h. at ∙ lt-ltb k size (omega (arith, h, is, lt)),
 )
 
--- a lane that is 1 in three words: the test is of the list, the test before fits, and the line has
+-- a lane that is 1 in three words: the test is in the list, the test before fits, and the line has
 -- the complement of the stuck bit
 pub activating_lane : (c : List Statement) (tests : List Test) (f : Fault)
     (group k low fit other : ℕ)
@@ -77,7 +77,7 @@ module _ (P : ℕ → Type 0) (group word : ℕ)
       let k = trailing_zeros w128 word in
       (128 * group + k, (decides k least.0).0 (ap (λ x. x == 1) least.1))
 
-  -- one that is 0 has none
+  -- a word that is 0 has none
   pub no_lane : word ≡ 0 → ((t : ℕ) → t < 128 * group → P t → ⊥)
       → (t : ℕ) → t < 128 * (group + 1) → P t → ⊥
   no_lane none before t lt h = go (cases_lt t (128 * group))
@@ -90,7 +90,7 @@ module _ (P : ℕ → Type 0) (group word : ℕ)
           let at : t ≡ 128 * group + k = omega (arith, le) in
           false≢true (sym (lane_of_zero word k none) ∙ (decides k few).1 (subst P at h))
 
--- the fault of a number in the list of a job, as the simulation has it
+-- the fault of a number in the list of a job, in the form of the simulation
 pub stuck_at : (job : Parts) (list : FaultList) (m : Model) (i : ℕ) (l : Line) (bit : Bool)
     (f : Fault) → list ≡ job.list → BelongTogether job → m ≡ list.model
     → IfSome (slice_get list.list i) (λ g. l ≡ g.line)

@@ -1,5 +1,5 @@
--- What the rows of a circuit say of a signal is true of it where the statements stand in another
--- order, with each number moved.
+-- The facts about a signal in the rows of a circuit are true of the signal in the circuit whose
+-- statements stand in another order, with each number moved.
 use Rattle.std.proofs.Common.{ℕ, sym, ◌∙◌, ap, subst, List, map}
 use Rattle.std.specs.Prelude.{All, Contains, option_map}
 use Rattle.std.proofs.lemmas.List.Elements.{All-map}

@@ -1,5 +1,5 @@
--- A circuit and the same with its statements in the order of their places: each signal has its
--- place there as its number.
+-- A circuit, and the circuit with its statements in the order of their places: the place of each
+-- signal is its number in the second.
 use Rattle.std.proofs.Common.{◌≡◌, ◌<◌, ◌≤◌, ℕ, refl, sym, ◌∙◌, ap, subst, List, [], ◌∷◌}
 use Rattle.std.proofs.Common.{arith, inl, inr, length, ◌⊎◌}
 use Rattle.std.proofs.lemmas.Bool.{cases_order}
@@ -53,7 +53,7 @@ module _ (c d : List Statement) (well : IsWellFormed c) (arranged : IsArranged c
       let n = within_place (names c) s lt in
       place_within (names d) (place c d s) n.0 (signals_there.named s ∙ n.1)
 
-  -- the signal of a name, by its number in one list and in the other
+  -- the signal of a name, by its number in both lists
   pub named_there : (n : Name) (s : ℕ) → Contains (names c) n → s ≡ signal c n
       → (s < length (names c)) × (place c d s ≡ signal d n)
   named_there n s at is = (
@@ -76,7 +76,7 @@ module _ (c d : List Statement) (well : IsWellFormed c) (arranged : IsArranged c
   output_named o n e = observed_named c (sink.Out o, n) well
       (among (observers c) (sink.Out o, n) (output_observed c o n e))
 
-  -- the order has at a place the signal that is there
+  -- the order has at a place the signal of this place
   pub at_order : (i : ℕ) → i < length arranged.0
       → place c d (slice_index_or arranged.0 i 0) ≡ i
   at_order i lt =
@@ -85,7 +85,7 @@ module _ (c d : List Statement) (well : IsWellFormed c) (arranged : IsArranged c
       (slice_index_or arranged.0 i 0)
       (slice_get-get_or arranged.0 i 0 lt)
 
-  -- what stands before another there stands before it in the order
+  -- a statement that stands before another in the second circuit stands before it in the order
   stands_at : (i : ℕ) → i < length (names d)
       → (i < length arranged.0) × (place c d (slice_index_or arranged.0 i 0) ≡ i)
   stands_at i lt =
@@ -110,7 +110,7 @@ module _ (c d : List Statement) (well : IsWellFormed c) (arranged : IsArranged c
       arranged.1.forward i j 0 less top.0
       (subst (λ x. Reads c x (slice_index_or order j 0)) (sym same) back.2)
 
-  -- there each gate stands behind the signals that it reads
+  -- in the second circuit each gate comes after the signals that it reads
   pub rising_there : IsRising d
   rising_there g s r = go (cases_order s g)
     where
@@ -128,7 +128,7 @@ module _ (c d : List Statement) (well : IsWellFormed c) (arranged : IsArranged c
       go (inr (inl lt)) = lt
       go (inr (inr gt)) = absurd (rises g s gt within r)
 
-  -- there the numbers are a topological order
+  -- in the second circuit the numbers are a topological order
   pub natural_order : IsFlowOrder d (below (length (names d)))
   natural_order = record {
     signals = record {
@@ -163,14 +163,14 @@ module _ (c d : List Statement) (well : IsWellFormed c) (arranged : IsArranged c
             ),
           )
 
-  -- what has room for the circuit has room for it there
+  -- a state with room for the circuit has room for the second circuit
   pub room_there : (changes : PropagationState) → HasRoomFor c changes → HasRoomFor d changes
   room_there changes room = record {
     overlay = omega (arith, room.overlay, count_there);
     gates = omega (arith, room.gates, count_there);
   }
 
-  -- each signal has a level, and none a greater one than the depth
+  -- each signal has a level, which is at most the depth
   pub deep_there : (depth : ℕ) → HasDepth c depth → (s : ℕ) → s < length (names d)
       → (level : ℕ) × HasLevel d s level × (level ≤ depth)
   deep_there depth has s lt =
@@ -185,7 +185,7 @@ module _ (c d : List Statement) (well : IsWellFormed c) (arranged : IsArranged c
         omega (arith, le, has.2),
       )
 
-  -- a table of places has those of the signals in a list
+  -- a table of places has the places of the signals in a list
   pub places_of_all : (places xs : List ℕ) → ArePlaces c d places
       → ((s : ℕ) → Among s xs → s < length (names c))
       → map (λ s. slice_index_or places s 0) xs ≡ map (place c d) xs

@@ -1,4 +1,4 @@
--- What words in another order tell is true of the circuit as it was given.
+-- The facts in words in another order are true of the original circuit.
 use Rattle.std.proofs.Common.{◌≡◌, ◌+◌, ◌*◌, ℕ, sym, ◌∙◌, ap, subst, Bool, List, []}
 use Rattle.std.proofs.Common.{◌∷◌, refl, inl, inr, length}
 use Rattle.std.specs.Prelude.{Contains, None, Some, map, slice_index_or}
@@ -44,7 +44,7 @@ carried_name c f stuck well stands =
     let line : stuck.line ≡ f.line = ap (λ (x : Fault). x.line) stands.is in
     (named.0, ap (name_on c) line ∙ named.1)
 
--- what moves in a list of statements moves in the same list
+-- a fault that moves between lists of statements moves between equal lists
 pub moved_there : (c d own : List Statement) (f : Fault) (stuck moved : Stuck) → own ≡ c
     → stuck_fault moved ≡ moved_fault own d (stuck_fault stuck) → stuck_fault stuck ≡ f
     → stuck_fault moved ≡ moved_fault c d f
@@ -58,13 +58,13 @@ starts_there c d own stuck origin same starts =
     subst (λ x. (f : Fault) → IsStuckOf x f stuck → Starts x d f origin) same starts
 
 module _ (c d : List Statement) (well : IsWellFormed c) (arranged : IsArranged c d) where
-  -- a fault of the list moves to one of the list there
+  -- a fault of the list moves to a fault of the list of the second circuit
   pub listed_there : (m : Model) (f : Fault) → Contains (faults m c) f
       → Contains (faults m d) (moved_fault c d f)
   listed_there m f listed =
       (same_sinks c d well (reordered c d well arranged)).listed m f listed
 
-  -- and the line carries a name there
+  -- and its line carries a name in the second circuit
   pub carries_there : (m : Model) (f : Fault) → Contains (faults m c) f
       → (n : Name) × (name_on d (moved_line c d f.line) ≡ Some n) × Contains (names d) n
   carries_there m f listed =
@@ -118,7 +118,7 @@ module _ (c d : List Statement) (well : IsWellFormed c) (arranged : IsArranged c
         λ e. (h k lt).1 (e.0, same.0 e.1),
       )
 
-  -- what is shown there of the fault that moved is told here of the fault
+  -- the lanes in which the moved fault is shown have the first tests for the fault
   pub told_there : (tests : List Test) (span : BlockSpan) (f : Fault) (good : List ℕ)
       (lanes seen : ℕ) → AreWords d tests (group_of span) None good
       → AreLanesFor tests span c f lanes → (settled : ℕ → Type 0)
@@ -143,7 +143,7 @@ module _ (c d : List Statement) (well : IsWellFormed c) (arranged : IsArranged c
             ((detected_same_at c d well same tests f (128 * group_of span + k)).0 at);
       }
 
--- the signal of the line, and its number there
+-- the signal of the line, and its number in the second circuit
 pub carried_is : (c d : List Statement) (f : Fault) (origin : Origin) → IsWellFormed c
     → IsArranged c d → Starts c d f origin
     → (n : Name) × (name_on d (moved_line c d f.line) ≡ Some n) × Contains (names d) n

@@ -1,5 +1,5 @@
--- The way of a fault to the stem of a region: it leads on from gate to gate, a level higher at
--- each, and a fault at a signal that is not live is not detected.
+-- The way of a fault to the stem of a region: it leads from gate to gate, a level higher at each. A
+-- fault at a signal that is not live is not detected.
 use Rattle.std.proofs.Common.{◌≡◌, ◌≢◌, ◌<◌, ◌≤◌, ℕ, ◌+◌, Bool, refl, sym, ◌∙◌, subst, List}
 use Rattle.std.proofs.Common.{length, arith, inr, ◌⊎◌}
 use Rattle.std.specs.Prelude.{Contains, Option, Some, None}
@@ -38,7 +38,7 @@ deeper c s g step well within alone deep k h =
     let is = level_is c h.0 g k well h.2 h in
     omega (arith, low, up, is)
 
--- after as many steps as the circuit is deep it has come to the stem
+-- after as many steps as the circuit is deep, the fault has reached the stem
 pub stem_at_depth : (c : List Statement) (depth s step : ℕ) → IsWellFormed c
     → ((t : ℕ) → t < length (names c) → (k : ℕ) × HasLevel c t k × (k ≤ depth))
     → s < length (names c) → depth ≤ step
@@ -54,7 +54,7 @@ stem_at_depth c depth s step well has within long deep = go (lone_reader c s) re
 
 -- ---- a signal that is not live
 module _ (c : List Statement) (well : IsWellFormed c) (t : Test) (s : ℕ) (dead : ¬ IsLive c s) where
-  -- turned round it changes no live signal, so no observer sees it
+  -- complemented it changes no live signal, so no observer sees it
   module _ (bit : Bool) (v w : Name
       → Bool) (p : Solves c t None v) (q : Solves c t (Some (flip s bit)) w) where
     away : (m : Name) → IsLive c (signal c m) → line.Stem s ≢ line.Stem (signal c m)

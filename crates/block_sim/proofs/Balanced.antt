@@ -1,5 +1,5 @@
--- Simulation by events: of the signals that count the equation of each that does not wait holds,
--- and one evaluation keeps that.
+-- Event-driven simulation: the equation of each signal that counts and does not wait holds, and one
+-- evaluation keeps this.
 use Rattle.std.proofs.Common.{◌≡◌, ◌≢◌, ◌<◌, ℕ, refl, sym, ◌∙◌, ap, subst, true, List, length}
 use Rattle.std.proofs.Common.{arith, set, inl, inr, ◌⊎◌}
 use Rattle.std.specs.Prelude.{Some, None, slice_index_or, bit_xor}
@@ -21,7 +21,7 @@ use Rattle.block_sim.proofs.SignalEquations.{equation_here, word_other}
 
 module _ (c : List Statement) (counts : ℕ → Type 0) (tests : List Test) (group : ℕ) (f : ℕ
     → Fault) (good : List ℕ) (mask : ℕ) where
-  -- where none waits and all count, each lane of the mask solves
+  -- if none waits and all count, each lane of the mask solves the circuit
   pub balanced_solves : (delta at : List ℕ) (k : ℕ) → IsWellFormed c → ((s : ℕ) → counts s)
       → ((s : ℕ) → slice_index_or at s 0 ≡ 0) → IsBalanced c counts tests group f good mask delta at
       → k < 128 → lane mask k ≡ true
@@ -93,7 +93,7 @@ module _ (c : List Statement) (counts : ℕ → Type 0) (tests : List Test) (gro
               (λ r. scheduled.readers s r (live s is_counted r) idle)
               (balanced s k is_counted (before ne) lt in_mask)
 
-  -- ---- where the fault is
+  -- ---- the line of the fault
   -- The fault-free words satisfy the equations of all signals that the fault is not on.
   pub fault_free_holds : (delta : List ℕ) (s k : ℕ) → AreWords c tests group None good
       → ((t : ℕ) → slice_index_or delta t 0 ≡ 0) → IsElsewhere (f k) s → k < 128
@@ -108,7 +108,7 @@ module _ (c : List Statement) (counts : ℕ → Type 0) (tests : List Test) (gro
       same n = sym (lane_same (slice_index_or good (signal c n) 0) k
           (slice_index_or delta (signal c n) 0) (clear (signal c n)))
 
-  -- the first change: of the signal whose equation the fault is in
+  -- the first change: the signal whose equation the fault is in
   pub balanced_first : (delta at after : List ℕ) (s diff : ℕ)
       → AreWords c tests group None good → ((t : ℕ) → slice_index_or delta t 0 ≡ 0)
       → ((t k : ℕ) → t ≢ s → IsElsewhere (f k) t) → ((t : ℕ) → counts t → Reads c t s → IsLive c t)

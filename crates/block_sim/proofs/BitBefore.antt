@@ -1,4 +1,4 @@
--- The fault-free words say whether a line has a bit under a test of their group.
+-- The fault-free words have the bit of a line under each test of their group.
 use Rattle.std.proofs.Common.{◌≡◌, ◌<◌, ◌+◌, ◌*◌, ◌-◌, ◌/◌, ◌^◌, ◌&&◌, ◌⊎◌, inl, inr, not, ℕ, zero}
 use Rattle.std.proofs.Common.{suc, arith, length, refl, false, true, sym, ◌∙◌, ap, subst, Bool}
 use Rattle.std.proofs.Common.{List}
@@ -40,7 +40,7 @@ lane_has_bit c tests group k row l n bit well words lt at named = (there, back)
         agree c (test_of tests group k) None (lane_bits c row k) h.0 well (words k lt) h.2 n named
         ∙ own
 
--- a word of a group without a fault is that of its signal
+-- a fault-free word of a group is the word of its signal
 pub fault_free_word : (c : List Statement) (tests : List Test) (group s : ℕ) (row : List ℕ)
     → IsWellFormed c → AreWords c tests group None row
     → (k : ℕ) (n : Name) (v : Name → Bool) → k < 128 → name_of c s ≡ Some n
@@ -51,7 +51,7 @@ fault_free_word c tests group s row well words k n v lt at solves =
     ap (λ x. lane (slice_index_or row x 0) k) (sym number)
     ∙ agree c (test_of tests group k) None (lane_bits c row k) v well (words k lt) solves n named
 
--- the same of a block, whose word is half of that
+-- the same for a block, whose word is half of the group's
 pub fault_free_lane : (c : List Statement) (tests : List Test) (block s : ℕ) (row : List ℕ)
     (word : ℕ) → IsWellFormed c → AreWords c tests (block / 2) None row
     → ((k j : ℕ) → k < 64 → 64 * block + k ≡ 128 * (block / 2) + j
@@ -77,7 +77,7 @@ later_ones : (j : ℕ) → j < 127 → lane 340282366920938463463374607431768211
 later_ones j lt = ap (λ x. x == 1) (bit_at-suc 340282366920938463463374607431768211454 j)
     ∙ lane_ones 127 j lt
 
--- the test before the one of a number, where there is one
+-- the test before the one of a number, if there is one
 pub looks_at : (c : List Statement) (tests : List Test) (l : Line) (bit : Bool) (t j : ℕ)
     → suc t ≡ j → t < length tests
     → HasBit c (slice_index_or tests t []) l bit ↔ IsInitialized c tests l bit j
@@ -92,9 +92,8 @@ looks_at c tests l bit t j e lt =
     back : IsInitialized c tests l bit (suc t) → HasBit c (slice_index_or tests t []) l bit
     back h = subst (λ x. HasBit c x l bit) (sym (index_of tests t h.0 [] h.1)) h.2
 
--- the word of a signal one test earlier tells the bits of a line that carries it: lane k + 1 by
--- lane k of the
--- group, and lane 0 by the last lane of the group before
+-- the word of a signal one test earlier has the bits of a line that carries it: lane k + 1 is lane
+-- k of the group, and lane 0 is the last lane of the group before
 pub bits_before : (c : List Statement) (tests : List Test) (group k t number up : ℕ) (l : Line)
     (n : Name) (bit : Bool) → IsWellFormed c → k < 128 → suc t ≡ 128 * group + k
     → name_on c l ≡ Some n → Contains (names c) n → number ≡ signal c n
@@ -122,7 +121,7 @@ bits_before c tests (suc b) zero t number up l n bit well lt e at named is here 
     subst (λ x. (lane up 0 ≡ bit) ↔ HasBit c (slice_index_or tests x []) l bit) there
     (λ h. bits.0 (sym same ∙ h), λ h. same ∙ bits.1 h)
 
--- the lanes that fit are those with the bit that the line is slow to leave
+-- the lanes that fit are the lanes with the bit that the line is slow to leave
 pub fits_where : (bit : Bool) (before fits k : ℕ) → before < 2 ^ 128 → k < 128
     → ((bit ≡ true) × (fits ≡ before)) ⊎ ((bit ≡ false) × (fits ≡ bit_not w128 before))
     → (lane fits k ≡ true) ↔ (lane before k ≡ bit)
@@ -147,7 +146,7 @@ module _ (c : List Statement) (tests : List Test) (group k before fits : ℕ) (l
     (detection : (t : ℕ) → suc t ≡ 128 * group + k
     → (lane before k ≡ bit) ↔ HasBit c (slice_index_or tests t []) l bit)
     (fit : (lane fits k ≡ true) ↔ (lane before k ≡ bit)) where
-  -- where there is a test before
+  -- if there is a test before
   fits_look_back : 0 < 128 * group + k
       → Decides (lane fits k) (IsInitialized c tests l bit (128 * group + k))
   fits_look_back some = go (128 * group + k) refl some
@@ -192,7 +191,7 @@ module _ (c : List Statement) (tests : List Test) (group k before fits : ℕ) (l
           subst (λ b. Decides b (IsInitialized c tests l bit (128 * group + k))) (sym same)
           (fits_look_back (omega (arith, e)))
 
-  -- and the mask leaves out just this one
+  -- and the mask leaves out only this one
   pub masked_look_back : (mask : ℕ)
       → ((group ≡ 0) × (mask ≡ 340282366920938463463374607431768211454))
       ⊎ ((0 < group) × (mask ≡ 340282366920938463463374607431768211455))

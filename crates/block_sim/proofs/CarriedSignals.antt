@@ -1,4 +1,4 @@
--- The signal that a line carries, out of what the calls of a circuit give.
+-- The signal that a line carries, from the results of the calls of a circuit.
 use Rattle.std.proofs.Common.{◌≡◌, ◌<◌, ℕ, zero, suc, refl, sym, ◌∙◌, ap, subst, List, [], ◌∷◌}
 use Rattle.std.proofs.Common.{length}
 use Rattle.std.specs.Prelude.{Option, Some, None, map, slice_get, slice_index_or, unwrap_or}
@@ -15,7 +15,7 @@ use Rattle.fault_model.specs.Detection.{argument, name_on}
 use Rattle.block_sim.proofs.DataPins.{data_signals}
 use Rattle.block_sim.proofs.ListPlaces.{mapped_at}
 
--- a pin that reads a name is one of a gate
+-- a pin that reads a name is a pin of a gate
 pub record PinOf (c : List Statement) (gate pin : ℕ) (n : Name) : Type 0 where
   pub name : Name
   pub kind : Kind

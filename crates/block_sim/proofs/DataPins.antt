@@ -1,4 +1,4 @@
--- The signals that cells' data pins read, out of those of q and d.
+-- The signals that cells' data pins read, from the signals of q and d.
 use Rattle.std.proofs.Common.{◌≡◌, ℕ, refl, ap, List, [], ◌∷◌, drop}
 use Rattle.std.specs.Prelude.{map, slice_index_or}
 use Rattle.bench_net.specs.declared.ScanCell.{ScanCell}

@@ -1,4 +1,4 @@
--- The tests of a block that detect a fault, of a word that tells lanes in which it is detected.
+-- The tests of a block that detect a fault, from a word of lanes in which it is detected.
 use Rattle.std.proofs.Common.{◌≡◌, ◌<◌, ◌≤◌, ℕ, ◌+◌, ◌*◌, ◌-◌, ◌/◌, min, refl, sym, ◌∙◌, subst}
 use Rattle.std.proofs.Common.{Bool, true, false, List, []}
 use Rattle.std.proofs.Common.{length, arith}
@@ -85,7 +85,7 @@ module _ (c : List Statement) (tests : List Test) (block : ℕ) (f : Fault) (set
   within_word : (k : ℕ) → k < size_of (length tests) block → k < 64
   within_word k few = let le : k < min 64 (length tests - 64 * block) = few in omega (arith, le)
 
-  -- a lane of the group that is seen, at or below a lane of the block, is one of the block
+  -- a lane of the group that is seen, at or below a lane of the block, is a lane of the block
   seen_below : (k j : ℕ) → k < 64 → j ≤ place k → lane word j ≡ true
       → (i : ℕ) × (i ≤ k) × (lane own i ≡ true)
   seen_below k j lt le e =
@@ -99,7 +99,7 @@ module _ (c : List Statement) (tests : List Test) (block : ℕ) (f : Fault) (set
         half (128 * (block / 2) + j - 64 * block) j (omega (arith, down, lt)) there ∙ e,
       )
 
-  -- where lanes are settled only at and above one that is 1, the least is the outcome
+  -- if lanes are settled only at and above a lane that is 1, the least is the outcome
   pub outcome_of_lanes : ((k : ℕ) → k < 128 → settled k → (j : ℕ) × (j ≤ k) × (lane word j ≡ true))
       → (o : Outcome) → IsLeastLane own o → IsOutcome c tests f block o
   outcome_of_lanes ends Clear none = λ k few d.
@@ -121,7 +121,7 @@ module _ (c : List Statement) (tests : List Test) (block : ℕ) (f : Fault) (set
             false≢true (sym (least.2 i.0 (omega (arith, i.1, lt))) ∙ i.2)) e,
       )
 
-  -- where none is settled, the word says of each lane whether its test detects the fault
+  -- if none is settled, the word has for each lane whether its test detects the fault
   pub decided_lanes : ((k : ℕ) → settled k → ⊥) → (k : ℕ) → k < 64
       → Decides (lane own k) (DetectsAt c tests f (64 * block + k))
   decided_lanes never k lt = (λ e. (found k lt e).1, λ d. by (lane own k) refl d)
@@ -130,7 +130,7 @@ module _ (c : List Statement) (tests : List Test) (block : ℕ) (f : Fault) (set
       by true e d = e
       by false e d = absurd (clear k lt e (never (place k)) d)
 
--- what is active in lanes of a block alone is active on the block
+-- gates that are active only in lanes of a block are active on the block
 pub active_on_block : (c : List Statement) (tests : List Test) (block : ℕ) (f : Fault) (lanes : ℕ)
     (gates : List ℕ) → AreInSpan tests (one_block block) lanes
     → HasActive c tests block f gates → HasActiveIn c tests (block / 2) lanes (λ _. f) gates

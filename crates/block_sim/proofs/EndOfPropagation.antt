@@ -1,5 +1,5 @@
--- The end of a simulation by events: what was seen is what the fault shows, and what was evaluated
--- was active.
+-- The end of an event-driven simulation: the seen lanes are the lanes in which the fault is shown,
+-- and the evaluated gates were active.
 use Rattle.std.proofs.Common.{◌≡◌, ◌≢◌, ◌<◌, ℕ, ◌+◌, ◌*◌, refl, sym, ◌∙◌, ap, subst, Bool}
 use Rattle.std.proofs.Common.{true, false, not, List, [], length, set, arith, inl, inr, ◌⊎◌}
 use Rattle.std.specs.Prelude.{Contains, Some, None, slice_get, slice_index_or}
@@ -50,7 +50,7 @@ alike a true h = refl
 alike true false h = absurd (h refl)
 alike false false h = absurd (h refl)
 
--- ---- what the tests of the group detect, of what is shown
+-- ---- the tests of the group that detect the fault, from the lanes in which it is shown
 pub told_of_shown : (c : List Statement) (tests : List Test) (span : BlockSpan) (r : Fault)
     (good : List ℕ) (lanes seen : ℕ)
     → IsWellFormed c → AreWords c tests (group_of span) None good → AreLanesFor tests span c r lanes
@@ -77,7 +77,7 @@ told_of_shown c tests span r good lanes seen well words decides settled h =
         v.2 ((detection_is_of_any_solution c well r (test_of tests (group_of span) k)
         (lane_bits c good k) v.0 (words k lt) v.1).0 d)
 
--- ---- what was seen
+-- ---- the seen lanes
 module _ (c : List Statement) (tests : List Test) (group : ℕ) (f : ℕ
     → Fault) (good : List ℕ) (lanes : ℕ) (lv : ℕ → ℕ) (start mask : ℕ) (delta at : List ℕ)
     (level : ℕ) (well : IsWellFormed c)
@@ -125,7 +125,7 @@ module _ (c : List Statement) (tests : List Test) (group : ℕ) (f : ℕ
       followed k lt in_lanes unsettled true e = e
       followed k lt in_lanes unsettled false e = absurd (unsettled (out k lt in_lanes e))
 
-      -- an observed signal counts, so its bit is that of every solution
+      -- an observed signal counts, so its bit is its bit in every solution
       settled_bit : (k : ℕ) → k < 128 → lane mask k ≡ true → (v : Name → Bool)
           → Solves c (test_of tests group k) (Some (f k)) v → (o : Sink × Name)
           → Contains (observers c) o → bits_of c good delta k o.1 ≡ v o.1
@@ -209,7 +209,7 @@ module _ (c : List Statement) (tests : List Test) (group : ℕ) (f : ℕ
   active_touched gates words sized elsewhere rises all g s r ne =
       all g (touched_active g s words sized elsewhere rises r ne)
 
--- a first change of no lane at all: nothing is shown
+-- a first change in no lane at all: nothing is shown
 pub shown_unchanged : (c : List Statement) (tests : List Test) (group : ℕ) (f : ℕ
     → Fault) (good : List ℕ) (lanes : ℕ) (delta : List ℕ) (start diff : ℕ) (settled : ℕ → Type 0)
     → IsWellFormed c

@@ -1,4 +1,4 @@
--- A line that one pin of a gate alone reads: a fault there alters other signals only as far as it
+-- A line that only one pin of a gate reads: a fault on it alters other signals only as far as it
 -- alters the gate's.
 use Rattle.std.proofs.Common.{◌≡◌, ◌<◌, ℕ, zero, suc, ◌+◌, refl, sym, ◌∙◌, ap, subst, Bool, true}
 use Rattle.std.proofs.Common.{false, List, [], ◌∷◌, arith, inl, inr, ◌⊎◌}
@@ -19,7 +19,7 @@ use Rattle.fault_model.specs.Solution.{Test, Solves, value, under, sees, shows}
 use Rattle.fault_model.proofs.Public.{Driven, driven, under_other, observes, signal_apart}
 use Rattle.fault_model.proofs.Public.{defined_among}
 
--- a name that one gate alone reads, by one pin or by more, and that no observer observes
+-- a name that only one gate reads, by one or more pins, and that no observer observes
 pub record IsOnlyFor (c : List Statement) (name : Name) (args : List Name)
     (read : Name) : Type 0 where
   pub reads : Among read args
@@ -27,7 +27,7 @@ pub record IsOnlyFor (c : List Statement) (name : Name) (args : List Name)
       → Among read others → x ≡ name
   pub unobserved : (o : Sink × Name) → Contains (observers c) o → o.1 ≢ read
 
--- a line that one gate alone reads: the stem of a name that no other reads, or the branch to a pin
+-- a line that only one gate reads: the stem of a name that no other reads, or the branch to a pin
 pub record Enters (c : List Statement) (l : Line) : Type 0 where
   pub name : Name
   pub kind : Kind
@@ -59,7 +59,7 @@ pub map_alike : {X Y : Type 0} (f g : X → Y) (xs : List X) → ((x : X) → Am
 map_alike f g [] same = refl
 map_alike f g (x ∷ xs) same = rw (same x (inl refl), map_alike f g xs (λ y a. same y (inr a))) refl
 
--- Two solutions agree on the names that have a property, where each such name either has one bit in
+-- Two solutions agree on the names that have a property if each such name either has one bit in
 -- both, or is on no fault's line and its gate reads names that have the property.
 module _ (c : List Statement) (t : Test) (f g : Option Fault) (v w : Name
     → Bool) (well : IsWellFormed c) (p : Solves c t f v) (q : Solves c t g w) (P : Name
@@ -139,7 +139,7 @@ module _ (c : List Statement) (well : IsWellFormed c) (l : Line) (e : Enters c l
           let number : signal c m ≡ signal c e.name = cc in
           apart m e.name a gate_named other number
 
-  -- nor the stem of what another gate reads
+  -- nor the stem of a name that another gate reads
   pub args_away : (x a : Name) (kind : Kind) (args : List Name) → Among (Gate x kind args) c
       → Among a args → x ≢ e.name → l ≢ line.Stem (signal c a)
   args_away x a kind args stands h other same = go e.on
@@ -155,7 +155,7 @@ module _ (c : List Statement) (well : IsWellFormed c) (l : Line) (e : Enters c l
       go (inr on) = let bad : line.Pin (signal c e.name) on.0 ≡ line.Stem (signal c a) = sym on.1
           ∙ same in cc
 
-  -- an observer is another line, and does not observe what the gate alone reads
+  -- an observer is another line, and does not observe a name that only the gate reads
   pub unobserved : (o : Sink × Name) → Contains (observers c) o → (l ≢ line.Stem (signal c o.1))
       × (l ≢ branch o.0)
   unobserved o there = (λ same. stem same e.on, λ same. own same e.on)
@@ -174,8 +174,7 @@ module _ (c : List Statement) (well : IsWellFormed c) (l : Line) (e : Enters c l
       own same (inr on) = (observes c o well there).no_pin_line (signal c e.name) on.0 (sym on.1
           ∙ same)
 
--- A solution with a fault there and one with another fault, or none, of which other signals are
--- free.
+-- A solution with this fault, and one with another fault, or none, that other signals are free of.
 module _ (c : List Statement) (t : Test) (f : Fault) (g : Option Fault) (v w : Name
     → Bool) (well : IsWellFormed c) (e : Enters c f.line) (p : Solves c t (Some f) v)
     (q : Solves c t g w)
@@ -219,7 +218,8 @@ module _ (c : List Statement) (t : Test) (f : Fault) (g : Option Fault) (v w : N
                   inl (omega (arith, lt, up))
               low (inr same) = inr same
 
-  -- names of lower number have one bit in both, and where the gate's name has, so have all others
+  -- names of lower number have one bit in both; if the gate's name has one bit in both, so have all
+  -- others
   pub outside : (m : Name) → Among m (names c) → f.line ≢ line.Stem (signal c m)
       → (well.acyclic.0 m < well.acyclic.0 e.name) ⊎ (v e.name ≡ w e.name) → v m ≡ w m
   outside m a off by = same_where c t (Some f) g v w well p q IsOutside step m a (off, by)

@@ -80,7 +80,7 @@ pins_within c s kind pins well e = go (gate_at c s kind pins e)
         (subst (Among (slice_index_or pins i d)) (sym g.reads)
         (among pins (slice_index_or pins i d) (Contains-get_or pins i d lt)))
 
--- what one statement reads, and what all observe, is within the limit on sinks
+-- the names that one statement reads, and all observed names, are within the limit on sinks
 read_counted : (c : List Statement) (st : Statement) → Among st c → length (read st) ≤ sink_count c
 read_counted [] st a = absurd a
 read_counted (x ∷ c) st (inl e) =
@@ -129,7 +129,7 @@ pins_some c s kind pins circuit e = go (gate_at c s kind pins e)
         omega (arith, h, same)
 
 module _ (c : List Statement) (s : ℕ) (well : IsWellFormed c) (within : s < length (names c)) where
-  -- a signal that is no gate's is a source, at one place
+  -- a signal that no gate drives is a source, at one place
   pub one_source : (i j : ℕ) → slice_get (sources c) i ≡ name_of c s
       → slice_get (sources c) j ≡ name_of c s → i ≡ j
   one_source i j p q =

@@ -1,4 +1,4 @@
--- The lanes in which a fault begins its way, and those in which it is detected.
+-- The lanes in which a fault starts, and the lanes in which it is detected.
 use Rattle.std.proofs.Common.{◌≡◌, ◌<◌, ℕ, refl, sym, ◌∙◌, ap, subst, Bool, true, false, not, List}
 use Rattle.std.proofs.Common.{map, inl}
 use Rattle.std.specs.Prelude.{◌≢◌, All, Contains, Option, Some, None, slice_index_or, bit_xor}
@@ -44,7 +44,7 @@ unlike_turns false b x e is h = let n : false ≡ b = h ∙ sym e in false≢tru
 
 module _ (c : List Statement) (well : IsWellFormed c) (tests : List Test) (group : ℕ) (f : Fault)
     (good : List ℕ) (words : AreWords c tests group None good) (lanes : ℕ) where
-  -- a fault on a stem has come to its signal in the lanes in which it is excited
+  -- a fault on a stem has reached its signal in the lanes in which it is excited
   pub stem_come : (s excited : ℕ) (n : Name) → name_of c s ≡ Some n → f.line ≡ line.Stem s
       → ((k : ℕ) → k < 128 → Decides (lane excited k) ((lane lanes k ≡ true)
       × (lane_bits c good k n ≢ f.stuck)))
@@ -89,7 +89,7 @@ module _ (c : List Statement) (well : IsWellFormed c) (tests : List Test) (group
           stem_back c well (test_of tests group k) f n a own alters
           (subst (DetectsFlip c (test_of tests group k)) (sym number) d)
 
-  -- and one on a pin to the gate in those in which the gate's word differs
+  -- and one on a pin has reached the gate in the lanes in which the gate's word differs
   module _ (m : Model) (at : Contains (faults m c) f) (gate pin : ℕ)
       (on : f.line ≡ line.Pin gate pin) (kind : Kind) (pins delta : List ℕ) (diff : ℕ)
       (is_gate : gate_of c gate ≡ Some (kind, pins)) (clear : All (λ x. x ≡ 0) delta)
@@ -171,7 +171,7 @@ module _ (c : List Statement) (well : IsWellFormed c) (tests : List Test) (group
         let e = pin_enters m c f gate pin at on in
         (there e.0 e.1 k lt in_lanes, λ p. back e.0 e.1 k lt in_lanes p.0 p.1)
 
-  -- at an observer what is excited is detected
+  -- a fault that is excited at an observer is detected
   pub observer_told : (m : Model) (excited : ℕ) (n : Name) → Contains (faults m c) f
       → start_of f.line ≡ None → name_on c f.line ≡ Some n
       → ((k : ℕ) → k < 128 → Decides (lane excited k) ((lane lanes k ≡ true)
@@ -208,7 +208,7 @@ module _ (c : List Statement) (well : IsWellFormed c) (tests : List Test) (group
           named = let p = carries_named m c f well at in
               subst (Contains (names c)) (ap (λ o. unwrap_or o n) (sym p.1 ∙ carries)) p.2
 
-  -- where nothing is shown nothing is detected
+  -- if nothing is shown, nothing is detected
   pub none_told : AreShown c tests group (λ _. f) good lanes (λ _. ⊥) 0 → (k : ℕ) → k < 128
       → Decides (lane 0 k) ((lane lanes k ≡ true) × Detects c (test_of tests group k) f)
   none_told shown k lt = (

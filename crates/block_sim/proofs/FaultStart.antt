@@ -1,4 +1,4 @@
--- Where a fault begins: the lanes in which it is excited, and the first change.
+-- The start of a fault: the lanes in which it is excited, and the first change.
 use Rattle.std.proofs.Common.{◌≡◌, ◌≢◌, ◌<◌, ℕ, suc, ◌+◌, ◌*◌, refl, sym, ◌∙◌, ap, subst, Bool}
 use Rattle.std.proofs.Common.{true, false, List, [], ◌∷◌, length, map, set, arith, inl, inr, ◌⊎◌}
 use Rattle.std.specs.Prelude.{Contains, Option, Some, None, slice_get, slice_index_or, bit_and}
@@ -33,7 +33,7 @@ use Rattle.block_sim.proofs.SignalEquations.{equation_of, word_other}
 use Rattle.block_sim.proofs.ListPlaces.{index_of}
 use Rattle.block_sim.proofs.Steps.{changed_to, turned_lanes}
 
--- a line whose bit is the stuck one anyway
+-- a line that has the stuck bit anyway
 under_same : (f : Fault) (l : Line) (bit : Bool) → (f.line ≡ l → bit ≡ f.stuck)
     → under (Some f) l bit ≡ bit
 under_same f l bit stuck = go (same_line f.line l) refl
@@ -175,7 +175,7 @@ module _ (c : List Statement) (tests : List Test) (group : ℕ) (f : Fault) (goo
     cleared k lt in_lanes none = let stuck = still k lt in_lanes none in
         (lane_bits c good k, unmoved k lt stuck, unapart k lt stuck)
 
-    -- where it is excited in none, nothing is shown
+    -- if it is excited in no lane, nothing is shown
     pub shown_none : (seen : ℕ) → ((k : ℕ) → k < 128 → lane excited k ≡ false)
         → ((k : ℕ) → lane seen k ≡ false) → AreShown c tests group (λ _. f) good lanes settled seen
     shown_none seen none unseen = record {
@@ -183,7 +183,7 @@ module _ (c : List Statement) (tests : List Test) (group : ℕ) (f : Fault) (goo
       clear = λ k lt in_lanes out _. cleared k lt in_lanes (none k lt);
     }
 
-    -- the line of an observer: what is excited is shown
+    -- the line of an observer: an excited fault is shown
     pub shown_at_observer : (o : Sink) → branch o ≡ f.line → Contains (observers c) (o, n)
         → AreShown c tests group (λ _. f) good lanes settled excited
     shown_at_observer o own there = record {
@@ -291,7 +291,7 @@ first_on_pin c tests group f good lanes delta start pin diff kind pins well word
           (λ e. let same : line.Pin start pin ≡ line.Stem start = sym on ∙ e in cc))));
     }
 
--- the same out of the word of the signal that the line carries
+-- the same, from the word of the signal that the line carries
 pub stem_change : (c : List Statement) (tests : List Test) (group : ℕ) (f : Fault) (good : List ℕ)
     (lanes : ℕ) (delta : List ℕ) (start number word : ℕ) → IsWellFormed c
     → AreWords c tests group None good

@@ -1,4 +1,4 @@
--- The start of a simulation by events: after the first change, with its readers waiting, the
+-- The start of an event-driven simulation: after the first change, with its readers waiting, the
 -- invariant holds.
 use Rattle.std.proofs.Common.{◌≡◌, ◌≢◌, ◌<◌, ◌≤◌, ℕ, ◌+◌, refl, sym, ◌∙◌, ap, Bool, true, false}
 use Rattle.std.proofs.Common.{cond, List, [], ◌∷◌, length, arith, set, inl, inr, ◌⊎◌}

@@ -1,4 +1,4 @@
--- Flat lists that grow by a signal at a time, and what a row of them says.
+-- Flat lists that grow by one signal at a time, and the facts that a row of them gives.
 use Rattle.std.proofs.Common.{◌≡◌, ◌≢◌, ◌<◌, ◌≤◌, ℕ, ◌+◌, ◌-◌, sym, ◌∙◌, ap, subst, List, [], ◌∷◌}
 use Rattle.std.proofs.Common.{◌++◌, length, zero, suc, arith, inl, inr, ◌⊎◌, take, drop}
 use Rattle.std.specs.Prelude.{All, Contains, Some, None, slice_get, slice_index_or}
@@ -23,7 +23,7 @@ use Rattle.block_sim.proofs.Readers.{read_sink}
 use Rattle.block_sim.proofs.Rows.{pushed_get}
 use Rattle.block_sim.proofs.ScheduledGates.{same_gate, at_end}
 
--- ---- parts of a list
+-- ---- ranges of a list
 range_kept : {X : Type 0} (xs ys : List X) (a b : ℕ) → a ≤ b → b ≤ length xs
     → slice_range (xs ++ ys) a b ≡ slice_range xs a b
 range_kept xs ys a b up within =
@@ -49,7 +49,7 @@ module _ (c : List Statement) (well : IsWellFormed c) (s : ℕ) (n : Name)
     (named : name_of c s ≡ Some n) (items : List Sink) (are : items ≡ sinks c n) (i : ℕ)
     (readers : List ℕ)
     (h : AreGathered c s items i readers) where
-  -- a sink that is no gate's
+  -- a sink that is no gate's pin
   pub gathered_passed : (k d : Sink) → i < length items → slice_index_or items i d ≡ k
       → ((gate pin : ℕ) → k ≢ sink.Pin gate pin) → AreGathered c s items (i + 1) readers
   gathered_passed k d lt e isnt = record {
@@ -163,7 +163,7 @@ got [] i x lt e = absurd (omega (arith, lt))
 got (y ∷ xs) zero x lt e = ap Some (sym e)
 got (y ∷ xs) (suc i) x lt e = got xs i x (omega (arith, lt)) e
 
--- ---- standings
+-- ---- positions
 pub standings_none : (c : List Statement) → AreStandings c []
 standings_none c s standing at = let bad : None ≡ Some standing = at in cc
 
@@ -186,7 +186,7 @@ pub row_of : (c : List Statement) (pins : List ℕ) (readers : List ℕ) (rows :
 row_of c pins readers rows standings s row flat lt e =
     flat.numbered s row (got rows s row (omega (arith, lt, flat.count)) e)
 
--- and where the signal stands
+-- and the signal's position
 pub standing_of : (c : List Statement) (pins : List ℕ) (readers : List ℕ) (rows : List SignalRow)
     (standings : List Standing) (s : ℕ) (standing : Standing)
     → IsFlat c pins readers rows standings → s < length (names c)

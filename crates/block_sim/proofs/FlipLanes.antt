@@ -1,4 +1,4 @@
--- The lanes in which a signal that is turned round is detected, out of one spread that turns it in
+-- The lanes in which a complemented signal is detected, from one simulation that complements it in
 -- lanes of both bits.
 use Rattle.std.proofs.Common.{◌≡◌, ◌<◌, ◌≤◌, ◌+◌, ℕ, refl, sym, ◌∙◌, ap, subst, Bool, true, false}
 use Rattle.std.proofs.Common.{not, List, [], length, arith}
@@ -61,7 +61,8 @@ module _ (c : List Statement) (well : IsWellFormed c) (tests : List Test) (group
     ap (λ x. lane (slice_index_or good x 0) k) number,
   )
 
-  -- what the faults that turn it round make active is what it makes active turned round
+  -- the gates that the complementing faults make active are the gates that the complemented signal
+  -- makes active
   pub flips_activate : (span : BlockSpan) (lanes : ℕ) (gates : List ℕ) → group_of span ≡ group
       → AreInSpan tests span lanes
       → HasActiveByFlip c tests span s gates

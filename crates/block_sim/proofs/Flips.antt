@@ -1,4 +1,5 @@
--- What detects a signal that is turned round, and a fault by its first signal.
+-- The tests that detect a complemented signal, and the tests that detect a fault by its first
+-- signal.
 use Rattle.std.proofs.Common.{◌≡◌, ◌<◌, ℕ, refl, sym, ◌∙◌, ap, subst, Bool, true, false, not, List}
 use Rattle.std.proofs.Common.{arith, inl, inr, ◌⊎◌, eqb-true, eq-eqb}
 use Rattle.std.specs.Prelude.{◌≢◌, ◌==◌, Contains, Some, None, map, if◌then◌else◌, unwrap_or}
@@ -25,7 +26,7 @@ use Rattle.block_sim.proofs.EnteredGates.{Enters, Follows, IsFree, IsOnlyFor, ar
 use Rattle.block_sim.proofs.EnteredGates.{free_stem, gate_named, map_alike, outside, same_where}
 use Rattle.block_sim.proofs.EnteredGates.{shows_alike}
 
--- two bits are one, or the second is the first turned round
+-- two bits are equal, or the second is the complement of the first
 pub alike_or_turned : (a b : Bool) → (a ≡ b) ⊎ (b ≡ not a)
 alike_or_turned true true = inl refl
 alike_or_turned true false = inr refl
@@ -48,7 +49,7 @@ not_back true false e = refl
 not_back false true e = refl
 not_back false false e = cc
 
--- ---- what a fault does is a matter of its line and its bit
+-- ---- the effect of a fault depends on its line and its bit
 pub under_alike : (f g : Fault) (l : Line) (b : Bool) → f.line ≡ g.line → f.stuck ≡ g.stuck
     → under (Some f) l b ≡ under (Some g) l b
 under_alike f g l b on stuck = ap (λ x. if same_line x l then f.stuck else b) on
@@ -128,7 +129,7 @@ module _ (c : List Statement) (well : IsWellFormed c) where
   flip_off s b o there x = under_other (flip s b) (branch o.0) x
       ((observes c o well there).no_stem s)
 
-  -- ---- a fault on a line that one pin alone reads
+  -- ---- a fault on a line that only one pin reads
   module _ (t : Test) (f : Fault) (e : Enters c f.line) where
     gate_is : Among e.name (names c)
     gate_is = gate_named c well f.line e
@@ -252,7 +253,7 @@ module _ (c : List Statement) (well : IsWellFormed c) where
         ∙ stem_stuck t f h.faulty n h.solves_faulty a on) in
         detects_alike c t (flip (signal c n) d.0) f (sym on) stuck d.2
 
--- ---- the lines that a gate enters by
+-- ---- the lines by which a fault enters a gate
 pub pin_enters : (m : Model) (c : List Statement) (f : Fault) (gate pin : ℕ)
     → Contains (faults m c) f → f.line ≡ line.Pin gate pin
     → (e : Enters c f.line) × (signal c e.name ≡ gate)
@@ -280,7 +281,7 @@ pin_enters m c f gate pin at on = let p = listed_on m c f at in go p.0 p.1 p.3
     go s n (inl stem) = let bad : line.Pin gate pin ≡ line.Stem s = sym on ∙ stem in cc
     go s n (inr b) = by_branch n b.0 b.1 (sym on ∙ b.2)
 
--- where one gate alone reads the signal, and reads it by this name
+-- only one gate reads the signal, and reads it by this name
 pub record StemEnters (c : List Statement) (g s : ℕ) : Type 0 where
   pub enters : Enters c (line.Stem s)
   pub number : signal c enters.name ≡ g
@@ -327,7 +328,7 @@ stem_enters c g s well h =
       reads = reads;
     }
 
--- ---- what a gate passes on
+-- ---- the changes that a gate passes on
 module _ (c : List Statement) (well : IsWellFormed c) (t : Test) (s : ℕ)
     (e : Enters c (line.Stem s)) (read : Name) (of : signal c read ≡ s) (reads : Among read e.args)
   where
@@ -341,7 +342,7 @@ module _ (c : List Statement) (well : IsWellFormed c) (t : Test) (s : ℕ)
 
     module _ (u v : Name → Bool) (b : Bool) (p : Solves c t None u)
         (q : Solves c t (Some (flip s b)) v) (is : u read ≡ b) where
-      -- what the gate reads is as without the fault, but for the signal that is turned round
+      -- the gate's arguments are as without the fault, except for the complemented signal
       arg_turned : (a : Name) → Among a e.args → v a ≡ complemented_at c s u a
       arg_turned a h = go (signal c a == s) refl
         where

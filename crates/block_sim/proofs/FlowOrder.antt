@@ -30,7 +30,7 @@ flow_within c order i h lt = span_within (length (names c)) order (flow_spans c 
     (Contains-get_or order i 0 lt))
 
 module _ (c : List Statement) (well : IsWellFormed c) where
-  -- the signals that a gate reads stand before it
+  -- the signals that a gate reads come before it
   pub pins_first : (order : List ℕ) (i : ℕ) (n a : Name) (kind : Kind) (args : List Name)
       → IsFlowOrder c order → i < length order
       → slice_index_or order i 0 ≡ signal c n → Among (Gate n kind args) c → Among a args

@@ -67,7 +67,7 @@ module _ (c : List Statement) (tests : List Test) (group : ℕ) (f : Option Faul
       subst (λ m. IsRight c tests group f m (slice_index_or words m 0)) there
       (passed at.0 (omega (arith, at.1, le))))
 
--- one signal more, where the numbers are the order
+-- one signal more, if the numbers are the order
 pub natural_more : (c : List Statement) (tests : List Test) (group : ℕ) (f : Option Fault)
     (words : List ℕ) (i word : ℕ) → IsWellFormed c → IsFlowOrder c (below (length (names c)))
     → length (names c) ≤ length words → i < length (names c)

@@ -17,7 +17,7 @@ use Rattle.block_sim.specs.GateForms.{IsFormOf, inverted_if}
 use Rattle.block_sim.specs.Words.{lane, word_over, pin_bits}
 use Rattle.block_sim.proofs.Lanes.{lane_and, lane_xor, lane_zero, lane_ones, unlike}
 
--- the bit of one pin, and how many pins there are
+-- the bit of one pin, and the number of pins
 pin_at_from : (f : Option Fault) (gate : ℕ) (pins words delta : List ℕ) (k from i : ℕ)
     → i < length pins
     → slice_index_or (map (λ at. under f (line.Pin gate at.0) (lane (word_over words delta at.1) k))
@@ -63,14 +63,14 @@ is_odd_push (true ∷ bits) b = ap not (is_odd_push bits b) ∙ inverted (is_odd
     inverted false = refl
 is_odd_push (false ∷ bits) b = is_odd_push bits b
 
--- a word that turns a bit round in each lane or in none
+-- a word that complements a bit in each lane or in none
 inverted_there : (b turn : Bool) → unlike b turn ≡ inverted_if turn b
 inverted_there true true = refl
 inverted_there true false = refl
 inverted_there false true = refl
 inverted_there false false = refl
 
--- where a loop from 1 to the last of n pins ends
+-- the end of a loop from 1 to the last of n pins
 pub at_last : (n i : ℕ) → 0 < i → i ≤ n → n - 1 ≤ i → (1 ≤ n - 1 → i ≤ n - 1)
     → (i ≡ n - 1) ⊎ ((i ≡ 1) × (n - 1 ≡ 0))
 at_last n i started within passed at = go (cases_eq (n - 1) 0)
@@ -79,8 +79,8 @@ at_last n i started within passed at = go (cases_eq (n - 1) 0)
     go (inl none) = inr (omega (arith, none, started, within), none)
     go (inr some) = let le = at (omega (arith, some)) in inl (omega (arith, le, passed))
 
--- In each lane: whether the bits that the first pins see, inverted round or not, are all 1, and an
--- odd number of them 1.
+-- In each lane: whether the bits that the first pins see, inverted or not, are all 1, and an odd
+-- number of them are 1.
 pub record AreFolds (f : Option Fault) (gate : ℕ) (pins words delta : List ℕ) (turn : Bool)
     (i all odd : ℕ) : Type 0 where
   pub all_is : (k : ℕ) → k < 128
@@ -144,7 +144,7 @@ module _ (f : Option Fault) (gate : ℕ) (pins words delta : List ℕ) where
         odd_is = λ k lt. sym (lane_xor 0 word k ∙ rw (lane_zero k) refl) ∙ h.odd_is k lt;
       }
 
-  -- the last pin, which of one pin is the first again
+  -- the last pin; if there is only one pin, it is the first again
   pub folds_last : (turn : Bool) (flips i last all odd word other : ℕ) → length pins ≡ last + 1
       → ((i ≡ last) ⊎ ((i ≡ 1) × (last ≡ 0))) → ((k : ℕ) → k < 128 → lane flips k ≡ turn)
       → ((k : ℕ) → k < 128 → lane other k ≡ nat_lt 0 last)
@@ -227,7 +227,7 @@ module _ (f : Option Fault) (gate : ℕ) (pins words delta : List ℕ) where
           (λ n. list_all (λ b. inverted_if turn b) (take n (pin_bits f gate pins words delta k)))
           (sym one)
 
-  -- and so of all pins
+  -- and so for all pins
   whole : (k : ℕ) → take (length pins) (pin_bits f gate pins words delta k)
       ≡ pin_bits f gate pins words delta k
   whole k = let e : length (pin_bits f gate pins words delta k) ≡ length pins =

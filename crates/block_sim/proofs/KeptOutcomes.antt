@@ -24,7 +24,7 @@ use Rattle.block_sim.specs.BlockSpans.{AreInSpan, group_of}
 use Rattle.block_sim.specs.Words.{lane}
 use Rattle.block_sim.proofs.RegionLanes.{lanes_first, lanes_law}
 
--- the first test that detects a class that came to a stem in some lanes
+-- the first test that detects a class that reached a stem in some lanes
 pub arrived_first : (job : Parts) (span : BlockSpan) (stem class word seen : ℕ)
     → HasArrived job span stem class word
     → TellsFirstFlips job.circuit job.tests.tests (group_of span) word stem seen
@@ -107,7 +107,7 @@ memo_waits job followed memos one memo count each = record {
     go x (inr other) = subst (λ m. IsTrueMemo job x m ⊎ IsFollowed (followed ++ one ∷ []) x)
         (sym (get_or-set_other memos one.class x memo Nothing other)) (more x (each x))
 
--- a class came to a stem in lanes of tests alone
+-- a class reached a stem only in lanes of tests
 pub arrived_within : (job : Parts) (span : BlockSpan) (stem class word : ℕ)
     → HasArrived job span stem class word
     → AreInSpan job.tests.tests span word
@@ -132,7 +132,7 @@ followed_more job span stem followed one before within at x there =
         same (within, at)
     go (inr (inr bad)) = absurd bad
 
--- what is at rest has room for a circuit that it has words for
+-- a state at rest has room for a circuit that it has words for
 pub room_at_rest : (job : Parts) (changes : PropagationState) → IsWellFormed job.circuit
     → IsAtRest changes
     → length (names job.circuit) ≤ length changes.overlay → HasRoomFor job.circuit changes

@@ -1,5 +1,5 @@
--- Keys of signals: what the line of a gate asks of its key, and how a pass in level order gives
--- each signal one.
+-- Keys of signals: the condition of a gate's line on its key, and a pass in level order that gives
+-- each signal a key.
 use Rattle.std.proofs.Common.{◌≡◌, ◌≢◌, ◌<◌, ◌≤◌, ℕ, ◌+◌, refl, sym, ◌∙◌, ap, subst, List, map}
 use Rattle.std.proofs.Common.{length, set, arith, inl, inr, ◌⊎◌}
 use Rattle.std.specs.Prelude.{Contains, Option, Some, None, slice_index_or, unwrap_or}
@@ -56,7 +56,7 @@ module _ (c : List Statement) (s : ℕ) (well : IsWellFormed c) where
       go (Some (Gate m k args)) h e = h
       go (Some (Dff q d)) h e = nothing (kind, pins) e
 
-  -- the key of a source, and that of a gate
+  -- the key of a source, and the key of a gate
   pub source_key : (keys : List ℕ) → gate_of c s ≡ None → IsKeyOf c keys s 0
   source_key keys none = record {
     source = λ is. refl;
@@ -102,7 +102,7 @@ module _ (c : List Statement) (well : IsWellFormed c) (order : List ℕ) (is : I
     apart j i lt within same = not_itself (slice_index_or order i 0)
         (subst (λ s. GoesBefore c s (slice_index_or order i 0)) same (is.ordered j i 0 lt within))
 
-    -- a key stays one where that of a signal is written that the gate doesn't read
+    -- a key stays one if the key of a signal is written that the gate doesn't read
     kept : (keys : List ℕ) (s new g key : ℕ) → (Reads c g s → ⊥) → IsKeyOf c keys g key
         → IsKeyOf c (set keys s new) g key
     kept keys s new g key unread h = record {

@@ -1,4 +1,4 @@
--- What is known of a signal, by its mark.
+-- The known words of signals, by their marks.
 use Rattle.std.proofs.Common.{◌≡◌, ◌≢◌, ◌<◌, ◌≤◌, ◌==◌, ℕ, zero, suc, refl, sym, ◌∙◌, ap, Bool}
 use Rattle.std.proofs.Common.{true, false, List, [], ◌∷◌, ◌++◌, length, set, take, arith, eq-eqb}
 use Rattle.std.proofs.Common.{eqb-true}
@@ -40,7 +40,7 @@ unknown_here unit (x ∷ marks) (y ∷ words) zero mark e lt m other = go (x == 
 unknown_here unit (x ∷ marks) (y ∷ words) (suc s) mark e lt m other =
     unknown_here unit marks words s mark (omega (arith, e)) (omega (arith, lt)) m other
 
--- none is known where each mark is another
+-- no word is known if each mark is another
 pub none_known : (unit : ℕ) (marks words : List ℕ) (s : ℕ)
     → ((t : ℕ) → t < length marks → slice_index_or marks t 0 ≢ unit)
     → slice_index_or (known_words unit marks words) s None ≡ None
@@ -54,7 +54,7 @@ none_known unit (m ∷ marks) (w ∷ words) zero other = go (m == unit) refl
 none_known unit (m ∷ marks) (w ∷ words) (suc s) other =
     none_known unit marks words s (λ t lt. other (suc t) (omega (arith, lt)))
 
--- a word that is kept is known, and of the others as much as before
+-- a word that is kept is known, and the other words are known as before
 pub known_more : (unit : ℕ) (marks words : List ℕ) (s word : ℕ) → length marks ≡ length words
     → known_words unit (set marks s unit) (set words s word)
     ≡ set (known_words unit marks words) s (Some word)
@@ -79,12 +79,12 @@ marks_set unit (m ∷ marks) zero low (suc t) = low (suc t)
 marks_set unit (m ∷ marks) (suc s) low zero = low 0
 marks_set unit (m ∷ marks) (suc s) low (suc t) = marks_set unit marks s (λ u. low (suc u)) t
 
--- behind the end of a list nothing is marked
+-- after the end of a list nothing is marked
 pub past_end : (marks : List ℕ) (s : ℕ) → length marks ≤ s → slice_index_or marks s 0 ≡ 0
 past_end [] s le = refl
 past_end (m ∷ marks) zero le = absurd (omega (arith, le))
 past_end (m ∷ marks) (suc s) le = past_end marks s (omega (arith, le))
 
--- a list that was written over whole
+-- a list that was completely overwritten
 pub written : {X : Type 0} (n : ℕ) (xs ys : List X) → length xs ≡ n → take n (xs ++ ys) ≡ xs
 written n xs ys e = ap (λ m. take m (xs ++ ys)) (sym e) ∙ take-append_seam xs ys

@@ -1,5 +1,5 @@
--- The law of the table: over the true outcomes, the least test of a class is the first test of each
--- of its faults.
+-- The law of the table: in a table of true outcomes, the least test of a class is the first test of
+-- each of its faults.
 use Rattle.std.proofs.Common.{◌≡◌, ◌<◌, ◌≤◌, ℕ, zero, suc, ◌+◌, ◌*◌, ◌-◌, sym, subst, List, ◌∷◌}
 use Rattle.std.proofs.Common.{length, arith, inl, inr, ◌⊎◌}
 use Rattle.std.specs.Prelude.{Option, Some, None, map}
@@ -19,8 +19,8 @@ use Rattle.patterns.specs.Tests.{blocks, size_of}
 use Rattle.patterns.specs.Least.{Table, from_up, first_hit, least}
 use Rattle.block_sim.specs.First.{IsFirst, IsOutcome, IsTrueOutcome, IsTrueTable, LeastIsFirst}
 
--- a fault is detected by the same tests as the representative of its class, so what is true of that
--- on a block is true of it
+-- the tests that detect a fault are the tests that detect the representative of its class, so an
+-- outcome of the representative on a block is an outcome of the fault
 outcome_too : (c : List Statement) (tests : List Test) (f r : Fault) (block : ℕ) (o : Outcome)
     → ((t : ℕ) → DetectsAt c tests f t → DetectsAt c tests r t)
     → ((t : ℕ) → DetectsAt c tests r t → DetectsAt c tests f t) → IsOutcome c tests r block o
@@ -53,7 +53,7 @@ detects_within : (c : List Statement) (tests : List Test) (f : Fault) (t : ℕ)
     → DetectsAt c tests f t → t < length tests
 detects_within c tests f t d = place_within tests t d.0 d.1
 
--- a test from the block on is of the block, or of a later one
+-- a test from the block on is a test of the block, or of a later one
 in_block : (c : List Statement) (tests : List Test) (f : Fault) (block t : ℕ) → 64 * block ≤ t
     → DetectsAt c tests f t
     → ((k : ℕ) → k < size_of (length tests) block → DetectsAt c tests f (64 * block + k) → ⊥)

@@ -1,5 +1,5 @@
--- Each level from 1 up to a signal's is that of some signal, so a level is at most the number of
--- signals.
+-- Each level from 1 up to a signal's level is the level of some signal, so a level is at most the
+-- number of signals.
 use Rattle.std.proofs.Common.{◌≡◌, ◌<◌, ◌≤◌, ℕ, zero, suc, ◌+◌, ◌-◌, refl, sym, ◌∙◌, true, List, []}
 use Rattle.std.proofs.Common.{◌∷◌, length, map, max, arith, inl, inr, ◌⊎◌, eq-eqb}
 use Rattle.std.specs.Prelude.{fold, ◌==◌}
@@ -22,7 +22,7 @@ any_of [] q a = absurd a
 any_of (x ∷ xs) q (inl e) = or_left (q == x) _ (eq-eqb q x (sym e))
 any_of (x ∷ xs) q (inr a) = or_right (q == x) _ (any_of xs q a)
 
--- the greatest of some numbers is one of them, or what the search began with
+-- the greatest of some numbers is one of them, or the start of the search
 max_of : (a b : ℕ) → (max a b ≡ a) ⊎ (max a b ≡ b)
 max_of a b = go (cases_lt a b)
   where

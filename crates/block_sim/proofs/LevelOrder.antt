@@ -80,7 +80,7 @@ module _ (c : List Statement) (well : IsWellFormed c) where
       → f n ≡ g n
   one_level f g n p q a = levels_below f g p q (suc (well.acyclic.0 n)) n (omega arith) a
 
-  -- a signal goes before a gate that reads it, never behind
+  -- a signal goes before a gate that reads it, never after
   pub not_before : (n a : Name) (kind : Kind) (args : List Name) → Among (Gate n kind args) c
       → Among a args → GoesBefore c (signal c n) (signal c a) → ⊥
   not_before n a kind args gate reads before = go before.0 before.1 before.2 before.3 before.4
@@ -125,7 +125,7 @@ module _ (c : List Statement) (well : IsWellFormed c) where
             most,
           )
 
-  -- in level order the signals that a gate reads stand before it
+  -- in level order the signals that a gate reads come before it
   pub pins_before : (order : List ℕ) (i : ℕ) (n a : Name) (kind : Kind) (args : List Name)
       → IsLevelOrder c order → i < length order
       → slice_index_or order i 0 ≡ signal c n → Among (Gate n kind args) c → Among a args

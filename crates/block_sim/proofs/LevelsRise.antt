@@ -1,4 +1,4 @@
--- A gate lies above what it reads.
+-- A gate has a higher level than the signals that it reads.
 use Rattle.std.proofs.Common.{◌≡◌, ◌<◌, ℕ, refl, sym, ◌∙◌, ap, arith, length, List}
 use Rattle.std.specs.Prelude.{Contains, Option, map}
 use Rattle.std.specs.Option.{option_map_or}
@@ -37,14 +37,14 @@ reads_rise c level well are g s r =
     (among_map level r.args r.read (among r.args r.read r.reads)) in
     omega (arith, up, low, above, most)
 
--- whichever levels are taken, a signal has the level that it has
+-- in each choice of levels a signal has its level
 pub level_is : (c : List Statement) (level : Name → ℕ) (g k : ℕ) → IsWellFormed c
     → AreLevels c level → HasLevel c g k → level_at c level g ≡ k
 level_is c level g k well are h =
     ap (λ (o : Option Name). option_map_or level o 0) h.3
     ∙ (one_level c well level h.0 h.1 are h.2 (at_place (names c) g h.1 h.3) ∙ h.4)
 
--- a signal has the level that it has by its number
+-- a signal has its level by its number
 pub has_level : (c : List Statement) (level : Name → ℕ) (g : ℕ) → AreLevels c level
     → g < length (names c) → HasLevel c g (level_at c level g)
 has_level c level g are within = let n = within_place (names c) g within in

@@ -1,4 +1,4 @@
--- Where a fault of the list begins: the signal that its line carries, and the first change on a
+-- The start of a fault of the list: the signal that its line carries, and the first change on a
 -- stem or on a gate's pin.
 use Rattle.std.proofs.Common.{◌≡◌, ◌≢◌, ◌<◌, ◌≤◌, ℕ, ◌^◌, sym, ◌∙◌, ap, true, List, [], ◌∷◌}
 use Rattle.std.proofs.Common.{length, map, arith}
@@ -42,7 +42,8 @@ pub record StartsOnStem (c : List Statement) (f : Fault) (good : List ℕ) (lane
       → IsFirstChange c tests group (λ _. f) good lanes delta start
       (bit_and (bit_xor word (slice_index_or good number 0)) lanes)
 
--- a fault on a pin of a gate first changes the gate's signal, in the lanes in which that differs
+-- a fault on a pin of a gate first changes the gate's signal, in the lanes in which the gate's word
+-- differs
 pub record StartsOnPin (c : List Statement) (f : Fault) (good : List ℕ) (lanes gate : ℕ) :
     Type 0 where
   pub within : gate < length (names c)
@@ -80,7 +81,7 @@ module _ (c : List Statement) (m : Model) (f : Fault) (well : IsWellFormed c)
             (sym same));
       }
 
-  -- what the code takes for the number of that signal
+  -- the number that the code computes for this signal
   module _ (number : ℕ) (found : (n : Name) → name_on c f.line ≡ Some n → number ≡ signal c n) where
     pub is_carried : IsCarried c f number
     is_carried =
@@ -94,7 +95,7 @@ module _ (c : List Statement) (m : Model) (f : Fault) (well : IsWellFormed c)
           within = omega (arith, lt, is);
         }
 
-    -- and for the word of its stuck bit
+    -- and the word that it computes for the stuck bit
     module _ (good : List ℕ) (lanes word : ℕ) (stuck : (k : ℕ) → k < 128
         → lane word k ≡ f.stuck) where
       pub starts_on_stem : (delta : List ℕ) (start : ℕ) → f.line ≡ line.Stem start
@@ -111,7 +112,7 @@ module _ (c : List Statement) (m : Model) (f : Fault) (well : IsWellFormed c)
                 word well words on (omega (arith, low, room)) same stuck;
           }
 
-      -- where it is excited, the gate of the pin is among those that are active
+      -- if the fault is excited, the gate of the pin is active
       pub pin_counted : (tests : List Test) (group gate pin : ℕ) (gates : List ℕ)
           → AreWords c tests group None good → f.line ≡ line.Pin gate pin → lanes < 2 ^ 128
           → bit_and (bit_xor word (slice_index_or good number 0)) lanes ≢ 0

@@ -1,4 +1,4 @@
--- What stands at a place of a list.
+-- The element at a place of a list.
 use Rattle.std.proofs.Common.{◌≡◌, ℕ, zero, suc, ap, List, [], ◌∷◌}
 use Rattle.std.specs.Prelude.{Some, None, map, slice_get, slice_index_or, unwrap_or}
 

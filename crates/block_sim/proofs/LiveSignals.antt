@@ -1,4 +1,5 @@
--- What counts in a simulation by events: live signals, and those up to the level of the start.
+-- The signals that count in an event-driven simulation: live signals, and signals up to the level
+-- of the start.
 use Rattle.std.proofs.Common.{◌≡◌, ◌≢◌, ◌<◌, ◌≤◌, ℕ, ◌+◌, ◌-◌, refl, sym, ◌∙◌, ap, subst, Bool}
 use Rattle.std.proofs.Common.{false, List, length, set, arith, inl, inr, ◌⊎◌}
 use Rattle.std.specs.Prelude.{Some, slice_get, slice_index_or, IsTrue, ◌↔◌}
@@ -24,19 +25,19 @@ use Rattle.block_sim.proofs.ScheduledGates.{sink_gate}
 
 module _ (c : List Statement) (lv : ℕ → ℕ) (start : ℕ) (rises : (g s : ℕ) → Reads c g s
     → lv s < lv g) where
-  -- what a signal that counts reads counts too
+  -- the signals that a counted signal reads count too
   pub counts_closed : (g s : ℕ) → Reads c g s → Counts c lv start g → Counts c lv start s
   counts_closed g s reads (inl live) = inl (through reads live)
   counts_closed g s reads (inr low) = let up = rises g s reads in inr (omega (arith, low, up))
 
-  -- a gate that counts is live where it reads a signal that is not below the start
+  -- a gate that counts is live if it reads a signal that is not below the start
   pub reader_live : (s g : ℕ) → lv start ≤ lv s → Counts c lv start g → Reads c g s → IsLive c g
   reader_live s g from (inl live) reads = live
   reader_live s g from (inr low) reads = let up = rises g s reads in
       absurd (omega (arith, low, up, from))
 
--- ---- whether a signal is live, by its sinks
--- of the first sinks each is a pin of a gate that is not live
+-- ---- liveness of a signal, by its sinks
+-- each of the first sinks is a pin of a gate that is not live
 pub record AreDead (c : List Statement) (items : List Sink) (i : ℕ) : Type 0 where
   pub each : (j : ℕ) → j < i → (gate : ℕ) × (pin : ℕ)
       × (slice_get items j ≡ Some (sink.Pin gate pin)) × ¬ IsLive c gate
@@ -96,7 +97,7 @@ LiveFrom c order live place = (i : ℕ) → place ≤ i → i < length order
 
 module _ (c : List Statement) (well : IsWellFormed c) (order : List ℕ) (is : IsLevelOrder c order)
   where
-    -- it is known of the gates that read the next one
+    -- liveness is known for the gates that read the next one
     pub readers_known : (live : List Bool) (place g : ℕ) → 0 < place → place ≤ length order
         → LiveFrom c order live place → Reads c g (slice_index_or order (place - 1) 0)
         → IsLiveAt c live g

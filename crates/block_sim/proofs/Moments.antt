@@ -1,4 +1,4 @@
--- From one moment of a simulation by events to a later one.
+-- The step from one moment of an event-driven simulation to a later one.
 use Rattle.std.proofs.Common.{◌≡◌, ◌≢◌, ◌<◌, ◌≤◌, ◌⊎◌, ℕ, ◌+◌, refl, sym, ◌∙◌, ap, subst, true}
 use Rattle.std.proofs.Common.{List}
 use Rattle.std.proofs.Common.{length, map, arith, set, inl, inr}
@@ -33,7 +33,7 @@ use Rattle.block_sim.proofs.PropagationSteps.{evaluated_same, level_done, spread
 use Rattle.block_sim.proofs.PropagationSteps.{spreading_narrower}
 use Rattle.block_sim.proofs.Steps.{restored}
 
--- a moment, by all that it has
+-- a moment, by all its parts
 abbrev pub moment_of : List ℕ → List ℕ → ℕ → ℕ → ℕ → ℕ → Moment
 moment_of delta at evaluations level kept seen = record {
   delta = delta;
@@ -110,7 +110,7 @@ module _ (c : List Statement) (good : List ℕ) (lanes : ℕ) where
       back = ap (λ x. set x gate 1) is
           ∙ (set-set at gate 0 1 ∙ (ap (set at gate) (sym waits) ∙ set-get_or at gate 0))
 
-  -- ---- no lane is followed any more, or none waits, and what waits is cleared
+  -- ---- no lane is followed or no gate waits, and the waiting gates are cleared
   pub leads_cleared : (delta at idle : List ℕ) (evaluations level kept seen : ℕ)
       → ((g : ℕ) → slice_index_or idle g 0 ≡ 0)
       → (kept ≡ 0) ⊎ ((g : ℕ) → slice_index_or at g 0 ≡ 0)
@@ -147,7 +147,7 @@ module _ (c : List Statement) (good : List ℕ) (lanes : ℕ) where
       back : slice_set taken_at gate 0 ≡ at
       back = restored at gate 0 waits
 
-      -- its word is what it was
+      -- its word is unchanged
       pub leads_same : ((k : ℕ) → k < 128 → lane kept k ≡ true
           → lane (slice_index_or good gate 0) k ≡ lane word k)
           → Leads c good lanes (moment_of delta (slice_set at gate 1) before gate kept
@@ -175,7 +175,7 @@ module _ (c : List Statement) (good : List ℕ) (lanes : ℕ) where
         grown = grown;
       }
 
-      -- its signal changes, and the readers of that wait
+      -- its signal changes, and its readers wait
       pub leads_changed : (diff shown : ℕ) (now new : List ℕ) → slice_index_or delta gate 0 ≡ 0
           → now ≡ set delta gate diff → diff ≢ 0 → (k : ℕ) × (k < 128) × (lane diff k ≡ true)
           → ((k : ℕ) → k < 128 → lane diff k ≡ true → lane kept k ≡ true)
@@ -266,7 +266,7 @@ module _ (c : List Statement) (tests : List Test) (group : ℕ) (f : ℕ
       rising before.overlay before.waiting after.waiting
       (λ t. index_zero before.waiting t clear.gates) scheduled gates
 
--- what is seen of the first change, and of the lanes that are then followed
+-- the seen lanes of the first change, and the lanes that are then followed
 pub first_seen : (c : List Statement) (lanes : ℕ) (before after : PropagationState)
     (start diff seen kept : ℕ) → IsClear before
     → after.overlay ≡ set before.overlay start diff → start < length before.overlay
@@ -303,7 +303,7 @@ taken_now c good lanes well case at level kept seen gate t h in_at is taken =
       clear = h.waits_clear gate waits;
     }
 
--- what waits has a place
+-- a waiting gate has a place
 pub place_within : (at : List ℕ) (g : ℕ) → slice_index_or at g 0 ≢ 0 → g < length at
 place_within at g ne = go (cases_lt g (length at))
   where
@@ -311,7 +311,7 @@ place_within at g ne = go (cases_lt g (length at))
     go (inl lt) = lt
     go (inr le) = absurd (ne (get_or_past at g 0 le))
 
--- nor does it wait again for its own change
+-- nor does it wait again because of its own change
 pub idle_still : (c : List Statement) (gate : ℕ) (before after : List ℕ) → IsWellFormed c
     → AreScheduled c gate before after → slice_index_or before gate 0 ≡ 0
     → slice_index_or after gate 0 ≡ 0
@@ -323,7 +323,7 @@ idle_still c gate before after well scheduled idle = go (scheduled.only gate)
     go (inl e) = e ∙ idle
     go (inr w) = absurd (no_loop c gate well w.0.0)
 
--- it waits no more once it is evaluated, and what waits then lies behind it
+-- once evaluated it does not wait, and the waiting gates lie after it
 pub taken_behind : (c : List Statement) (good : List ℕ) (lanes : ℕ) (case : Case c) (m : Moment)
     → Spreads c good lanes case m → slice_index_or m.at m.level 0 ≡ 0
     → (g : ℕ) → slice_index_or m.at g 0 ≢ 0 → m.level + 1 ≤ g
@@ -331,11 +331,11 @@ taken_behind c good lanes case m h idle g ne = let le = h.not_below g ne in
     let other : g ≢ m.level = λ e. ne (ap (λ x. slice_index_or m.at x 0) e ∙ idle) in
     omega (arith, le, other)
 
--- as large as it is
+-- a state is as large as itself
 pub large_none : (m : PropagationState) → IsAsLarge m m
 large_none m = record { overlay = refl; gates = refl }
 
--- as large, one after another
+-- a state is as large, through one between them
 pub large_on : (l m n : PropagationState) → IsAsLarge l m → IsAsLarge m n → IsAsLarge l n
 large_on l m n a b = record {
   overlay = b.overlay ∙ a.overlay;

@@ -1,4 +1,4 @@
--- A signal that one pin of a gate alone reads is read by that gate alone.
+-- A signal whose only sink is one pin of a gate is read only by this gate.
 use Rattle.std.proofs.Common.{◌≡◌, ℕ, refl, sym, ◌∙◌, ap, subst, List, [], ◌∷◌, inl, inr}
 use Rattle.std.specs.Prelude.{Contains, Option, Some, None}
 use Rattle.std.specs.Option.{option_map_or}

@@ -1,6 +1,5 @@
--- The first test of a span that detects a fault, of a word that tells lanes in which it is
--- detected:
--- that of the least lane, whatever the word leaves out above it. And the outcome on each block.
+-- The first test of a span that detects a fault, from a word of lanes in which it is detected: the
+-- test of the least lane, whatever the word leaves out above it. And the outcome on each block.
 use Rattle.std.proofs.Common.{◌≡◌, ◌<◌, ◌≤◌, ℕ, ◌+◌, ◌*◌, ◌-◌, min, sym, subst, true, false, List}
 use Rattle.std.proofs.Common.{[]}
 use Rattle.std.proofs.Common.{length, arith}
@@ -40,7 +39,7 @@ module _ (c : List Statement) (tests : List Test) (span : BlockSpan) (f : Fault)
 
 module _ (c : List Statement) (tests : List Test) (span : BlockSpan) (f : Fault) (word : ℕ)
     (is_span : IsSpan (length tests) span) (first : TellsFirst c tests span f word) where
-  -- no test of a block detects the fault before which no lane is 1
+  -- if no lane of a block or before it is 1, no test of the block detects the fault
   pub clear_before : (block : ℕ) → span.first ≤ block → block ≤ span.last
       → ((j : ℕ) → 128 * group_of span + j < 64 * block + 64 → lane word j ≡ false)
       → IsOutcome c tests f block Clear

@@ -1,4 +1,4 @@
--- Which lanes have the second test of a pair.
+-- The lanes of capture tests, the second tests of pairs.
 use Rattle.std.proofs.Common.{◌≡◌, ◌⊎◌, ◌<◌, ◌≤◌, ◌+◌, ◌*◌, ◌/◌, ◌%◌, ◌&&◌, inl, inr, ℕ, zero, suc}
 use Rattle.std.proofs.Common.{Bool, true, refl, sym, ap, ◌∙◌, subst, arith}
 use Rattle.std.specs.Prelude.{◌==◌, bit_and}
@@ -54,7 +54,7 @@ seconds_decide group k lt = (there, back)
     back : IsSecondOfPair (128 * group + k) → lane 226854911280625642308916404954512140970 k ≡ true
     back h = let odd = second_odd (128 * group + k) h in is ∙ eq-eqb (k % 2) 1 (omega (arith, odd))
 
--- a lane of two words is 1 where it is in both
+-- a lane of two words is 1 if it is 1 in both
 pub both_decide : (a b k : ℕ) (P Q : Type 0) → Decides (lane a k) P → Decides (lane b k) Q
     → Decides (lane (bit_and a b) k) (P × Q)
 both_decide a b k P Q p q = (there, back)

@@ -1,4 +1,4 @@
--- The parts of a job as a box lends them.
+-- The parts of a job, as its box lends them.
 use Rattle.std.proofs.Common.{◌≡◌, ◌∙◌, ℕ, ap, Global, length, subst, sym, Vec}
 use Rattle.std.specs.Prelude.{map}
 use Rattle.bench_net.specs.Scan.{sources}
@@ -8,7 +8,7 @@ use Rattle.block_sim.specs.BlockSpans.{groups}
 use Rattle.block_sim.specs.Parts.{Parts}
 use Rattle.block_sim.specs.declared.job.JobParts.{JobParts}
 
--- what is seen of a job with these parts
+-- the view of a job with these parts
 abbrev pub view_of : JobParts → Parts
 view_of parts = record {
   circuit = parts.flat.statements;
@@ -17,7 +17,7 @@ view_of parts = record {
   tests = parts.tests;
 }
 
--- they are those of a job
+-- they are the parts of a job
 abbrev pub IsWhole : JobParts → Type 0
 IsWhole parts = IsJob (view_of parts) parts.flat.arranged (map (λ row. row.items) parts.rows.items)
     parts.class_stems.items parts.next_in_region.items parts.representatives.items
@@ -29,7 +29,7 @@ pub seen : {lent own : JobParts} {job : Parts} → lent ≡ own → view_of own 
     → view_of lent ≡ job
 seen same is = ap view_of same ∙ is
 
--- with other tests and their words they are those of a job still
+-- with other tests and their words they are still the parts of a job
 pub taken : (own new : JobParts) (tests : TestList) (rows : Vec (Vec ℕ Global) Global)
     → new ≡ record own { tests = tests; rows = rows } → IsWhole own → IsTestList tests
     → tests.width ≡ length (sources own.flat.statements)

@@ -1,5 +1,5 @@
--- How many gates are still to be evaluated at most: those that wait, and those that lie above the
--- level.
+-- The number of gates that are still to be evaluated at most: the gates that wait, and the gates
+-- above the level.
 use Rattle.std.proofs.Common.{◌≡◌, ◌≢◌, ◌<◌, ◌≤◌, ℕ, ◌+◌, refl, sym, ◌∙◌, ap, Bool, true}
 use Rattle.std.proofs.Common.{false, not, cond, List, [], ◌∷◌, length, arith, set, inl, inr, ◌⊎◌}
 use Rattle.std.specs.Prelude.{Contains, count_by, slice_index_or, nat_lt, ◌==◌}
@@ -74,7 +74,7 @@ module _ (lv : ℕ → ℕ) (at : List ℕ) (level : ℕ) where
       go (inl h) = inl (ltb-true level (lv g) h)
       go (inr h) = inr (true_waits (slice_index_or at g 0) h)
 
--- a gate of the level that is taken is ahead no more
+-- a gate of the level that is taken stops being pending
 pub pending_taken : (lv : ℕ → ℕ) (at : List ℕ) (level g : ℕ) (gates : List ℕ) → g < length at
     → lv g ≡ level → slice_index_or at g 0 ≢ 0 → Contains gates g
     → count_by (is_pending lv (set at g 0) level) gates + 1 ≤ count_by (is_pending lv at level)
@@ -96,7 +96,7 @@ pending_taken lv at level g gates within here waits listed =
         go (inr ne) (inr other) = pending_waits lv at level x
             (λ h. ne (get_or-set_other at g x 0 0 other ∙ h))
 
--- gates that are scheduled lie above the level, so they were ahead before
+-- gates that are scheduled lie above the level, so they were pending before
 pub pending_scheduled : (c : List Statement) (lv : ℕ → ℕ) (before after : List ℕ) (level s : ℕ)
     (gates : List ℕ) → ((r : ℕ) → Reads c r s → level < lv r) → AreScheduled c s before after
     → count_by (is_pending lv after level) gates ≤ count_by (is_pending lv before level) gates
@@ -114,7 +114,7 @@ pending_scheduled c lv before after level s gates above scheduled =
         go (inr ne) (inl same) = pending_waits lv before level x (λ h. ne (same ∙ h))
         go (inr ne) (inr w) = pending_above lv before level x (above x w.0.0)
 
--- higher up no more are ahead
+-- at a higher level no more gates are pending
 pub pending_higher : (lv : ℕ → ℕ) (at : List ℕ) (level next : ℕ) (gates : List ℕ) → level ≤ next
     → count_by (is_pending lv at next) gates ≤ count_by (is_pending lv at level) gates
 pending_higher lv at level next gates le = count_le (is_pending lv at level) (is_pending lv at next)
@@ -137,13 +137,13 @@ count_at_most p (x ∷ xs) = let a = count_cons p x xs in let w = weight_one (p 
     weight_one true = omega arith
     weight_one false = omega arith
 
--- one that is listed is counted
+-- a listed gate is counted
 pub count_one : (g : ℕ) (xs : List ℕ) → Contains xs g → 0 < count_by (λ x. x == g) xs
 count_one g xs at =
     let less = count_less (λ x. x == g) (λ x. false) g xs (λ x e. absurd (false≢true e))
     (eq-eqb g g refl) refl (among xs g at) in omega (arith, less)
 
--- where none waits any more
+-- if no gate waits any more
 pub pending_cleared : (lv : ℕ → ℕ) (at idle : List ℕ) (level : ℕ) (gates : List ℕ)
     → ((g : ℕ) → slice_index_or idle g 0 ≡ 0)
     → count_by (is_pending lv idle level) gates ≤ count_by (is_pending lv at level) gates

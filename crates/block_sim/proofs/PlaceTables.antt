@@ -1,4 +1,4 @@
--- A table of the places of signals in an order, as it is written from the first place on.
+-- A table of the places of signals in an order, while it is written from the first place on.
 use Rattle.std.proofs.Common.{◌≡◌, ◌<◌, ◌+◌, ℕ, refl, sym, ◌∙◌, ap, List, length, set, arith}
 use Rattle.std.proofs.Common.{get_or-set_other, get_or-set_same, below_more, ◌≢◌}
 use Rattle.std.specs.Prelude.{slice_index_or}

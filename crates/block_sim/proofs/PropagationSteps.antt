@@ -1,4 +1,4 @@
--- The invariant of a simulation by events, and that one evaluation keeps it.
+-- The invariant of an event-driven simulation: one evaluation keeps it.
 use Rattle.std.proofs.Common.{◌≡◌, ◌≢◌, ◌<◌, ◌≤◌, ℕ, ◌+◌, sym, ◌∙◌, ap, subst, true, List, length}
 use Rattle.std.proofs.Common.{arith, set, inl, inr, ◌⊎◌}
 use Rattle.std.specs.Prelude.{Some, None, slice_index_or, bit_xor}
@@ -25,7 +25,7 @@ use Rattle.block_sim.proofs.Steps.{lane_of_zero}
 
 module _ (c : List Statement) (tests : List Test) (group : ℕ) (f : ℕ
     → Fault) (good : List ℕ) (lanes : ℕ) (lv : ℕ → ℕ) (start mask : ℕ) where
-  -- ---- a level higher, where nothing waits below
+  -- ---- a level higher, if no gate waits below
   pub level_done : (delta at : List ℕ) (level next : ℕ) → level ≤ next
       → ((g : ℕ) → slice_index_or at g 0 ≢ 0 → next ≤ lv g)
       → IsPropagating c tests group f good lanes lv start mask delta at level
@@ -92,7 +92,7 @@ module _ (c : List Statement) (tests : List Test) (group : ℕ) (f : ℕ
       right = h.right;
     }
 
-    -- it was ahead, and is no more
+    -- it was pending, and is not any more
     pub pending_same : (gates : List ℕ) → HasTouched c delta gates
         → pending_gates lv (set at g 0) level gates + 1 ≤ pending_gates lv at level gates
     pending_same gates all = let by = h.touched g waits in
@@ -110,7 +110,7 @@ module _ (c : List Statement) (tests : List Test) (group : ℕ) (f : ℕ
       kept_at : (s : ℕ) → s ≢ g → slice_index_or (set delta g diff) s 0 ≡ slice_index_or delta s 0
       kept_at s ne = get_or-set_other delta g s diff 0 ne
 
-      -- what differed differs still
+      -- signals that differed still differ
       grown : (s : ℕ) → slice_index_or delta s 0 ≢ 0 → slice_index_or (set delta g diff) s 0 ≢ 0
       grown s ne e =
           ne (sym (kept_at s (λ same. ne (ap (λ x. slice_index_or delta x 0) same ∙ clear))) ∙ e)
@@ -273,7 +273,7 @@ spreading_narrower c tests group f good lanes lv start mask delta at level narro
       right = h.right;
     }
 
--- where no lane is followed any more, or none waits, what waits is cleared
+-- if no lane is followed or no gate waits, the waiting gates are cleared
 pub spreading_cleared : (c : List Statement) (tests : List Test) (group : ℕ) (f : ℕ
     → Fault) (good : List ℕ) (lanes : ℕ) (lv : ℕ → ℕ) (start mask : ℕ) (delta at idle : List ℕ)
     (level : ℕ) → ((g : ℕ) → slice_index_or idle g 0 ≡ 0)

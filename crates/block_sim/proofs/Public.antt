@@ -1,7 +1,6 @@
--- Lemmas on outcomes, representatives and stems: there is a true table, each outcome is one, each
--- test detects or doesn't, each class has one stem. Lemmas on what has a number: the signals of a
--- level order, and the gates whose pins are sinks.
--- Proofs of the crates above cite these alone.
+-- Lemmas on outcomes, representatives and stems: there is a true table, each outcome is unique,
+-- each test detects or doesn't, and each class has one stem. Lemmas on numbered things: the signals
+-- of a level order, and the gates whose pins are sinks. Proofs of the crates above cite only these.
 pub use Rattle.block_sim.proofs.LawOfTable.{least_is_first}
 pub use Rattle.block_sim.proofs.TrueTable.{one_outcome, true_table, which_detect}
 pub use Rattle.block_sim.proofs.Stems.{class_has_stem, one_class_stem}

@@ -1,4 +1,4 @@
--- The sinks of a signal that are gate pins are those of the gates that read it.
+-- The sinks of a signal that are gate pins are pins of the gates that read it.
 use Rattle.std.proofs.Common.{◌≡◌, ◌<◌, ℕ, refl, sym, ◌∙◌, ap, subst, List, length, arith}
 use Rattle.std.specs.Prelude.{Option, Some, unwrap_or}
 use Rattle.bench_net.specs.declared.Sink.TheVariants as sink

@@ -124,8 +124,8 @@ passes_is c t s u name kind args well p at = (
         ∙ (ap (value kind) alike ∙ (same ∙ (sym (agree c t None h.bits u well h.solves p name named)
         ∙ ap h.bits (sym one))))))
 
--- where one signal alone differs, the word of the gate that alone reads it tells in which lanes the
--- gate passes that on
+-- if only one signal differs, the word of the only gate that reads it has the lanes in which the
+-- gate passes the change on
 module _ (c : List Statement) (well : IsWellFormed c) (tests : List Test) (group : ℕ)
     (good : List ℕ) (words : AreWords c tests group None good) (s g : ℕ) (h : IsReadBy c g s)
     (kind : Kind) (pins : List ℕ)
@@ -211,7 +211,7 @@ module _ (c : List Statement) (well : IsWellFormed c) (tests : List Test) (group
         ∙ map_alike (lane_bits c good k) (bits_of c good delta k) h.reads.args
         (λ a b. sym (unturned k a e))) ∙ sym (read_as k lt)))
 
-    -- so a fault that has come to the signal has come to the gate
+    -- so a fault that has reached the signal has reached the gate
     pub come_over : (f : Fault) (lanes : ℕ) → HasCome c tests group f lanes s diff
         → HasCome c tests group f lanes g (bit_and (bit_xor word (slice_index_or good g 0)) lanes)
     come_over f lanes come k lt in_lanes = (
@@ -239,7 +239,7 @@ module _ (c : List Statement) (well : IsWellFormed c) (tests : List Test) (group
         )
         back false e new d = absurd ((turns.0 new).1 (unpassed k lt e))
 
--- the same after a change of that signal, where nothing differed
+-- the same after a change of this signal, if nothing differed
 pub crossed : (c : List Statement) (tests : List Test) (group : ℕ) (f : Fault) (good : List ℕ)
     (lanes s g diff word : ℕ) (kind : Kind) (pins before delta : List ℕ) → IsWellFormed c
     → AreWords c tests group None good
@@ -255,7 +255,7 @@ crossed c tests group f good lanes s g diff word kind pins before delta well wor
     (λ x ne. ap (λ d. slice_index_or d x 0) is ∙ (get_or-set_other before s x diff 0 ne
     ∙ index_zero before x clear)) valued f lanes come
 
--- in the lanes of that change the word tells which tests the gate lets it pass under
+-- in the lanes of this change the word has the tests under which the gate lets it pass
 pub crossed_where : (c : List Statement) (tests : List Test) (group : ℕ) (good : List ℕ)
     (lanes s g diff word : ℕ) (kind : Kind) (pins before delta : List ℕ) → IsWellFormed c
     → AreWords c tests group None good
@@ -276,7 +276,7 @@ crossed_where c tests group good lanes s g diff word kind pins before delta well
       λ p. turns.1 (p.0, over.0 p.1),
     )
 
--- a fault that has come in no lane comes on in none
+-- a fault that has arrived in no lane arrives at the next signal in none
 pub come_nowhere : (c : List Statement) (tests : List Test) (group : ℕ) (f : Fault)
     (lanes s g diff : ℕ) → diff ≡ 0 → HasCome c tests group f lanes s diff
     → HasCome c tests group f lanes g 0
@@ -285,7 +285,7 @@ come_nowhere c tests group f lanes s g diff none come k lt in_lanes = (
   λ p. absurd (false≢true (sym (lane_of_zero 0 k refl) ∙ p.0)),
 )
 
--- a signal that a gate reads is one of the circuit
+-- a signal that a gate reads is a signal of the circuit
 pub read_within : (c : List Statement) (g s : ℕ) → IsWellFormed c → Reads c g s
     → s < length (names c)
 read_within c g s well r =
@@ -295,7 +295,7 @@ read_within c g s well r =
     (name_of-signal c r.read a) in
     omega (arith, lt, r.of)
 
--- what reads a signal is a gate
+-- every reader of a signal is a gate
 pub reader_driven : (c : List Statement) (g s : ℕ) → IsWellFormed c → Reads c g s
     → gate_of c g ≡ None → ⊥
 reader_driven c g s well r none = never (gate_of c g) (

@@ -1,4 +1,4 @@
--- The laws of regions without fan-out.
+-- The laws of fanout-free regions.
 use Rattle.std.proofs.Common.{◌≡◌, ℕ, refl, sym, ◌∙◌, ap, subst, Bool, true, false, not, List, inl}
 use Rattle.std.proofs.Common.{inr, ◌⊎◌}
 use Rattle.std.specs.Prelude.{◌≢◌, ◌↔◌, Contains, Some, None, map, option_map, unwrap_or}
@@ -132,7 +132,7 @@ module _ (c : List Statement) (well : IsWellFormed c) (t : Test) (s g : ℕ)
 pub step_law : (c : List Statement) → IsWellFormed c → StepLaw c
 step_law c well t s g h = (step_there c well t s g h, λ p. step_back c well t s g h p.0 p.1)
 
--- ---- over the steps of a region
+-- ---- through the steps of a region
 region_there : (c : List Statement) (t : Test) {s r : ℕ} → IsWellFormed c → RunsTo c s r
     → DetectsFlip c t s → Arrives c t s r × DetectsFlip c t r
 region_there c t well here d = (there, d)
@@ -232,7 +232,7 @@ stem_law c well m f t s at on = subst (λ x. Alters c t f x ↔ HasBit c t f.lin
         }
 
 -- ---- a fault at an observer
--- the line of an observer carries what it observes
+-- the line of an observer carries the name that it observes
 observer_carries : (c : List Statement) (o : Sink × Name) → Contains (observers c) o
     → name_on c (branch o.0) ≡ Some o.1
 observer_carries c o at = go (among_append

@@ -1,4 +1,5 @@
--- Statements in another order: the same active gates, and the same of signals turned round.
+-- Statements in another order: the same active gates, and the same tests that detect complemented
+-- signals.
 use Rattle.std.proofs.Common.{◌≡◌, ℕ, refl, sym, ◌∙◌, ap, subst, List, map}
 use Rattle.std.specs.Prelude.{◌↔◌, Contains, Some, None}
 use Rattle.bench_net.specs.Statement.{Statement, Gate}
@@ -91,7 +92,7 @@ module _ (c d : List Statement) (well : IsWellFormed c) (is : IsReordered c d) w
   pub same_active : HasSameActive c d
   same_active = record { on_block = on_block; in_lanes = in_lanes; by_flip = by_flip }
 
-  -- ---- signals turned round
+  -- ---- complemented signals
 
   detected : (t : Test) (s : ℕ) → DetectsFlip c t s ↔ DetectsFlip d t (place c d s)
   detected t s = (

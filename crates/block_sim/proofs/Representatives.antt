@@ -1,4 +1,5 @@
--- The number that a class keeps of its representative names the representative in the fault list.
+-- The number that a class keeps of its representative is the representative's number in the fault
+-- list.
 use Rattle.std.proofs.Common.{◌≡◌, ◌<◌, ℕ, zero, suc, refl, sym, ◌∙◌, ap, subst, Bool, List, []}
 use Rattle.std.proofs.Common.{◌∷◌, ◌++◌, ◌⊎◌, inl, inr, length}
 use Rattle.std.specs.Prelude.{Contains, Option, Some, None, IfSome, map, slice_get, unwrap_or}
@@ -14,7 +15,7 @@ use Rattle.block_sim.specs.declared.words.Stuck.{Stuck}
 use Rattle.block_sim.specs.Origins.{HaveRepresentatives, IsRepresentativeIn}
 use Rattle.block_sim.proofs.Rows.{pushed_get}
 
--- where the elements of one list are found as those of another, the one at a place is
+-- if each element of one list is found at its place in another, the element at a place is found
 found_at : {X : Type 0} (find : ℕ → Option X) (xs : List ℕ) (ys : List X) (i k : ℕ)
     → map find xs ≡ map Some ys → slice_get xs i ≡ Some k
     → (y : X) × (find k ≡ Some y) × (slice_get ys i ≡ Some y)
@@ -45,7 +46,7 @@ representative_within m c list classes class k are e at =
     let found = representative_at m c classes class k are at in
     place_within list.list k found.0 (ap (λ l. slice_get l.list k) e ∙ found.1)
 
--- what a line and a bit that are those of the fault make is the fault
+-- a line and a bit of the fault make the fault
 fault_read : (m : Model) (o : Option Fault) (l : Line) (bit : Bool) (r : Fault) → o ≡ Some r
     → m ≡ r.model → IfSome o (λ f. l ≡ f.line) → IfSome o (λ f. bit ≡ f.stuck)
     → Some r ≡ Some (record { model = m; line = l; stuck = bit })
@@ -54,7 +55,7 @@ fault_read m o l bit r e of p q =
     let stuck : bit ≡ r.stuck = subst (λ x. IfSome x (λ f. bit ≡ f.stuck)) e q in
     rw (of, on, stuck) refl
 
--- the fault that they make is the representative, and it is one of the list
+-- the fault that they make is the representative, and it is in the list
 pub fault_is : (m : Model) (c : List Statement) (list : FaultList) (classes : Collapsed)
     (class k : ℕ) (own : Model) (l : Line) (bit : Bool) → AreClassesOf m c classes
     → list ≡ fault_list m c
@@ -80,7 +81,7 @@ fault_is m c list classes class k own l bit are e at same p q =
       })) (sym same) (subst (Contains (faults m c)) one here),
     )
 
--- the list of representatives of the first classes and that of the next one
+-- the list of representatives of the first classes, with the next representative
 pub representatives_more : (m : Model) (c : List Statement) (stucks : List Stuck) (stuck : Stuck)
     (class : ℕ) → length stucks ≡ class → HaveRepresentatives m c stucks
     → IsRepresentativeIn m c class stuck → HaveRepresentatives m c (stucks ++ stuck ∷ [])

@@ -28,7 +28,7 @@ use Rattle.block_sim.specs.Words.{AreWords, lane, lane_bits, test_of}
 
 -- ---- the observed signals
 
--- the numbers of the observed names: those of the outputs, and those of the cells' data pins
+-- the numbers of the observed names: of the outputs, and of the cells' data pins
 outputs_numbered : (c : List Statement) (from : ℕ) (ns : List Name)
     → map (λ (o : Sink × Name). signal c o.1)
     (map (λ at. (sink.Out at.0, at.1)) (enumerate_from from ns)) ≡ map (signal c) ns
@@ -71,7 +71,7 @@ seconds {X} h g (x ∷ xs) (y ∷ ps) p q e =
     let head : h x ≡ q y = ap (λ (pair : ℕ × ℕ). pair.1) heads in
     ap (λ n. n ∷ map h xs) head ∙ ap (λ ns. q y ∷ ns) (seconds h g xs ps p q tails)
 
--- what is observed is read by a statement
+-- an observed name is read by a statement
 output_read : (c : List Statement) (n : Name) → Among n (outputs c) → Among n (flat_map read c)
 output_read [] n a = a
 output_read (Input m ∷ c) n a = output_read c n a
@@ -173,14 +173,14 @@ lane_more first rows more observed words row k before pushed is =
     ∙ ap (λ rs. first ++ rs) (ap (λ r. lanes ++ r ∷ []) is
     ∙ sym (map-range_with_len_more (lane_row observed words) 0 k k (omega arith)))))
 
--- a list of observers, by what each of them gives
+-- a list of observers, by the bit of each of them
 same_row : (os : List (Sink × Name)) (p : Sink × Name → ℕ) (g : ℕ → Bool) (h : Sink × Name → Bool)
     → ((o : Sink × Name) → Among o os → g (p o) ≡ h o) → map g (map p os) ≡ map h os
 same_row [] p g h each = refl
 same_row (o ∷ os) p g h each = ap (λ b. b ∷ map g (map p os)) (each o (inl refl))
     ∙ ap (λ bs. h o ∷ bs) (same_row os p g h (λ x a. each x (inr a)))
 
--- a lane of a group's words has what the observers show under the lane's test
+-- a lane of a group's words has the bits that the observers show under the lane's test
 pub row_shows : (c : List Statement) (tests : List Test) (group k : ℕ) (words observed : List ℕ)
     (test : Test) (v : Name → Bool) → IsWellFormed c → AreWords c tests group None words → k < 128
     → observed ≡ map (λ (o : Sink × Name). signal c o.1) (observers c)

@@ -1,4 +1,4 @@
--- Rows of words, one a group.
+-- Rows of words, one for each group.
 use Rattle.std.proofs.Common.{◌≡◌, ◌<◌, ℕ, zero, suc, refl, sym, ◌∙◌, ap, subst, List, [], ◌∷◌}
 use Rattle.std.proofs.Common.{◌++◌, length, arith, inl, inr, ◌⊎◌}
 use Rattle.std.proofs.Common.{◌+◌, ◌≤◌, length-append}
@@ -32,7 +32,7 @@ pushed_get {X} (z ∷ xs) x y (suc i) e = go (pushed_get xs x y i e)
     go (inl h) = inl h
     go (inr h) = inr (ap suc h.0, h.1)
 
--- what stands in two lists put together stands in one of them
+-- an element of two joined lists is an element of one of them
 pub appended_get : {X : Type 0} (xs ys : List X) (y : X) (i : ℕ) → slice_get (xs ++ ys) i ≡ Some y
     → (slice_get xs i ≡ Some y) ⊎ ((j : ℕ) × (i ≡ length xs + j) × (slice_get ys j ≡ Some y))
 appended_get [] ys y i e = inr (i, omega arith, e)
@@ -103,7 +103,7 @@ from_first c tests rows are group row at =
       subst (λ n. AreWords c tests n None row) same own.1,
     )
 
--- what is so of each row is so of the row at a place
+-- a property of each row is a property of the row at a place
 pub each_row : (P : List ℕ → Type 0) (rows : List (List ℕ)) (at : ℕ) (row : List ℕ) → All P rows
     → slice_get rows at ≡ Some row → P row
 each_row P rows at row all is = subst P (get_or_from_slice_get rows at row [] is)

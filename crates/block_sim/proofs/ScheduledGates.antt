@@ -1,5 +1,5 @@
--- A pass over the readers of a signal, which wait from then on, and one over its sinks, which tells
--- whether some is an observer.
+-- A pass over the readers of a signal, after which they wait, and a pass over its sinks, after
+-- which it is known whether some sink is an observer.
 use Rattle.std.proofs.Common.{◌≡◌, ◌≢◌, ◌<◌, ◌≤◌, ℕ, ◌+◌, refl, sym, ◌∙◌, ap, subst}
 use Rattle.std.proofs.Common.{Bool, true, false, List, [], ◌∷◌, length, set, arith, inl, inr, ◌⊎◌}
 use Rattle.std.specs.Prelude.{Some, slice_get, slice_index_or, IsTrue, ◌↔◌}
@@ -32,7 +32,7 @@ cell_among (Output m ∷ c) q d (inr a) = cell_among c q d a
 cell_among (Gate m kind args ∷ c) q d (inl same) = let it : Gate m kind args ≡ Dff q d = same in cc
 cell_among (Gate m kind args ∷ c) q d (inr a) = cell_among c q d a
 
--- the first readers wait, and no others that did not before
+-- the first readers wait, and no others have begun to wait
 pub record HasScheduled (c : List Statement) (s : ℕ) (items : List ℕ) (i : ℕ)
     (before at : List ℕ) : Type 0 where
   pub readers : (j gate : ℕ) → j < i → slice_get items j ≡ Some gate
@@ -40,7 +40,7 @@ pub record HasScheduled (c : List Statement) (s : ℕ) (items : List ℕ) (i : �
   pub only : (r : ℕ) → (slice_index_or at r 0 ≡ slice_index_or before r 0)
       ⊎ ((Reads c r s × IsLive c r) × (slice_index_or at r 0 ≢ 0))
 
--- whether some of the first sinks is an observer's
+-- whether some of the first sinks is an observer's pin
 pub record HasObserver (c : List Statement) (s : ℕ) (items : List Sink) (i : ℕ)
     (observed : Bool) : Type 0 where
   pub some : observed ≡ true → IsObserved c s

@@ -22,7 +22,7 @@ seen_first c delta mask clear = record {
   shown = λ s k lt m o e. absurd (none_in_zero (slice_index_or delta s 0) k (clear s) e);
 }
 
--- a signal that changes is seen where it is observed
+-- a changed signal is seen if it is observed
 pub seen_changed : (c : List Statement) (delta : List ℕ) (mask seen g diff shown : ℕ)
     → slice_index_or delta g 0 ≡ 0 → g < length delta
     → ((k : ℕ) → k < 128 → Decides (lane shown k) (IsObserved c g × (lane diff k ≡ true)))
@@ -70,7 +70,7 @@ seen_narrower c delta mask seen narrow within h = record {
   shown = λ s k lt m o e. h.shown s k lt (within k lt m) o e;
 }
 
--- the same lanes, written otherwise
+-- the same lanes in another form
 pub seen_like : (c : List Statement) (delta : List ℕ) (mask seen now : ℕ)
     → ((k : ℕ) → lane now k ≡ lane seen k) → AreSeen c delta mask seen → AreSeen c delta mask now
 seen_like c delta mask seen now same h = record {

@@ -1,5 +1,5 @@
--- The lanes in which a signal turned round turns the stem: those of the gate that alone reads it,
--- where the gate passes that on.
+-- The lanes in which a complemented signal complements the stem: the lanes of the only gate that
+-- reads it, if the gate passes the change on.
 use Rattle.std.proofs.Common.{◌≡◌, ◌<◌, ◌≤◌, ℕ, refl, sym, ◌∙◌, ap, subst, Bool, true, false}
 use Rattle.std.proofs.Common.{List, [], ◌∷◌, ◌++◌, ◌⊎◌, ◌==◌, inl, inr, length, set, arith}
 use Rattle.std.proofs.Common.{eq-eqb, eqb-true}
@@ -35,7 +35,7 @@ carried_dead c tests group mask stem well dead k lt asked = (
   λ p. p.1,
 )
 
--- a signal that one gate alone reads
+-- a signal that only one gate reads
 pub carried_before : (c : List Statement) (tests : List Test) (group mask stem s g word new : ℕ)
     → IsWellFormed c → lone_reader c s ≡ Some g → CarriesFlip c tests group mask g stem word
     → ((k : ℕ) → k < 128 → Decides (lane new k)
@@ -65,7 +65,7 @@ carried_before c tests group mask stem s g word new well alone carried passes k 
           (carried k lt asked).1 (both.0, d),
         )
 
--- where the word of the gate is 0, and where it is not
+-- the word of the gate is 0, or it is not
 pub passed_nowhere : (c : List Statement) (tests : List Test) (group s g word : ℕ) → word ≡ 0
     → (k : ℕ) → k < 128 → Decides (lane 0 k)
     ((lane word k ≡ true) × Passes c (test_of tests group k) s g)
@@ -85,7 +85,7 @@ passed_where c tests group s g word new passed inside k lt = (
   λ p. (passed k lt p.0).1 p,
 )
 
--- a fault that has come to a signal has come to the stem
+-- a fault that has reached a signal has reached the stem
 pub come_to_stem : (c : List Statement) (tests : List Test) (group : ℕ) (f : Fault)
     (lanes mask s stem arrived word : ℕ)
     → ((k : ℕ) → k < 128 → lane lanes k ≡ true → lane mask k ≡ true)
@@ -128,7 +128,7 @@ module _ (known : List (Option ℕ)) (s word : ℕ) (within : s < length known) 
   here_now : slice_index_or (set known s (Some word)) s None ≡ Some word
   here_now = get_or-set_same known s (Some word) None within
 
-  -- what is known then
+  -- the words that are known then
   now_known : (t : ℕ) (w : ℕ) → slice_index_or (set known s (Some word)) t None ≡ Some w
       → ((t ≡ s) × (w ≡ word)) ⊎ (slice_index_or known t None ≡ Some w)
   now_known t w e = go (t == s) refl
@@ -175,7 +175,7 @@ module _ (known : List (Option ℕ)) (s word : ℕ) (within : s < length known) 
     ];
   }
 
-  -- and where none was, with the stem alone
+  -- and if none was known, with only the stem
   pub flips_begun : (c : List Statement) (good : List ℕ) (mask : ℕ)
       → length (names c) ≤ length known → ((t : ℕ) → slice_index_or known t None ≡ None)
       → ((tests : List Test) (group : ℕ) → AreWords c tests group None good

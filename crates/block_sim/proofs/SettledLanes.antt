@@ -1,4 +1,4 @@
--- The lanes of which nothing more is asked, as more lanes are seen and fewer are followed.
+-- The lanes that are settled, as more lanes are seen and fewer are followed.
 use Rattle.std.proofs.Common.{◌≡◌, ◌<◌, ◌≤◌, ℕ, ◌+◌, ◌^◌, refl, sym, ◌∙◌, ap, subst, Bool, true}
 use Rattle.std.proofs.Common.{false, ◌&&◌, ◌||◌, List, inl, inr, ◌⊎◌}
 use Rattle.std.specs.Prelude.{Contains, Some, bit_and, bit_or, nat_lt, slice_get, unwrap_or}
@@ -15,7 +15,7 @@ use Rattle.block_sim.proofs.Lanes.{lane_and, lane_or}
 use Rattle.block_sim.proofs.ScheduledGates.{at_end}
 use Rattle.block_sim.proofs.Steps.{left_behind, left_of, left_out, only_lanes}
 
--- what is settled stays so as more lanes are seen
+-- a settled lane stays settled as more lanes are seen
 pub settled_more : (extent : Extent) (seen more k : ℕ) → IsSettled extent seen k
     → IsSettled extent (bit_or seen more) k
 settled_more WholeBlock seen more k h = absurd h
@@ -35,13 +35,14 @@ settled_on extent lanes kept narrow seen more before out k lt in_lanes left = go
     go true e = out k lt e left
     go false e = settled_more extent seen more k (before k lt in_lanes e)
 
--- ---- of one that is followed
--- one that has the lane has a lane of its own that was seen, this one or one below
+-- ---- one followed class
+-- a class that is followed in the lane has a lane of its own, this one or a lower one, that was
+-- seen
 abbrev pub HasHit : Followed → ℕ → ℕ → Type 0
 HasHit one seen k = lane one.lanes k ≡ true
     → (j : ℕ) × (j ≤ k) × (lane one.lanes j ≡ true) × (lane seen j ≡ true)
 
--- it has the lane, and none of its lanes was seen up to this one
+-- it is followed in the lane, and none of its lanes up to this one was seen
 abbrev pub IsOpen : Followed → ℕ → ℕ → Type 0
 IsOpen one seen k = (lane one.lanes k ≡ true)
     × ((j : ℕ) → j ≤ k → lane one.lanes j ≡ true → lane seen j ≡ false)
@@ -122,7 +123,7 @@ module _ (followed : List Followed) (i : ℕ) (one : Followed) (at : slice_get f
             ∙ (ap (slice_get followed) (sym same) ∙ there)) in
             subst (λ y. HasHit y seen k) own (hit_of one seen low k small lt is none.1)
 
--- ---- what both words have
+-- ---- the lanes that both words have
 pub out_of : (lanes low k : ℕ) → lane lanes k ≡ true → lane (bit_and lanes low) k ≡ false
     → lane low k ≡ false
 out_of lanes low k own out = seen_not (lane low k)

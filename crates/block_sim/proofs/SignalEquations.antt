@@ -1,5 +1,5 @@
--- The equations of signals one by one: all of them make a solution, and a change of one word leaves
--- those of signals that do not read it.
+-- The equations of signals one by one: all of them make a solution, and a change of one word keeps
+-- the equations of signals that do not read it.
 use Rattle.std.proofs.Common.{◌≡◌, ◌≢◌, ◌<◌, ℕ, ◌+◌, refl, sym, ◌∙◌, ap, subst, Bool, false, List}
 use Rattle.std.proofs.Common.{[], ◌∷◌, length, set}
 use Rattle.std.specs.Prelude.{Contains, Option, Some, None, map, slice_index_or, unwrap_or, bit_xor}
@@ -44,7 +44,7 @@ module _ (c : List Statement) (t : Test) (f : Option Fault) (v : Name → Bool) 
       within n a = place_within (names c) (signal c n) n
           (name_of-signal c n (contained (names c) n a))
 
-  -- what agrees on a signal and on those that it reads satisfies its equation too
+  -- a valuation that agrees on a signal and on the signals that it reads satisfies its equation too
   pub equation_same : (w : Name → Bool) (s : ℕ) → ((n : Name) → signal c n ≡ s → v n ≡ w n)
       → ((n a : Name) (kind : Kind) (args : List Name) → signal c n ≡ s
       → Contains c (Gate n kind args) → Contains args a → v a ≡ w a)
@@ -57,7 +57,7 @@ module _ (c : List Statement) (t : Test) (f : Option Fault) (v : Name → Bool) 
         (pins_agree f v w s 0 args (λ a h. read n a kind args number at (contained args a h))));
   }
 
--- a fault that is elsewhere leaves an equation
+-- a fault that is elsewhere keeps an equation
 pins_from : (f : Fault) (v : Name → Bool) (s from : ℕ) (args : List Name) → IsElsewhere f s
     → map (λ at. sees None v (line.Pin s at.0) at.1) (enumerate_from from args)
     ≡ map (λ at. sees (Some f) v (line.Pin s at.0) at.1) (enumerate_from from args)
@@ -82,7 +82,7 @@ pub word_other : (good delta : List ℕ) (g diff s k : ℕ) → s ≢ g
 word_other good delta g diff s k ne = ap (λ d. lane (bit_xor (slice_index_or good s 0) d) k)
     (sym (get_or-set_other delta g s diff 0 ne))
 
--- a change of a word leaves the equations of signals that are not its own and do not read it
+-- a change of a word keeps the equations of other signals that do not read it
 pub equation_kept : (c : List Statement) (t : Test) (f : Option Fault) (good delta : List ℕ)
     (g diff s k : ℕ) → s ≢ g → (Reads c s g → ⊥)
     → HasEquation c t f (bits_of c good delta k) s
@@ -109,7 +109,7 @@ gate_named c n kind args g well number at =
     ap (λ k. gate_of c k) (sym number)
     ∙ ap (gate_line c) (definition-signal c (Gate n kind args) n well at refl)
 
--- the bits of the signals that pins read are what the pins see
+-- the bits of the signals that pins read are the bits that the pins see
 pins_named : (c : List Statement) (f : Option Fault) (good delta : List ℕ) (s k from : ℕ)
     (args : List Name)
     → map (λ at. under f (line.Pin s at.0) (lane (word_over good delta at.1) k))
@@ -120,7 +120,7 @@ pins_named c f good delta s k from (a ∷ args) =
     ap (λ more. under f (line.Pin s from) (bits_of c good delta k a) ∷ more)
     (pins_named c f good delta s k (from + 1) args)
 
--- what a gate gives for the words of its pins satisfies its equation, where the gate does not read
+-- the value of a gate for the words of its pins satisfies its equation, if the gate does not read
 -- itself
 pub equation_of : (c : List Statement) (t : Test) (f : Option Fault) (good delta after : List ℕ)
     (g k : ℕ) (kind : Kind) (pins : List ℕ) → IsWellFormed c → (Reads c g g → ⊥)

@@ -1,4 +1,4 @@
--- Signals with their keys: in the order of these they stand in a topological order.
+-- Signals with their keys: in the order of the keys they stand in a topological order.
 use Rattle.std.proofs.Common.{◌≡◌, ◌≢◌, ◌<◌, ◌⊎◌, inl, inr, ℕ, true, false}
 use Rattle.std.proofs.Common.{List, length, get_or, map, All, Some, refl, sym, ap}
 use Rattle.std.proofs.Common.{◌∙◌, subst, arith}
@@ -42,7 +42,7 @@ weak = ranks_by key_total (λ (x : Keyed). x)
 abbrev ComesBefore : Keyed → Keyed → Type 0
 ComesBefore a b = (a.key < b.key) ⊎ ((a.key ≡ b.key) × (a.signal < b.signal))
 
--- what is not sorted before another comes after it, or is the same signal
+-- an element that is not sorted before another comes after it, or is the same signal
 not_after : (a b : Keyed) → is_lt (key_cmp b a) ≡ false → a.signal ≢ b.signal → ComesBefore a b
 not_after a b e d =
     by_ranked (b.key < a.key) (b.key ≡ a.key) (a.key < b.key) (nat_cmp b.key a.key)
@@ -64,7 +64,7 @@ not_after a b e d =
         (λ is p. absurd (d (sym p)))
         (λ is p. p)
 
--- it is the same which of two numbers is compared with the other
+-- equality of two numbers doesn't depend on their order
 flips : (x y : ℕ) → eqb x y ≡ eqb y x
 flips x y = go (eqb_tells x y) (eqb_tells y x)
   where
@@ -82,7 +82,7 @@ signals l = map (λ (at : Keyed). at.signal) l
 module _ (c : List Statement) (keys : List ℕ) (xs ys : List Keyed)
     (room : length keys ≡ length (names c)) (have : HaveKeys c keys) (are : AreKeysOf keys xs)
     (p : IsPermutation xs ys) (up : IsSorted key_cmp ys) where
-  -- what is read of a list of signals with keys where it ends
+  -- the element that is read past the end of a list of signals with keys
   by_default : ℕ → Keyed
   by_default d = record { key = 0; signal = d }
 
@@ -142,7 +142,7 @@ module _ (c : List Statement) (keys : List ℕ) (xs ys : List Keyed)
       (λ e. once i j d lt (omega (arith, within, length-map ys (λ (at : Keyed). at.signal)))
       (one ∙ (e ∙ sym two)))
 
-  -- what the keys say of two signals of which one comes before the other
+  -- the facts that the keys give about two signals of which one comes before the other
   key_within : (at : Keyed) → HasKey at → at.signal < length (names c)
   key_within at has = let lt = slice_get_within keys at.signal at.key has in omega (arith, lt, room)
 

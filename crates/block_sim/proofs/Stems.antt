@@ -113,7 +113,7 @@ module _ (c : List Statement) (well : IsWellFormed c) where
   pub some_stem : (s : ℕ) → s < length (names c) → (r : ℕ) × (r < length (names c)) × IsStemOf c r s
   some_stem s lt = some_from (suc (greatest (map well.acyclic.0 (names c)))) s lt (omega arith)
 
-  -- where the way of a listed fault's line begins
+  -- the start of a listed fault's way
   pub way_of : (m : Model) (f : Fault) → Contains (faults m c) f
       → (s : ℕ) × (way_from c f.line ≡ Some s) × (s < length (names c))
   way_of m f at = let n = carries m c f well at in go f.line n.0 n.1 n.2
@@ -156,7 +156,7 @@ StemsFrom c order stems place = (i : ℕ) → place ≤ i → i < length order
 
 module _ (c : List Statement) (well : IsWellFormed c) (order : List ℕ) (is : IsLevelOrder c order)
   where
-    -- a gate stands behind what it reads
+    -- a gate comes after the signals that it reads
     pub behind : (p k g : ℕ) → p < length order → k < length order → slice_index_or order k 0 ≡ g
         → Reads c g (slice_index_or order p 0) → p < k
     behind p k g within inside at r = go (cases_order p k)

@@ -1,4 +1,4 @@
--- One evaluation, as the code makes it.
+-- One evaluation, in the steps of the code.
 use Rattle.std.proofs.Common.{◌≡◌, ◌≢◌, ◌<◌, ◌≤◌, ℕ, ◌+◌, ◌^◌, refl, sym, ◌∙◌, ap, Bool, true}
 use Rattle.std.proofs.Common.{false, ◌&&◌, List, set, arith, inl, inr, ◌⊎◌}
 use Rattle.std.specs.Prelude.{slice_index_or, bit_and, bit_xor, nat_lt, ◌==◌}
@@ -50,7 +50,7 @@ turned false true true h = refl
 turned false false true h = refl
 turned a b false h = absurd (false≢true h)
 
--- turned in the lanes in which it differs, it is the word
+-- complemented in the lanes in which it differs, it is the word
 pub changed_to : (word good lanes k : ℕ) → lane lanes k ≡ true
     → lane (bit_xor good (bit_and (bit_xor word good) lanes)) k ≡ lane word k
 changed_to word good lanes k in_lanes =
@@ -64,8 +64,8 @@ pub some_lane : (word : ℕ) → word < 2 ^ 128 → word ≢ 0 → (k : ℕ) × 
 some_lane word within ne = let found = bit_at-trailing_zeros w128 word (omega (arith, ne)) within in
     (_, found.0, ap (λ x. x == 1) found.1)
 
--- of lanes of which those below the first one of another word are kept, one that is left out lies
--- not below that one
+-- if lanes below the first lane of another word are kept, a lane that is left out is not below that
+-- first lane
 pub left_out : (lanes seen low k : ℕ) → seen < 2 ^ 128 → k < 128
     → ((j : ℕ) → j < 128 → lane low j ≡ nat_lt j (trailing_zeros w128 seen)) → lane lanes k ≡ true
     → lane (bit_and lanes low) k ≡ false
@@ -92,7 +92,7 @@ left_out lanes seen low k within lt is in_lanes out = go (cases_lt k (trailing_z
       ne,
     )) within in (trailing_zeros w128 seen, above, ap (λ x. x == 1) found.1)
 
--- the lanes, of those that are asked for, in which a word is not one bit
+-- the requested lanes in which a word does not have one bit
 pub turned_lanes : (word good lanes k : ℕ) (b : Bool) → lane word k ≡ b
     → Decides (lane (bit_and (bit_xor word good) lanes) k) ((lane lanes k ≡ true)
     × (lane good k ≢ b))
@@ -117,7 +117,7 @@ turned_lanes word good lanes k b is = (
     back true m false e ne = e
     back false m false e ne = absurd (ne refl)
 
--- lanes that one word decides, and of these those that a second word does
+-- the lanes that two words decide, one after the other
 pub lanes_decide : {A B : Type 0} (low fit k : ℕ) → Decides (lane low k) A
     → (A → Decides (lane fit k) B) → Decides (lane (bit_and low fit) k) (A × B)
 lanes_decide {A} {B} low fit k is by = (there, back)
@@ -138,7 +138,7 @@ lanes_decide {A} {B} low fit k is by = (there, back)
 pub lane_of_zero : (word k : ℕ) → word ≡ 0 → lane word k ≡ false
 lane_of_zero word k e = ap (λ x. lane x k) e ∙ lane_zero k
 
--- and none that is kept lies at or above a lane of that word
+-- and no kept lane lies at or above a lane of that word
 pub left_behind : (lanes seen low j k : ℕ) → seen < 2 ^ 128 → k < 128
     → ((i : ℕ) → i < 128 → lane low i ≡ nat_lt i (trailing_zeros w128 seen)) → j ≤ k
     → lane seen j ≡ true → lane (bit_and lanes low) k ≡ false

@@ -31,7 +31,7 @@ module _ (c : List Statement) (counts : ℕ → Type 0) (closed : (g s : ℕ) �
         go (inl e) = e
         go (inr ne) = let h = not_below s ne in absurd (omega (arith, h, low))
 
-    -- a signal whose equation holds has its true bit, where those that it reads have theirs
+    -- a signal whose equation holds has its true bit if the signals that it reads have theirs
     right_here : (n : Name) → Among n (names c) → counts (signal c n)
         → slice_index_or at (signal c n) 0 ≡ 0
         → ((a : Name) → Reads c (signal c n) (signal c a) → Among a (names c)

@@ -30,7 +30,7 @@ use Rattle.block_sim.proofs.Pairs.{second_or}
 abbrev Or : Type 0 → Type 0
 Or P = P ⊎ (P → ⊥)
 
--- one of a list has it, or none
+-- some element of a list has the property, or none has it
 one_or_none : {X : Type 0} (P : X → Type 0) (xs : List X) → ((x : X) → Or (P x))
     → Or ((x : X) × Contains xs x × P x)
 one_or_none P [] d = inr (λ r. absurd (let l = r.1.1 in omega (arith, l)))
@@ -78,7 +78,7 @@ module _ (c : List Statement) (tests : List Test) (well : IsWellFormed c) where
       go (inl o) = inl ((detection_is_of_any_solution c well f t v.0 w.0 v.1 w.1).1 o)
       go (inr n) = inr (λ d. n ((detection_is_of_any_solution c well f t v.0 w.0 v.1 w.1).0 d))
 
-  -- the one solution without a fault says whether a line has a bit
+  -- the unique fault-free solution decides whether a line has a bit
   bit_or : (t : Test) (l : Line) (n : Name) (b : Bool) → name_on c l ≡ Some n → Contains (names c) n
       → Or (HasBit c t l b)
   bit_or t l n b at named = go (same_or (v.0 n) b)
@@ -188,7 +188,7 @@ module _ (c : List Statement) (tests : List Test) (well : IsWellFormed c) where
         (omega arith) (λ lower lt d. absurd (omega (arith, lt)))).1,
   )
 
--- which tests detect the representative of a class
+-- the tests that detect the representative of a class
 pub which_detect : (m : Model) (c : List Statement) (tests : List Test) (class : ℕ) (r : Fault)
     → IsWellFormed c → slice_get (representatives m c) class ≡ Some r
     → (detects : ℕ → Bool) × ((t : ℕ) → Decides (detects t) (DetectsAt c tests r t))
@@ -215,7 +215,7 @@ true_table m c tests well = (
       class_true c tests well m class block r.0 (slice_get (representatives m c) class) refl r.1,
 )
 
--- the first test of a block that detects a fault is one
+-- the first test of a block that detects a fault is unique
 one_of_fault : (c : List Statement) (tests : List Test) (f : Fault) (block : ℕ) (o p : Outcome)
     → IsOutcome c tests f block o → IsOutcome c tests f block p → o ≡ p
 one_of_fault c tests f block Clear Clear x y = refl

@@ -1,6 +1,5 @@
--- The way to the stem of a region gets shorter gate by gate, and each class that gets known adds
--- its
--- own to the ways of those that are.
+-- The way to the stem of a region gets shorter gate by gate, and each class that becomes known adds
+-- its own way to the sum.
 use Rattle.std.proofs.Common.{◌≡◌, ◌+◌, ◌*◌, ◌/◌, ◌<◌, ◌≤◌, ◌⊎◌, inl, inr, ℕ, zero, suc, refl, sym}
 use Rattle.std.proofs.Common.{◌∙◌, ap, subst, true, false, Bool, List, [], ◌∷◌, length, set, arith}
 use Rattle.std.specs.Prelude.{Some, None, if◌then◌else◌, slice_index_or}
@@ -141,7 +140,7 @@ module _ (way : ℕ → ℕ) (block : ℕ) (memos : List Memo) (class : ℕ) (me
     now : one (class, memo) ≡ way class
     now = ap (λ b. if b then way class else 0) is
 
-    -- a class that was not known on the block is
+    -- a class that was not known on the block becomes known
     pub known_more : is_on block before ≡ false
         → known_ways way block (set memos class memo) ≡ known_ways way block memos + way class
     known_more idle =
@@ -159,8 +158,8 @@ module _ (way : ℕ → ℕ) (block : ℕ) (memos : List Memo) (class : ℕ) (me
             let all = moved in let own = now in omega (arith, all, same, own)
         go false e = let more = known_more e in omega (arith, more)
 
--- a span that begins at a block, and below the third one has it alone, has no other blocks than
--- these
+-- a span that begins at a block, and below the third one has only this block, has no other blocks
+-- than these
 span_within : (tests : ℕ) (span : BlockSpan) (block : ℕ) → IsSpan tests span → span.first ≡ block
     → (block < 2 → span.last ≡ block)
     → span.last ≤ (span_from block).last
@@ -176,7 +175,7 @@ span_within tests span block is first alone = go (cases_lt block 2)
         subst (λ b. span.last ≤ (if b then block else block / 2 * 2 + 1)) (sym (le-ltb block 2 le))
         (omega (arith, one, first))
 
--- and makes no more gates active than they do
+-- and makes no more gates active than these blocks do
 pub active_wider : (c : List Statement) (tests : List Test) (span : BlockSpan) (block s : ℕ)
     (gates : List ℕ) → IsSpan (length tests) span → span.first ≡ block
     → (block < 2 → span.last ≡ block) → HasActiveByFlip c tests (span_from block) s gates

@@ -1,4 +1,4 @@
--- A simulation by events from the first change of a fault to its end.
+-- An event-driven simulation from the first change of a fault to its end.
 use Rattle.std.proofs.Common.{◌≡◌, ◌≢◌, ◌<◌, ◌≤◌, ℕ, ◌+◌, true, false, List, length, set}
 use Rattle.std.proofs.Common.{arith}
 use Rattle.std.specs.Prelude.{◌==◌, count_by, slice_index_or}
@@ -18,7 +18,7 @@ use Rattle.block_sim.specs.Words.{lane}
 use Rattle.block_sim.proofs.EndOfPropagation.{active_touched, shown_from}
 use Rattle.block_sim.proofs.Moments.{case_of, first_left, first_seen, first_spreads}
 
--- no gate waits any more, what was seen is shown, and what was evaluated was active
+-- no gate waits any more, the seen lanes are shown, and the evaluated gates were active
 pub record HasEnded (c : List Statement) (tests : List Test) (group : ℕ) (f : ℕ → Fault)
     (good : List ℕ) (lanes : ℕ) (before now : PropagationState) (start seen : ℕ) (settled : ℕ
     → Type 0) :

@@ -22,7 +22,7 @@ use Rattle.block_sim.specs.Words.{lane, lane_bits, word_over, test_of, AreWords,
 use Rattle.block_sim.specs.Words.{pin_bits}
 use Rattle.block_sim.proofs.Lanes.{lane_xor, lane_zero, unlike}
 
--- where the words do not differ, an overlaid word is the word
+-- if the words do not differ, an overlaid word is the word
 pub lane_same : (word k d : ℕ) → d ≡ 0 → lane (bit_xor word d) k ≡ lane word k
 lane_same word k d e = ap (λ x. lane (bit_xor word x) k) e
     ∙ (lane_xor word 0 k ∙ (ap (unlike (lane word k)) (lane_zero k) ∙ turned (lane word k)))
@@ -31,7 +31,7 @@ lane_same word k d e = ap (λ x. lane (bit_xor word x) k) e
     turned true = refl
     turned false = refl
 
--- what pins see, by the signals that they read and by names
+-- the bits that pins see, by the signals that they read and by names
 pins_from : (c : List Statement) (f : Option Fault) (words delta : List ℕ) (gate k from : ℕ)
     (args : List Name) → ((s : ℕ) → slice_index_or delta s 0 ≡ 0)
     → map (λ at. under f (line.Pin gate at.0) (lane (word_over words delta at.1) k))
@@ -51,7 +51,7 @@ pub pins_named : (c : List Statement) (f : Option Fault) (words delta : List ℕ
     args
 pins_named c f words delta gate k args clear = pins_from c f words delta gate k 0 args clear
 
--- what agrees with a solution on every signal is one
+-- a valuation that agrees with a solution on every signal is a solution
 pub solves_like : (c : List Statement) (t : Test) (f : Option Fault) (v w : Name → Bool)
     → IsWellFormed c → ((n : Name) → Among n (names c) → v n ≡ w n)
     → Solves c t f w → Solves c t f v
@@ -67,13 +67,13 @@ solves_like c t f v w well same known = record {
 }
 
 module _ (c : List Statement) (tests : List Test) (group : ℕ) (f : Option Fault) where
-  -- a signal's word is right where in each lane it has the bit that every solution gives the signal
+  -- a signal's word is right if in each lane it has the bit that every solution gives the signal
   abbrev pub IsRight : ℕ → ℕ → Type 0
   IsRight s word = (n : Name) (k : ℕ) (v : Name → Bool) → name_of c s ≡ Some n → k < 128
       → Solves c (test_of tests group k) f v → lane word k ≡ v n
 
-  -- a word that satisfies the equation of its signal is right, where the words of the signals that
-  -- its gate reads are
+  -- a word that satisfies the equation of its signal is right if the words of the signals that its
+  -- gate reads are right
   pub right_by_equation : (words : List ℕ) (s word : ℕ) → IsWellFormed c
       → IsSignalWord c tests group f words s word
       → ((n a : Name) (kind : Kind) (args : List Name) → signal c n ≡ s → Among (Gate n kind args) c
@@ -107,7 +107,7 @@ module _ (c : List Statement) (tests : List Test) (group : ℕ) (f : Option Faul
       go (inr (inl x)) = by_source (among_right (inputs c) (map (λ cell. cell.0) (cells c)) n x)
       go (inr (inr x)) = by_gate x.0 x.1 x.2
 
-  -- where every signal's word is right, each lane solves
+  -- if every signal's word is right, each lane solves the circuit
   pub right_in_lanes : (words : List ℕ) → IsWellFormed c
       → ((s : ℕ) → s < length (names c) → IsRight s (slice_index_or words s 0))
       → AreWords c tests group f words

@@ -1,17 +1,17 @@
--- Which tests of a list activate a fault.
+-- The tests of a list that activate a fault.
 use Rattle.std.specs.Prelude.{◌≡◌, ℕ, not, List, Some, slice_get}
 use Rattle.bench_net.specs.Statement.{Statement}
 use Rattle.fault_model.specs.Fault.{Fault}
 use Rattle.fault_model.specs.Solution.{Test}
 use Rattle.fault_model.specs.Detection.{HasBit, LooksBack}
 
--- The test of this number activates the fault: without a fault it gives the line the complement of
--- the stuck bit, and the test before is what the fault's model wants. So a transition fault is
--- activated where a pair of tests launches the transition that is slow.
+-- The test of this number activates the fault: in the fault-free circuit it gives the line the
+-- complement of the stuck bit, and the test before meets the condition of the fault's model. So a
+-- transition fault is activated if a pair of tests launches the slow transition.
 abbrev pub ActivatesAt : List Statement → List Test → Fault → ℕ → Type 0
 ActivatesAt c tests f t = (test : Test) × (slice_get tests t ≡ Some test)
     × HasBit c test f.line (not f.stuck) × LooksBack c tests f.model f.line f.stuck t
 
--- some test of the list does
+-- some test of the list activates the fault
 abbrev pub IsActivated : List Statement → List Test → Fault → Type 0
 IsActivated c tests f = (t : ℕ) × ActivatesAt c tests f t

@@ -1,5 +1,5 @@
--- Which gates a fault makes active on a block: those that have to be looked at to know what the
--- fault does.
+-- The gates that a fault makes active on a block. A simulation evaluates them to compute the
+-- fault's effect.
 use Rattle.std.specs.Prelude.{◌≡◌, ◌≢◌, ℕ, ◌+◌, ◌*◌, ◌<◌, Bool, true, List, length, Contains, Some}
 use Rattle.std.specs.Prelude.{None, slice_get}
 use Rattle.bench_net.specs.declared.Kind.{Kind}
@@ -11,8 +11,8 @@ use Rattle.fault_model.specs.Solution.{Test, Solves, sees}
 use Rattle.patterns.specs.Tests.{size_of}
 use Rattle.block_sim.specs.Words.{lane}
 
--- Under a test some pin of the gate sees another bit with the fault than without it. Of a
--- transition fault it is the line stuck at the fault's bit that counts.
+-- Under a test some pin of the gate sees another bit with the fault than without it. A transition
+-- fault counts as its line stuck at the fault's bit.
 pub record IsActiveBy (c : List Statement) (t : Test) (f : Fault) (gate : ℕ) : Type 0 where
   pub fault_free : Name → Bool
   pub faulty : Name → Bool
@@ -40,7 +40,7 @@ IsActiveIn c tests group lanes f gate =
     (k : ℕ) × (t : Test) × (k < 128) × (lane lanes k ≡ true)
     × (slice_get tests (128 * group + k) ≡ Some t) × IsActiveBy c t (f k) gate
 
--- the list names each gate that the faults make active in the lanes, one a lane
+-- the list has each gate that the faults, one for each lane, make active in the lanes
 abbrev pub HasActiveIn : List Statement → List Test → ℕ → ℕ → (ℕ → Fault) → List ℕ → Type 0
 HasActiveIn c tests group lanes f gates = (gate : ℕ) → IsActiveIn c tests group lanes f gate
     → Contains gates gate
@@ -51,7 +51,7 @@ IsActive c tests block f gate =
     (k : ℕ) × (t : Test) × (k < size_of (length tests) block)
     × (slice_get tests (64 * block + k) ≡ Some t) × IsActiveBy c t f gate
 
--- the list names each gate that the fault makes active on the block
+-- the list has each gate that the fault makes active on the block
 abbrev pub HasActive : List Statement → List Test → ℕ → Fault → List ℕ → Type 0
 HasActive c tests block f gates = (gate : ℕ) → IsActive c tests block f gate
     → Contains gates gate

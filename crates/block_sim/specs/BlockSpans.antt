@@ -6,7 +6,7 @@ use Rattle.patterns.specs.Tests.{blocks}
 use Rattle.block_sim.specs.declared.block_span.BlockSpan.{BlockSpan}
 use Rattle.block_sim.specs.Words.{lane}
 
--- how many groups there are: group g has the blocks 2 g and 2 g + 1, the last may have one alone
+-- the number of groups: group g has the blocks 2 g and 2 g + 1; the last group may have only one
 abbrev pub groups : ℕ → ℕ
 groups tests = (tests + 127) / 128
 
@@ -14,13 +14,13 @@ groups tests = (tests + 127) / 128
 abbrev pub group_of : BlockSpan → ℕ
 group_of span = span.first / 2
 
--- the span has blocks of one group, where there are so many tests
+-- the span has blocks of one group, of a list of this many tests
 pub record IsSpan (tests : ℕ) (span : BlockSpan) : Type 0 where
   pub ordered : span.first ≤ span.last
   pub one_group : span.last / 2 ≡ span.first / 2
   pub within : span.last < blocks tests
 
--- of so many tests this one is in a block of the span
+-- of this many tests, this one is in a block of the span
 pub record IsInSpan (tests : ℕ) (span : BlockSpan) (test : ℕ) : Type 0 where
   pub from : 64 * span.first ≤ test
   pub to : test < 64 * span.last + 64
@@ -31,12 +31,12 @@ abbrev pub AreInSpan : List Test → BlockSpan → ℕ → Type 0
 AreInSpan tests span lanes = (k : ℕ) → k < 128 → lane lanes k ≡ true
     → IsInSpan (length tests) span (128 * group_of span + k)
 
--- a block alone
+-- a single block
 abbrev pub one_block : ℕ → BlockSpan
 one_block block = record { first = block; last = block }
 
 -- the blocks that are simulated together with a block at most: from the third block on the block
--- and the next one of its group of two, before that the block alone
+-- and the next one of its group of two, before that only the block
 abbrev pub span_from : ℕ → BlockSpan
 span_from block = record {
   first = block;

@@ -38,8 +38,8 @@ pub record Reads (c : List Statement) (g s : ℕ) : Type 0 where
 abbrev pub IsObserved : List Statement → ℕ → Type 0
 IsObserved c s = (o : Sink × Name) × Contains (observers c) o × (signal c o.1 ≡ s)
 
--- From a live signal an observer is reached: one observes it, or a gate reads it whose signal is
--- live. A fault on any other signal does nothing that a test could see.
+-- A live signal reaches an observer: one observes it, or a gate with a live signal reads it. No
+-- test can show the effect of a fault on any other signal.
 pub data IsLive (c : List Statement) : ℕ → Type 0 where
   observed : {s : ℕ} → IsObserved c s → IsLive c s
   through : {s g : ℕ} → Reads c g s → IsLive c g → IsLive c s
@@ -49,11 +49,11 @@ pub record IsElsewhere (f : Fault) (s : ℕ) : Type 0 where
   pub stem : f.line ≢ line.Stem s
   pub pin : (pin : ℕ) → f.line ≢ line.Pin s pin
 
--- each gate stands behind the signals that it reads
+-- each gate comes after the signals that it reads
 abbrev pub IsRising : List Statement → Type 0
 IsRising c = (g s : ℕ) → Reads c g s → s < g
 
--- The live readers of a signal wait, and no other gate waits that did not.
+-- The live readers of a signal wait, and no other gate has begun to wait.
 pub record AreScheduled (c : List Statement) (s : ℕ) (before after : List ℕ) : Type 0 where
   pub readers : (r : ℕ) → Reads c r s → IsLive c r → slice_index_or after r 0 ≢ 0
   pub only : (r : ℕ) → (slice_index_or after r 0 ≡ slice_index_or before r 0)

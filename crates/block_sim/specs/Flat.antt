@@ -1,4 +1,4 @@
--- A circuit in flat lists: a row for each signal, with parts of the lists of all pins and of all
+-- A circuit in flat lists: a row for each signal, with ranges of the lists of all pins and of all
 -- readers.
 use Rattle.std.specs.Prelude.{◌≡◌, ◌↔◌, ◌++◌, ℕ, ◌-◌, ◌<◌, ◌≤◌, All, Bool, false, List, Contains}
 use Rattle.std.specs.Prelude.{IfSome}
@@ -17,24 +17,25 @@ use Rattle.block_sim.specs.GateForms.{IsFormOf}
 use Rattle.block_sim.specs.Arranged.{ArePlaces, IsFlowOrder}
 use Rattle.block_sim.specs.Regions.{lone_reader}
 
--- each reader is a live gate that reads the signal, and each such gate is among them
+-- each reader is a live gate that reads the signal, and each such gate is in the list
 pub record AreReaders (c : List Statement) (s : ℕ) (readers : List ℕ) : Type 0 where
   pub each : All (λ gate. Reads c gate s × IsLive c gate) readers
   pub all : (g : ℕ) → Reads c g s → IsLive c g → Contains readers g
 
--- the list says of each signal whether it is live
+-- the list has for each signal whether it is live
 abbrev pub IsLiveAt : List Statement → List Bool → ℕ → Type 0
 IsLiveAt c live s = IsTrue (slice_index_or live s false) ↔ IsLive c s
 
 abbrev pub AreLive : List Statement → List Bool → Type 0
 AreLive c live = (s : ℕ) → s < length (names c) → IsLiveAt c live s
 
--- the numbers are the first of the list and its last, 0 where it has none
+-- the numbers are the first and the last of the list, 0 if it is empty
 abbrev pub HasEnds : List ℕ → ℕ → ℕ → Type 0
 HasEnds pins first last =
     (slice_index_or pins 0 0 ≡ first) × (slice_index_or pins (length pins - 1) 0 ≡ last)
 
--- a row says what drives a signal, what reads it, and whether an observer observes it
+-- a row has the gate that drives a signal, the gates that read it, and whether an observer observes
+-- it
 pub record IsRow (c : List Statement) (pins readers : List ℕ) (s : ℕ) (row : SignalRow) :
     Type 0 where
   pub pins_in : (row.pins_start ≤ row.pins_end) × (row.pins_end ≤ length pins)
@@ -47,17 +48,17 @@ pub record IsRow (c : List Statement) (pins readers : List ℕ) (s : ℕ) (row :
   pub read_by : AreReaders c s (slice_range readers row.readers_start row.readers_end)
   pub observed : IsTrue row.observed ↔ IsObserved c s
 
--- what alone reads a signal, and whether an observer is reached from it
+-- the only gate that reads a signal, if there is one, and whether the signal is live
 pub record IsStanding (c : List Statement) (s : ℕ) (standing : Standing) : Type 0 where
   pub lone : standing.lone_reader ≡ lone_reader c s
   pub live : IsTrue standing.live ↔ IsLive c s
 
--- the second list goes on where the first ends
+-- the second list extends the first
 abbrev pub HasMore : {X : Type 0} → List X → List X → Type 0
 HasMore {X} before after = (more : List X) × (after ≡ before ++ more)
 
--- the kind and the form of the gate that drives a signal, and behind the first list the signals
--- that its pins read
+-- the kind and the form of the gate that drives a signal, and after the first list the signals that
+-- its pins read
 abbrev pub IsDriver : List Statement → ℕ → List ℕ → List ℕ → Option Driver → Type 0
 IsDriver c s before after driver =
     (more : List ℕ) × (after ≡ before ++ more)
@@ -69,12 +70,12 @@ abbrev pub AreRows : List Statement → List ℕ → List ℕ → List SignalRow
 AreRows c pins readers rows = (s : ℕ) (row : SignalRow) → slice_get rows s ≡ Some row
     → IsRow c pins readers s row
 
--- where the first signals stand
+-- the positions of the first signals
 abbrev pub AreStandings : List Statement → List Standing → Type 0
 AreStandings c standings = (s : ℕ) (standing : Standing) → slice_get standings s ≡ Some standing
     → IsStanding c s standing
 
--- the lists are those of the circuit: a row for each signal, and where it stands
+-- the lists belong to the circuit: a row and a position for each signal
 pub record IsFlat (c : List Statement) (pins readers : List ℕ) (rows : List SignalRow)
     (standings : List Standing) : Type 0 where
   pub count : length rows ≡ length (names c)
@@ -92,7 +93,7 @@ pub record ArePlaced (c : List Statement) (order places : List ℕ) (live : List
   pub live_room : length live ≡ length (names c)
   pub alive : AreLive c live
 
--- the same without what is live, and the flat lists of the circuit in that order
+-- the same without liveness, and the flat lists of the circuit in that order
 pub record IsArrangedFlat (c : List Statement) (order places pins readers : List ℕ)
     (rows : List SignalRow) (standings : List Standing) : Type 0 where
   pub ordered : IsFlowOrder c order

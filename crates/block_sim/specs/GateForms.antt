@@ -5,16 +5,16 @@ use Rattle.bench_net.specs.declared.Kind.{Kind}
 use Rattle.fault_model.specs.Solution.{is_odd, value}
 use Rattle.block_sim.specs.declared.gate_form.GateForm.{GateForm}
 
--- a bit, inverted where that is asked for
+-- a bit, inverted if the first bit is 1
 abbrev pub inverted_if : Bool → Bool → Bool
 inverted_if turn b = if turn then not b else b
 
--- the bit that a form gives for the bits of the pins
+-- the value of a form for the bits of the pins
 abbrev pub form_value : GateForm → List Bool → Bool
 form_value form bits =
     inverted_if form.inverts_output
     (if form.is_xor then is_odd bits else list_all (λ b. inverted_if form.inverts_inputs b) bits)
 
--- the form gives what the kind gives
+-- the form has the values of the kind
 abbrev pub IsFormOf : Kind → GateForm → Type 0
 IsFormOf kind form = (bits : List Bool) → form_value form bits ≡ value kind bits

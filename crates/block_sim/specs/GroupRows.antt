@@ -1,4 +1,4 @@
--- Rows of fault-free words of some groups.
+-- Rows of fault-free words of adjacent groups.
 use Rattle.std.specs.Prelude.{◌≡◌, ℕ, ◌+◌, ◌≤◌, IfOk, List, None, Result, Some, length, map}
 use Rattle.std.specs.Prelude.{slice_get}
 use Rattle.bench_net.specs.Statement.{Statement}
@@ -8,19 +8,19 @@ use Rattle.block_sim.specs.BlockSpans.{groups}
 use Rattle.block_sim.specs.Words.{AreWords}
 use Rattle.block_sim.specs.declared.fault_free.GroupRows.{GroupRows}
 
--- the words of groups that follow each other without a fault, from this one on, one row a group
+-- the fault-free words of adjacent groups, from this one on, one row for each group
 pub record AreRowsFrom (c : List Statement) (tests : List Test) (first : ℕ) (rows : List (List ℕ))
     : Type 0 where
   pub within : first + length rows ≤ groups (length tests)
   pub each : (k : ℕ) (row : List ℕ) → slice_get rows k ≡ Some row
       → (length row ≡ length (names c)) × AreWords c tests (first + k) None row
 
--- what a thread gives back has such rows, unless it had no memory
+-- the result of a thread has such rows, unless it had no memory
 abbrev pub HasRows : {E : Type 0} → List Statement → List Test → Result GroupRows E → Type 0
 HasRows c tests part = IfOk part (λ own. AreRowsFrom c tests own.first
     (map (λ row. row.items) own.rows.items))
 
--- the same of each of several
+-- each of several results has such rows
 abbrev pub HaveRows : {E : Type 0} → List Statement → List Test → List (Result GroupRows E) → Type 0
 HaveRows {E} c tests parts = (i : ℕ) (part : Result GroupRows E) → slice_get parts i ≡ Some part
     → HasRows c tests part

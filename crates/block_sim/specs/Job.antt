@@ -1,4 +1,4 @@
--- What is true of a job, its parts and the fault-free words that it holds.
+-- The invariants of a job: its parts, and the fault-free words that it holds.
 use Rattle.std.specs.Prelude.{◌≡◌, ℕ, ◌<◌, All, List, length, Some, None, slice_get}
 use Rattle.bench_net.specs.Statement.{Statement}
 use Rattle.bench_net.specs.Scan.{names}
@@ -10,13 +10,13 @@ use Rattle.block_sim.specs.BlockSpans.{groups}
 use Rattle.block_sim.specs.declared.words.Stuck.{Stuck}
 use Rattle.block_sim.specs.Words.{AreWords}
 
--- the words of the first groups without a fault, one row of words a group
+-- the fault-free words of the first groups, one row of words for each group
 abbrev pub AreFaultFree : List Statement → List Test → List (List ℕ) → Type 0
 AreFaultFree c tests rows = (group : ℕ) (row : List ℕ) → slice_get rows group ≡ Some row
     → (length row ≡ length (names c)) × AreWords c tests group None row
 
--- The parts belong together, the rows are the fault-free words of all groups, of the signals in the
--- order of their places, and each class has its stem, a next class, and its representative.
+-- The parts belong together. The rows are the fault-free words of all groups, with the signals in
+-- the order of their places. Each class has its stem, a next class, and its representative.
 pub record IsJob (parts : Parts) (arranged : List Statement) (rows : List (List ℕ))
     (class_stems next : List ℕ) (stucks : List Stuck) : Type 0 where
   pub together : BelongTogether parts

@@ -1,4 +1,4 @@
--- The moments of a simulation by events, and what leads from one to a later one.
+-- The moments of an event-driven simulation, and the step from one to a later one.
 use Rattle.std.specs.Prelude.{◌≢◌, ℕ, ◌+◌, ◌≤◌, List, slice_index_or, slice_set}
 use Rattle.bench_net.specs.Statement.{Statement}
 use Rattle.fault_model.specs.Fault.{Fault}
@@ -7,9 +7,9 @@ use Rattle.block_sim.specs.declared.propagation_state.PropagationState.{Propagat
 use Rattle.block_sim.specs.Events.{IsElsewhere, IsRising}
 use Rattle.block_sim.specs.Propagation.{IsPropagating, AreSeen, HasTouched, pending_gates}
 
--- What a simulation has at a moment: the lanes in which each signal differs; for each gate 0, or
--- another number where it waits; the evaluations that were counted; the place that it works at;
--- the lanes that are still followed, and those that were seen.
+-- The state of a simulation at a moment: the lanes in which each signal differs; for each gate 0,
+-- or another number if it waits; the counted evaluations; the place that it works at; the lanes
+-- that are still followed, and the lanes that were seen.
 pub record Moment : Type 0 where
   pub delta : List ℕ
   pub at : List ℕ
@@ -28,7 +28,7 @@ moment changes level kept seen = record {
   seen = seen;
 }
 
--- the same, when a gate that is taken now still waited
+-- the same moment with a gate that still waited, before it is taken
 abbrev pub not_yet_taken : ℕ → Moment → Moment
 not_yet_taken gate m = record {
   delta = m.delta;
@@ -39,8 +39,8 @@ not_yet_taken gate m = record {
   seen = m.seen;
 }
 
--- A case of a simulation: faults that start at a signal, one a lane, on a group of tests. Each
--- gate stands behind the signals that it reads.
+-- A case of a simulation: faults that start at a signal, one for each lane, on a group of tests.
+-- Each gate comes after the signals that it reads.
 pub record Case (c : List Statement) : Type 0 where
   pub tests : List Test
   pub group : ℕ
@@ -49,18 +49,18 @@ pub record Case (c : List Statement) : Type 0 where
   pub elsewhere : (t k : ℕ) → t ≢ start → IsElsewhere (fault k) t
   pub rising : IsRising c
 
--- what is true at a moment of a case, where these lanes were asked for
+-- the invariant of a case at a moment, for these requested lanes
 abbrev pub Spreads : (c : List Statement) → List ℕ → ℕ → Case c → Moment → Type 0
 Spreads c good lanes case m = IsPropagating c case.tests case.group case.fault good lanes
     (λ s. s) case.start m.kept m.delta m.at m.level
 
--- how many of the gates are still ahead at a moment of a case
+-- the number of the gates that are still pending at a moment of a case
 abbrev pub left : (c : List Statement) → Case c → Moment → List ℕ → ℕ
 left c case m gates = pending_gates (λ s. s) m.at m.level gates
 
--- From one moment to a later one: what is true in each case stays so, and where a list names each
--- gate that reads a signal that differs, no more gates of it were evaluated than were ahead and
--- are no more.
+-- From one moment to a later one: the invariant of each case stays true. If a list has each gate
+-- that reads a signal that differs, then at most as many gates were evaluated as stopped being
+-- pending in the list.
 pub record Leads (c : List Statement) (good : List ℕ) (lanes : ℕ) (m n : Moment) : Type 0 where
   pub spreading : (case : Case c) → Spreads c good lanes case m → Spreads c good lanes case n
   pub counted : (case : Case c) (gates : List ℕ) → Spreads c good lanes case m

@@ -1,4 +1,4 @@
--- What the simulation of a class starts from.
+-- The start of the simulation of a class.
 use Rattle.std.specs.Prelude.{◌≡◌, ◌<◌, ℕ, List, Contains, Some, length, slice_get}
 use Rattle.bench_net.specs.Statement.{Name, Statement}
 use Rattle.bench_net.specs.Scan.{names, signal}
@@ -19,28 +19,28 @@ use Rattle.block_sim.specs.Stuck.{stuck_fault}
 abbrev pub Carries : List Statement → Line → ℕ → Type 0
 Carries c line s = (n : Name) → name_on c line ≡ Some n → s ≡ signal c n
 
--- the stuck-at fault is that of a fault of the circuit
+-- the stuck-at fault belongs to this fault of the circuit
 pub record IsStuckOf (c : List Statement) (f : Fault) (stuck : Stuck) : Type 0 where
   pub listed : Contains (faults f.model c) f
   pub is : stuck_fault stuck ≡ f
 
 -- In a circuit with the same statements in another order the simulation of the fault starts from
--- the fault that moved, and from the signal that its line carries there.
+-- the moved fault, and from the signal that its line carries in that circuit.
 pub record Starts (c d : List Statement) (f : Fault) (origin : Origin) : Type 0 where
   pub listed : Contains (faults f.model c) f
   pub moved : stuck_fault origin.fault ≡ moved_fault c d f
   pub carried : Carries d origin.fault.line origin.carried
 
--- the stuck-at fault is that of a class's representative
+-- the stuck-at fault belongs to a class's representative
 abbrev pub IsRepresentativeIn : Model → List Statement → ℕ → Stuck → Type 0
 IsRepresentativeIn m c class stuck = (r : Fault)
     × (slice_get (representatives m c) class ≡ Some r) × IsStuckOf c r stuck
 
--- the same of a class of a job
+-- the same for a class of a job
 abbrev pub IsRepresentativeOf : Parts → ℕ → Stuck → Type 0
 IsRepresentativeOf job class stuck = IsRepresentativeIn job.list.model job.circuit class stuck
 
--- a list has those of the first classes
+-- a list has the representatives of the first classes
 abbrev pub HaveRepresentatives : Model → List Statement → List Stuck → Type 0
 HaveRepresentatives m c stucks = (class : ℕ) (stuck : Stuck) → slice_get stucks class ≡ Some stuck
     → IsRepresentativeIn m c class stuck

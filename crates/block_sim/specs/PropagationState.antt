@@ -1,11 +1,11 @@
--- What is true of the words that differ and of the gates that wait.
+-- The invariants of the words that differ and of the gates that wait.
 use Rattle.std.specs.Prelude.{◌≡◌, ℕ, ◌<◌, ◌≤◌, All, List, length, Some, slice_index_or}
 use Rattle.bench_net.specs.declared.Kind.{Kind}
 use Rattle.bench_net.specs.Statement.{Statement}
 use Rattle.bench_net.specs.Scan.{names, gate_of}
 use Rattle.block_sim.specs.declared.propagation_state.PropagationState.{PropagationState}
 
--- there is room for each signal of the circuit, and for a place behind them
+-- there is room for each signal of the circuit, and for one place more
 pub record HasRoomFor (c : List Statement) (changes : PropagationState) : Type 0 where
   pub overlay : length (names c) ≤ length changes.overlay
   pub gates : length (names c) < length changes.waiting
@@ -25,7 +25,7 @@ pub record IsAtRest (changes : PropagationState) : Type 0 where
   pub clear : IsClear changes
   pub gates : length changes.overlay < length changes.waiting
 
--- a gate of the circuit that waited and does so no more, and whose signal does not differ
+-- a gate of the circuit that has waited and no longer does, and whose signal does not differ
 pub record IsTaken (c : List Statement) (changes : PropagationState) (gate : ℕ) : Type 0 where
   pub within : gate < length (names c)
   pub driven : (line : Kind × List ℕ) × (gate_of c gate ≡ Some line)

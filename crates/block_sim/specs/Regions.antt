@@ -1,5 +1,5 @@
--- Regions without fan-out: signals from which one way alone leads on, and what complementing a
--- signal does at their end.
+-- Fanout-free regions: signals that only one gate reads, and the effect of a complemented signal at
+-- the stem of its region.
 use Rattle.std.specs.Prelude.{◌≡◌, ◌≢◌, ◌↔◌, ◌==◌, ◌<◌, ◌≤◌, ◌+◌, ◌*◌, ℕ, Bool, true, false}
 use Rattle.std.specs.Prelude.{not, List, length, slice_get, option_map}
 use Rattle.std.specs.Prelude.{map, bit_and, slice_index_or, Contains, Option, Some, None}
@@ -25,22 +25,22 @@ use Rattle.block_sim.specs.declared.block_span.BlockSpan.{BlockSpan}
 use Rattle.block_sim.specs.declared.region.Reach.{Reach}
 use Rattle.block_sim.specs.declared.region.Reach.TheVariants.{Observed, Stem}
 
--- one gate alone reads the signal, by one pin or by more, and no observer does
+-- only one gate reads the signal, by one or more pins, and no observer observes it
 pub record IsReadBy (c : List Statement) (g s : ℕ) : Type 0 where
   pub reads : Reads c g s
   pub alone : (h : ℕ) → Reads c h s → h ≡ g
   pub unobserved : ¬ IsObserved c s
 
--- the gate of the pin that is the whole fan-out of a signal, where that is one pin of one gate
+-- the gate of the pin that is the whole fanout of a signal, if the fanout is one pin of one gate
 abbrev pub lone_reader : List Statement → ℕ → Option ℕ
 lone_reader c s = only_gate (readers c (line.Stem s))
 
--- such a gate reads the signal alone
+-- only such a gate reads the signal
 abbrev pub PinLaw : List Statement → Type 0
 PinLaw c = (s g : ℕ) → lone_reader c s ≡ Some g → IsReadBy c g s
 
--- A signal is a stem where its fan-out is not one pin of one gate: where it has none or several
--- pins, be they of one gate, or where it is observed, at an output or a cell's data pin.
+-- A signal is a stem if its fanout is not one pin of one gate: if no pin or several pins read it,
+-- be they of one gate, or if it is observed, at an output or a cell's data pin.
 abbrev pub IsStem : List Statement → ℕ → Type 0
 IsStem c s = lone_reader c s ≡ None
 
@@ -49,19 +49,19 @@ pub data Chain (step : ℕ → ℕ → Type 0) : ℕ → ℕ → Type 0 where
   here : {s : ℕ} → Chain step s s
   onward : {s g r : ℕ} → step s g → Chain step g r → Chain step s r
 
--- a signal runs to another: over gates each of which alone reads the signal before it
+-- a signal runs to another: through gates each of which is the only reader of the signal before it
 abbrev pub RunsTo : List Statement → ℕ → ℕ → Type 0
 RunsTo c s r = Chain (λ t g. IsReadBy c g t) s r
 
--- a signal leads to another: over signals that are no stems, each to the gate that it fans out to
+-- a signal leads to another: through signals that are no stems, each to the gate of its fanout
 abbrev pub LeadsTo : List Statement → ℕ → ℕ → Type 0
 LeadsTo c s r = Chain (λ t g. lone_reader c t ≡ Some g) s r
 
--- the stem of a signal's fan-out-free region: the first stem to which the signal leads
+-- the stem of a signal's fanout-free region: the first stem to which the signal leads
 abbrev pub IsStemOf : List Statement → ℕ → ℕ → Type 0
 IsStemOf c r s = LeadsTo c s r × IsStem c r
 
--- each signal's region has a stem, and has one alone
+-- each signal's region has exactly one stem
 abbrev pub OneStemLaw : List Statement → Type 0
 OneStemLaw c = (s r q : ℕ) → IsStemOf c r s → IsStemOf c q s → r ≡ q
 
@@ -69,12 +69,12 @@ abbrev pub SomeStemLaw : List Statement → Type 0
 SomeStemLaw c = (s : ℕ) → s < length (names c)
     → (r : ℕ) × (r < length (names c)) × IsStemOf c r s
 
--- what leads to a signal runs to it
+-- a signal that leads to another runs to it
 abbrev pub LeadLaw : List Statement → Type 0
 LeadLaw c = (s r : ℕ) → LeadsTo c s r → RunsTo c s r
 
--- where a line's way to its stem begins: at the gate of a pin, and of any other line at the signal
--- that it carries
+-- the signal at which a line's way to its stem begins: the gate's signal for a pin, and for any
+-- other line the signal that it carries
 abbrev pub way_from : List Statement → Line → Option ℕ
 way_from c (line.Stem s) = Some s
 way_from c (line.Pin gate pin) = Some gate
@@ -85,12 +85,12 @@ way_from c (line.Out output) = option_map (signal c) (name_on c (line.Out output
 abbrev pub IsStemOfLine : List Statement → ℕ → Line → Type 0
 IsStemOfLine c r l = (s : ℕ) × (way_from c l ≡ Some s) × IsStemOf c r s
 
--- the stem of a class: that of its representative's line
+-- the stem of a class: the stem of its representative's line
 abbrev pub IsStemOfClass : Model → List Statement → ℕ → ℕ → Type 0
 IsStemOfClass m c class r =
     (f : Fault) × (slice_get (representatives m c) class ≡ Some f) × IsStemOfLine c r f.line
 
--- each class has a stem, and has one alone
+-- each class has exactly one stem
 abbrev pub OneClassStemLaw : Model → List Statement → Type 0
 OneClassStemLaw m c = (class r q : ℕ) → IsStemOfClass m c class r → IsStemOfClass m c class q
     → r ≡ q
@@ -109,21 +109,21 @@ abbrev pub HaveStems : Model → List Statement → List ℕ → Type 0
 HaveStems m c stems = (class r : ℕ) → slice_get stems class ≡ Some r
     → (r < length (names c)) × IsStemOfClass m c class r
 
--- the stuck-at fault that turns a signal round which has this bit
+-- the stuck-at fault that complements a signal with this bit
 abbrev pub flip : ℕ → Bool → Fault
 flip s bit = record { model = StuckAt; line = line.Stem s; stuck = not bit }
 
--- The test detects the complemented signal: stuck at the complement of the bit that it has without
--- a fault.
+-- The test detects the complemented signal: the signal stuck at the complement of its fault-free
+-- bit.
 abbrev pub DetectsFlip : List Statement → Test → ℕ → Type 0
 DetectsFlip c t s = (bit : Bool) × HasBit c t (line.Stem s) bit × Detects c t (flip s bit)
 
--- the bits of a valuation, but one signal complemented
+-- the bits of a valuation, with one signal complemented
 abbrev pub complemented_at : List Statement → ℕ → (Name → Bool) → Name → Bool
 complemented_at c s v n = if signal c n == s then not (v n) else v n
 
--- The gate gives another bit where one signal is complemented and all others have the bits that
--- they have without a fault.
+-- The gate gives another bit if one signal is complemented and all others have their fault-free
+-- bits.
 pub record Passes (c : List Statement) (t : Test) (s g : ℕ) : Type 0 where
   pub bits : Name → Bool
   pub name : Name
@@ -139,7 +139,7 @@ pub data Arrives (c : List Statement) (t : Test) : ℕ → ℕ → Type 0 where
   there : {s : ℕ} → Arrives c t s s
   over : {s g r : ℕ} → IsReadBy c g s → Passes c t s g → Arrives c t g r → Arrives c t s r
 
--- with the fault the signal has another bit than without
+-- with the fault the signal has another bit than without it
 pub record Alters (c : List Statement) (t : Test) (f : Fault) (s : ℕ) : Type 0 where
   pub fault_free : Name → Bool
   pub faulty : Name → Bool
@@ -149,14 +149,14 @@ pub record Alters (c : List Statement) (t : Test) (f : Fault) (s : ℕ) : Type 0
   pub named : name_of c s ≡ Some name
   pub differs : fault_free name ≢ faulty name
 
--- the first signal that a fault on a line can alter; none where the line is an observer's
+-- the first signal that a fault on a line can alter; none for the line of an observer
 abbrev pub start_of : Line → Option ℕ
 start_of (line.Stem s) = Some s
 start_of (line.Pin gate pin) = Some gate
 start_of _ = None
 
--- one step: a signal that one gate alone reads is detected when complemented exactly where the gate
--- passes that on and is detected when complemented
+-- one step: if only one gate reads a signal, the complemented signal is detected exactly if the
+-- gate passes the change on and the complemented gate is detected
 abbrev pub StepLaw : List Statement → Type 0
 StepLaw c = (t : Test) (s g : ℕ) → IsReadBy c g s
     → DetectsFlip c t s ↔ (Passes c t s g × DetectsFlip c t g)
@@ -166,24 +166,24 @@ abbrev pub RegionLaw : List Statement → Type 0
 RegionLaw c = (t : Test) (s r : ℕ) → RunsTo c s r
     → DetectsFlip c t s ↔ (Arrives c t s r × DetectsFlip c t r)
 
--- a fault on a stem or a gate's pin is detected exactly where it alters its first signal and that
--- is detected when complemented
+-- a fault on a stem or a gate's pin is detected exactly if it alters its first signal and that
+-- signal, complemented, is detected
 abbrev pub FaultLaw : List Statement → Type 0
 FaultLaw c = (m : Model) (f : Fault) (t : Test) (s : ℕ) → Contains (faults m c) f
     → start_of f.line ≡ Some s → Detects c t f ↔ (Alters c t f s × DetectsFlip c t s)
 
--- a fault on a stem alters its signal where this has the other bit without it
+-- a fault on a stem alters its signal if the signal has the other bit without the fault
 abbrev pub StemLaw : List Statement → Type 0
 StemLaw c = (m : Model) (f : Fault) (t : Test) (s : ℕ) → Contains (faults m c) f
     → f.line ≡ line.Stem s → Alters c t f s ↔ HasBit c t f.line (not f.stuck)
 
--- a fault on an observer's line is detected where the line has the other bit without it
+-- a fault on an observer's line is detected if the line has the other bit without the fault
 abbrev pub ObserverLaw : List Statement → Type 0
 ObserverLaw c = (m : Model) (f : Fault) (t : Test) → Contains (faults m c) f
     → start_of f.line ≡ None → Detects c t f ↔ HasBit c t f.line (not f.stuck)
 
--- Of the lanes of a mask a word has those whose tests detect the complemented signal, each up to
--- the least that the word has; in lanes above that each 1 of it is right.
+-- In the lanes of a mask, each lane of the word that is 1 has a test that detects the complemented
+-- signal, and no lane of the mask below the least of them has one.
 pub record TellsFirstFlips (c : List Statement) (tests : List Test) (group mask s word : ℕ) :
     Type 0 where
   pub found : (k : ℕ) → k < 128 → lane mask k ≡ true → lane word k ≡ true
@@ -192,35 +192,35 @@ pub record TellsFirstFlips (c : List Statement) (tests : List Test) (group mask 
       → ((j : ℕ) → j ≤ k → lane mask j ≡ true → lane word j ≡ false)
       → ¬ DetectsFlip c (test_of tests group k) s
 
--- In the lanes of a mask a fault has come to a signal: a test detects the fault exactly where the
--- word has a 1 and the test detects the complemented signal.
+-- In the lanes of a mask a fault has reached a signal: a test detects the fault exactly if the word
+-- has a 1 and the test detects the complemented signal.
 abbrev pub HasCome : List Statement → List Test → ℕ → Fault → ℕ → ℕ → ℕ → Type 0
 HasCome c tests group f mask s word = (k : ℕ) → k < 128 → lane mask k ≡ true
     → Detects c (test_of tests group k) f
     ↔ ((lane word k ≡ true) × DetectsFlip c (test_of tests group k) s)
 
--- the lanes are those of a span's tests that look back as the fault asks
+-- the lanes of the tests of a span whose test before meets the condition of the fault
 abbrev pub AreLanesFor : List Test → BlockSpan → List Statement → Fault → ℕ → Type 0
 AreLanesFor tests span c f lanes = (k : ℕ) → k < 128 → Decides (lane lanes k)
     (IsInSpan (length tests) span (128 * group_of span + k)
     × LooksBack c tests f.model f.line f.stuck (128 * group_of span + k))
 
--- On words: the lanes in which a fault has come to a signal and a word says that the
--- complemented signal is detected, whatever the word says in other lanes. The least of them is the first test
--- of the span that detects the fault.
+-- On words: take the lanes in which a fault has reached a signal and in which a word has a 1 for
+-- the complemented signal. The least of them has the first test of the span that detects the fault,
+-- whatever the word has in other lanes.
 abbrev pub LanesLaw : List Statement → Type 0
 LanesLaw c = (tests : List Test) (span : BlockSpan) (f : Fault) (s lanes arrived seen : ℕ)
     → AreLanesFor tests span c f lanes → HasCome c tests (group_of span) f lanes s arrived
     → TellsFirstFlips c tests (group_of span) (bit_and lanes arrived) s seen
     → TellsFirst c tests span f (bit_and (bit_and lanes arrived) seen)
 
--- How far a fault was followed on a group: to an observer, in the lanes in which it is detected
--- there; or to a signal, in the lanes in which it has come to that.
+-- The end of following a fault on a group: an observer, with the lanes in which the fault is
+-- detected there; or a signal, with the lanes in which the fault has reached it.
 abbrev pub IsReached : List Statement → List Test → ℕ → Fault → ℕ → Reach → Type 0
 IsReached c tests group f mask (Observed word) = (k : ℕ) → k < 128
     → Decides (lane word k) ((lane mask k ≡ true) × Detects c (test_of tests group k) f)
 IsReached c tests group f mask (Stem at) = HasCome c tests group f mask at.signal at.lanes
 
--- the faults that complement a signal, each lane from the bit that the signal has there
+-- the faults that complement a signal, in each lane from the bit that the signal has there
 abbrev pub flips : List ℕ → ℕ → ℕ → Fault
 flips good s k = flip s (lane (slice_index_or good s 0) k)

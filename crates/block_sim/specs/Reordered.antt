@@ -1,4 +1,4 @@
--- What a simulation asks of a circuit whose statements stand in another order.
+-- The facts that a simulation needs about a circuit whose statements stand in another order.
 use Rattle.std.specs.Prelude.{◌≡◌, ◌↔◌, ℕ, List, map, Contains, option_map}
 use Rattle.bench_net.specs.Statement.{Statement}
 use Rattle.fault_model.specs.declared.Line.{Line}
@@ -13,7 +13,8 @@ use Rattle.block_sim.specs.Regions.{TellsFirstFlips}
 use Rattle.block_sim.specs.Ways.{IsWayOfLine, HasActiveByFlip}
 use Rattle.block_sim.specs.declared.block_span.BlockSpan.{BlockSpan}
 
--- the same gates read a signal, observers observe it, and it is live in both or in none
+-- the same gates read a signal, the same observers observe it, and it is live in both circuits or
+-- in none
 pub record HasSameReaders (c d : List Statement) : Type 0 where
   pub reads : (g s : ℕ) → Reads c g s → Reads d (place c d g) (place c d s)
   pub reads_back : (g s : ℕ) → Reads d g (place c d s) → (h : ℕ) × (g ≡ place c d h) × Reads c h s
@@ -21,15 +22,15 @@ pub record HasSameReaders (c d : List Statement) : Type 0 where
   pub live : (s : ℕ) → IsLive c s ↔ IsLive d (place c d s)
   pub lone : (s : ℕ) → lone_reader d (place c d s) ≡ option_map (place c d) (lone_reader c s)
 
--- a signal's region has the same stem, and so has the region of a fault of the list, and it takes
--- as many gates to go there
+-- a signal's region has the same stem, as has the region of a fault of the list, and the way to the
+-- stem has the same number of gates
 pub record HasSameStems (c d : List Statement) : Type 0 where
   pub of_signal : (r s : ℕ) → IsStemOf c r s ↔ IsStemOf d (place c d r) (place c d s)
   pub of_line : (m : Model) (f : Fault) (r : ℕ) → Contains (faults m c) f
       → IsStemOfLine c r f.line ↔ IsStemOfLine d (place c d r) (moved_line c d f.line)
   pub way : (l : Line) (n : ℕ) → IsWayOfLine c l n → IsWayOfLine d (moved_line c d l) n
 
--- a list that names each gate that a fault makes active names them where they moved
+-- a list with each gate that a fault makes active has each of them, moved, in the other circuit
 pub record HasSameActive (c d : List Statement) : Type 0 where
   pub on_block : (tests : List Test) (block : ℕ) (f : Fault) (gates : List ℕ)
       → HasActive c tests block f gates

@@ -7,8 +7,8 @@ use Rattle.fault_model.specs.Solution.{Test, Solves, shows}
 use Rattle.patterns.specs.Tests.{TestList}
 use Rattle.block_sim.specs.Words.{lane}
 
--- The rows are the responses to tests: for each test one row, and that has for each observer, the
--- outputs and then the cells' data pins, what it shows in the solution without a fault.
+-- The rows are the responses to tests. Each test has one row: for each observer, the outputs and
+-- then the cells' data pins, its bit in the fault-free solution.
 pub record AreResponses (c : List Statement) (tests : List Test) (rows : TestList) : Type 0 where
   pub width : rows.width ≡ length (observers c)
   pub count : length rows.tests ≡ length tests

@@ -17,14 +17,14 @@ use Rattle.block_sim.specs.Regions.{DetectsFlip, lone_reader}
 use Rattle.block_sim.specs.BlockSpans.{IsInSpan, group_of}
 use Rattle.block_sim.specs.Words.{lane, test_of, AreWords}
 
--- In the lanes of a mask a test detects a complemented signal exactly where the word has a 1 and
--- the test detects the complemented stem.
+-- In the lanes of a mask a test detects a complemented signal exactly if the word has a 1 and the
+-- test detects the complemented stem.
 abbrev pub CarriesFlip : List Statement → List Test → ℕ → ℕ → ℕ → ℕ → ℕ → Type 0
 CarriesFlip c tests group mask s stem word = (k : ℕ) → k < 128 → lane mask k ≡ true
     → DetectsFlip c (test_of tests group k) s
     ↔ ((lane word k ≡ true) × DetectsFlip c (test_of tests group k) stem)
 
--- each word that is known is that of its signal, and the word of the stem is known
+-- each known word is the word of its signal, and the word of the stem is known
 pub record AreKnownFlips (c : List Statement) (good : List ℕ) (mask stem : ℕ)
     (known : List (Option ℕ)) :
     Type 0 where
@@ -34,13 +34,13 @@ pub record AreKnownFlips (c : List Statement) (good : List ℕ) (mask stem : ℕ
       → (tests : List Test) (group : ℕ)
       → AreWords c tests group None good → CarriesFlip c tests group mask s stem word
 
--- so it is in a region, and there is room for each way to the stem
+-- the words of a region are known in this sense, and there is room for each way to the stem
 pub record AreSensitized (c : List Statement) (good : List ℕ) (region : Sensitized) :
     Type 0 where
   pub known : AreKnownFlips c good region.lanes region.stem region.known
   pub path : length (names c) ≤ vec_capacity region.path
 
--- there is room for the regions of a circuit of so many signals
+-- there is room for the regions of a circuit of this many signals
 pub record HasRoomForRegions (signals : ℕ) (region : Sensitized) : Type 0 where
   pub known : signals ≤ length region.known
   pub path : signals ≤ vec_capacity region.path
@@ -52,18 +52,18 @@ pub record IsSameRegion (before after : Sensitized) : Type 0 where
   pub known : length after.known ≡ length before.known
   pub path : vec_capacity after.path ≡ vec_capacity before.path
 
--- the first of a path to a signal
+-- the first signal of a path to a signal
 abbrev pub on_from : List ℕ → ℕ → ℕ
 on_from [] s = s
 on_from (t ∷ path) s = t
 
--- the signals of a path to a signal, of which each is no stem and fans out to the next
+-- the signals of a path to a signal: none of them is a stem, and each fans out to the next
 abbrev pub IsPathTo : List Statement → List ℕ → ℕ → Type 0
 IsPathTo c [] s = Unit {0}
 IsPathTo c (t ∷ path) s = (lone_reader c t ≡ Some (on_from path s)) × IsPathTo c path s
 
--- the circuit as a job's simulation reads it, with the words of a span's group and the lanes of the
--- span's tests
+-- the circuit in the form that a job's simulation reads, with the words of a span's group and the
+-- lanes of the span's tests
 pub record IsViewOf (job : Parts) (span : BlockSpan) (view : BlockView) : Type 0 where
   pub part : view.circuit.now.statements ≡ job.circuit
   pub arranged : IsArranged job.circuit view.circuit.now.arranged
@@ -81,8 +81,8 @@ pub record HasBegun (job : Parts) (view : BlockView) (stem : ℕ) (region : Sens
   pub at : region.stem ≡ place job.circuit view.circuit.now.arranged stem
   pub lanes : region.lanes ≡ view.lanes
 
--- Between two calls no word differs and no gate waits, and there is room for the regions of as many
--- signals.
+-- Between two calls no word differs and no gate waits, and there is room for the regions of the
+-- same number of signals.
 pub record IsReady (changes : PropagationState) (region : Sensitized) : Type 0 where
   pub rest : IsAtRest changes
   pub room : HasRoomForRegions (length changes.overlay) region

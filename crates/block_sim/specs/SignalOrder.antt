@@ -1,4 +1,4 @@
--- A walk through a circuit, and keys by which its signals are put in a topological order.
+-- A walk through a circuit, and keys that put its signals in a topological order.
 use Rattle.std.specs.Prelude.{◌≡◌, ◌<◌, ℕ, All, List, Some, length, slice_get, slice_index_or}
 use Rattle.bench_net.specs.Statement.{Statement}
 use Rattle.bench_net.specs.Scan.{names}
@@ -7,8 +7,8 @@ use Rattle.block_sim.specs.declared.signal_order.Keyed.{Keyed}
 use Rattle.block_sim.specs.declared.order_walk.Walk.{Walk}
 use Rattle.block_sim.specs.Events.{Reads}
 
--- a key that a signal may have beside those of others: that of a source is 0, and that of a gate
--- is greater than those of the signals that it reads
+-- a key that a signal may have beside the others' keys: 0 for a source, and for a gate a key
+-- greater than the keys of the signals that it reads
 pub record IsKeyOf (c : List Statement) (keys : List ℕ) (s key : ℕ) : Type 0 where
   pub source : IsSourceAt c s → key ≡ 0
   pub gate : (t : ℕ) → Reads c s t → slice_index_or keys t 0 < key
@@ -23,7 +23,8 @@ pub record AreKeysOf (keys : List ℕ) (keyed : List Keyed) : Type 0 where
   pub each : (s : ℕ) (at : Keyed) → slice_get keyed s ≡ Some at
       → (at.signal ≡ s) × (slice_get keys s ≡ Some at.key)
 
--- the walk has a place for each signal of the circuit, and is at signals of it
+-- the walk has an entry for each signal of the circuit, and its path consists of signals of the
+-- circuit
 pub record IsWalk (c : List Statement) (walk : Walk) : Type 0 where
   pub entered : length walk.entered.items ≡ length (names c)
   pub ranks : length walk.ranks.items ≡ length (names c)

@@ -1,4 +1,4 @@
--- What a simulation of a job keeps: outcomes that are true, and classes that came to a stem.
+-- The memory of a simulation of a job: true outcomes, and classes that reached a stem.
 use Rattle.std.specs.Prelude.{◌≡◌, ◌⊎◌, ℕ, ◌<◌, ◌≤◌, List, Contains, Some, length}
 use Rattle.std.specs.Prelude.{slice_get, slice_index_or, bit_and}
 use Rattle.bench_net.specs.Scan.{names}
@@ -34,7 +34,7 @@ TellsFirstIn job span class word =
     (r : Fault) × (slice_get (representatives job.list.model job.circuit) class ≡ Some r)
     × TellsFirst job.circuit job.tests.tests span r word
 
--- what is known of a class is true; a class waits for its outcome within a call alone
+-- the memo of a class is true; a class is pending only within a call
 abbrev pub IsTrueMemo : Parts → ℕ → Memo → Type 0
 IsTrueMemo job class Nothing = Unit {0}
 IsTrueMemo job class (Pending span) = ⊥
@@ -48,18 +48,18 @@ pub record AreTrueMemos (job : Parts) (memos : List Memo) : Type 0 where
   pub count : length memos ≡ length job.classes.representative
   pub each : (class : ℕ) → IsTrueMemo job class (slice_index_or memos class Nothing)
 
--- the class is among those that are followed
+-- the class is followed
 abbrev pub IsFollowed : List Followed → ℕ → Type 0
 IsFollowed followed class = (one : Followed) × Contains followed one × (one.class ≡ class)
 
--- there is a memo for each class, and each is true but for those of classes that are followed
+-- there is a memo for each class, and each is true unless its class is followed
 pub record AreTrueBut (job : Parts) (followed : List Followed) (memos : List Memo) : Type 0 where
   pub count : length memos ≡ length job.classes.representative
   pub each : (class : ℕ)
       → IsTrueMemo job class (slice_index_or memos class Nothing) ⊎ IsFollowed followed class
 
--- In these lanes of a span a class came to a signal: they are those of the span's tests that look
--- back as its representative asks and in which that came there.
+-- In these lanes of a span a class reached a signal: in each of them the span's test meets the
+-- condition of the representative on the test before, and the representative reached the signal.
 abbrev pub HasArrived : Parts → BlockSpan → ℕ → ℕ → ℕ → Type 0
 HasArrived job span signal class word =
     (r : Fault) × (lanes arrived : ℕ)
@@ -68,27 +68,28 @@ HasArrived job span signal class word =
     × HasCome job.circuit job.tests.tests (group_of span) r lanes signal arrived
     × (word ≡ bit_and lanes arrived)
 
--- all that are followed on a span are classes of the job that came to one signal
+-- all that are followed on a span are classes of the job that reached one signal
 abbrev pub AreFollowed : Parts → BlockSpan → ℕ → List Followed → Type 0
 AreFollowed job span signal followed = (one : Followed) → Contains followed one
     → (one.class < length job.classes.representative)
     × HasArrived job span signal one.class one.lanes
 
--- a class was followed by itself: it is known which test is the first, or it came to a signal
+-- a class was followed by itself: its first test is known, or it reached a signal
 abbrev pub IsApproach : Parts → ℕ → BlockSpan → Approach → Type 0
 IsApproach job class span (Known word) = TellsFirstIn job span class word
 IsApproach job class span (Stem at) =
     (at.signal < length (names job.circuit)) × HasArrived job span at.signal class at.lanes
 
--- what contracts see of a simulation: for how many signals it has room, the evaluations that it has
--- counted, what it knows of each class, and how many classes it can follow at once
+-- the view that contracts have of a simulation: the number of signals that it has room for, the
+-- evaluations that it has counted, the memo of each class, and the number of classes that it can
+-- follow at once
 pub record Simulated : Type 0 where
   pub signals : ℕ
   pub evaluations : ℕ
   pub memos : List Memo
   pub capacity : ℕ
 
--- A simulation serves a job: it is large enough, and what it knows is true of this job.
+-- A simulation serves a job: it is large enough, and its memos are true for this job.
 pub record Serves (simulation : Simulated) (job : Parts) : Type 0 where
   pub room : length (names job.circuit) ≤ simulation.signals
   pub outcomes : AreTrueMemos job simulation.memos

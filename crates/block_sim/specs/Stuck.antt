@@ -1,4 +1,4 @@
--- The fault that the code's own form of one stands for.
+-- The fault that a fault in the form of the code stands for.
 use Rattle.std.specs.Prelude.{Option, option_map}
 use Rattle.fault_model.specs.Fault.{Fault}
 use Rattle.block_sim.specs.declared.words.Stuck.{Stuck}

@@ -1,4 +1,4 @@
--- Words of 128 lanes: the bits of a group, two blocks side by side, one word a signal.
+-- Words of 128 lanes: the bits of a group, two blocks side by side, one word for each signal.
 use Rattle.std.specs.Prelude.{◌≡◌, ℕ, ◌+◌, ◌*◌, ◌<◌, ◌==◌, Bool, true, false, List, [], length, map}
 use Rattle.std.specs.Prelude.{Contains, Option, Some, None, slice_get, slice_index_or, bit_xor}
 use Rattle.std.specs.Int.{bit_at}
@@ -18,22 +18,22 @@ use Rattle.patterns.specs.Tests.{as_number, bit}
 abbrev pub lane : ℕ → ℕ → Bool
 lane word k = bit_at word k == 1
 
--- the bit that words, one a signal, give a name in a lane
+-- the bit that words, one for each signal, give a name in a lane
 abbrev pub lane_bits : List Statement → List ℕ → ℕ → Name → Bool
 lane_bits c words k n = lane (slice_index_or words (signal c n) 0) k
 
--- the test of a lane: test 128 g + k, and one of bits 0 past the last
+-- the test of a lane: test 128 g + k, or a test of zeros past the last
 abbrev pub test_of : List Test → ℕ → ℕ → Test
 test_of tests group k = slice_index_or tests (128 * group + k) []
 
--- The words are those of a group under a fault, or under none: in each lane they solve the circuit
--- under the lane's test.
+-- The words are the words of a group under a fault, or under none: in each lane they solve the
+-- circuit under the lane's test.
 abbrev pub AreWords : List Statement → List Test → ℕ → Option Fault → List ℕ → Type 0
 AreWords c tests group f words = (k : ℕ) → k < 128
     → Solves c (test_of tests group k) f (lane_bits c words k)
 
--- The word of one signal on a block without a fault, by its number: bit k is the one that the
--- solution under test 64 b + k gives it.
+-- The fault-free word of one signal on a block, by its number: bit k is the bit that the solution
+-- under test 64 b + k gives it.
 abbrev pub IsFaultFreeWord : List Statement → List Test → ℕ → ℕ → ℕ → Type 0
 IsFaultFreeWord c tests block s word = (k : ℕ) (n : Name) (v : Name → Bool) → k < 64
     → name_of c s ≡ Some n → Solves c (slice_index_or tests (64 * block + k) []) None v
@@ -44,9 +44,9 @@ pub record HasWords (c : List Statement) (words : List ℕ) : Type 0 where
   pub circuit : IsCircuit c
   pub count : length words ≡ length (names c)
 
--- The equation of one signal on words: in each lane a source has the bit of the lane's test and a
--- gate's signal the bit that its kind gives for what its pins see in that lane, but for a fault on
--- its stem.
+-- The equation of one signal on words. In each lane a source has the bit of the lane's test. A
+-- gate's signal has the bit that its kind gives for the bits of its pins in that lane, except for a
+-- fault on its stem.
 pub record IsSignalWord (c : List Statement) (tests : List Test) (group : ℕ) (f : Option Fault)
     (words : List ℕ) (s word : ℕ) : Type 0 where
   pub source : (i : ℕ) (n : Name) (k : ℕ) → k < 128 → name_of c s ≡ Some n
@@ -56,23 +56,23 @@ pub record IsSignalWord (c : List Statement) (tests : List Test) (group : ℕ) (
       → Contains c (Gate n kind args)
       → lane word k ≡ under f (line.Stem s) (value kind (pins_see f (lane_bits c words k) s args))
 
--- the word of a signal: the one that is known, turned in the lanes in which it differs
+-- the word of a signal: its known word, complemented in the lanes in which the signal differs
 abbrev pub word_over : List ℕ → List ℕ → ℕ → ℕ
 word_over words delta s = bit_xor (slice_index_or words s 0) (slice_index_or delta s 0)
 
--- what the pins of a gate, given by the signals that they read, see in a lane
+-- the bits that the pins of a gate, given by the signals that they read, see in a lane
 abbrev pub pin_bits : Option Fault → ℕ → List ℕ → List ℕ → List ℕ → ℕ → List Bool
 pin_bits f gate pins words delta k =
     map (λ at. under f (line.Pin gate at.0) (lane (word_over words delta at.1) k))
     (enumerate_from 0 pins)
 
--- the outcome names the least lane of a block's word that is 1
+-- the outcome has the least lane of a block's word that is 1
 abbrev pub IsLeastLane : ℕ → Outcome → Type 0
 IsLeastLane word (Hit k) = (k < 64) × (lane word k ≡ true)
     × ((lower : ℕ) → lower < k → lane word lower ≡ false)
 IsLeastLane word Clear = (k : ℕ) → k < 64 → lane word k ≡ false
 
--- the word of a group at a source: bit k is that of test 128 g + k, and 0 past the last test
+-- the word of a group at a source: bit k is the bit of test 128 g + k, and 0 past the last test
 abbrev pub IsGroupWord : List Test → ℕ → ℕ → ℕ → Type 0
 IsGroupWord tests group source word = (k : ℕ) → k < 128
     → bit_at word k ≡ as_number (bit tests (128 * group + k) source)

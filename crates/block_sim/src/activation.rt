@@ -16,11 +16,11 @@ use crate::launch_condition::launch_lanes;
 use crate::origin::origin_of;
 use crate::words::Stuck;
 
-/// Returns whether some test of a job activates the fault of this number in its list: the test
-/// gives the fault's line, in the fault-free circuit, the complement of the stuck bit. For a
-/// transition fault the test before must also give the line the stuck bit, and in a list of pairs
-/// that must be the launch test of the pair. It takes no memory. It reads about two words of each
-/// group of tests up to the first group with such a test.
+/// Returns whether some test of a job activates the fault with this number in the job's list: the
+/// test gives the fault's line, in the fault-free circuit, the complement of the stuck bit. For a
+/// transition fault the test before must also give the line the stuck bit. In a list of pairs the
+/// test before must be the launch test of the pair. The function takes no memory. It reads about
+/// two words of each group of tests up to the first group with such a test.
 pub fn is_activated(job: &Job, fault: u32) -> bool
     requires { fault < length job.now.list.list }
     ensures { (f : Fault) → slice_get job.now.list.list fault ≡ Some f

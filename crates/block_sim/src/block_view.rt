@@ -1,4 +1,4 @@
-//! A group of tests as the simulation of a fault reads it.
+//! A group of tests in the form that the simulation of a fault reads.
 
 ghost use Rattle.std.specs.Prelude.{◌≡◌, ◌<◌, Some, length, map, slice_get};
 

@@ -15,7 +15,8 @@ use std::sync::Wait;
 use std::thread;
 use std::thread::{Promise, Threads};
 
-/// The words of about a millisecond, about twenty times as long as the start of a thread.
+/// The number of words that a thread computes in about a millisecond, about 20 times as long as the
+/// start of a thread.
 const WORDS_OF_A_THREAD: u64 = 1 << 15;
 
 /// The most threads that compute words, whatever number is requested.
@@ -112,7 +113,7 @@ fn rows_between(
     Ok(rows)
 }
 
-/// The promise of a thread: it returns words of the groups of these tests.
+/// The promise of a thread: its result has the words of the groups of these tests.
 #[derive(Drop)]
 struct WordsOf {
     circuit: Snapshot<FlatCircuit>,
@@ -144,7 +145,7 @@ fn group_rows(
 
 /// Computes the words of the groups in this number of threads. Each thread has the same number of
 /// groups, except the last. If a thread doesn't start, no further one is started, and the rows of
-/// the groups from there on are missing.
+/// the remaining groups are missing.
 fn share_groups<R: Threads + Wait>(
     rt: &R,
     alloc: Global,

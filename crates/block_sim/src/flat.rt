@@ -47,10 +47,10 @@ struct Driver {
     form: GateForm,
 }
 
-/// The row of a signal: what the simulation reads each time that it comes to the signal. The pins
-/// of its gate and its readers are ranges of common lists. A row has 32 bytes, so two rows are on a
-/// cache line. With the rarely read fields in it, and places of 8 bytes, it had 56 bytes, and a
-/// simulation spent most of its time waiting for rows.
+/// The row of a signal: the data that the simulation reads each time it comes to the signal. The
+/// pins of its gate and its readers are ranges of common lists. A row has 32 bytes, so two rows are
+/// on a cache line. A row that also held the rarely read fields, and places of 8 bytes, had 56
+/// bytes. With it a simulation spent most of its time waiting for rows.
 ///
 /// ```text
 /// rows     .. | driver observed first last pins_start pins_end readers_start readers_end | ..
@@ -59,7 +59,7 @@ struct Driver {
 /// readers  .. | the live gates that read it              | ..   from readers_start to readers_end
 /// ```
 ///
-/// That is 29 bytes; 3 are empty, because the next row begins at a multiple of 4.
+/// The fields take 29 bytes; 3 are empty, because the next row begins at a multiple of 4.
 #[derive(Clone, Copy)]
 struct SignalRow {
     /// `None` for a source.
@@ -94,10 +94,9 @@ struct Lists {
 
 /// A circuit with the data of its signals that a simulation reads, in flat arrays.
 ///
-/// The simulation goes from gates to the gates that read them. So its lists are in an order in
-/// which gates that are near in the circuit are near, and each gate comes after the signals that it
-/// reads. A signal's number in the lists is its place: its number in the circuit with the
-/// statements in this order.
+/// The simulation goes from gates to the gates that read them. So gates that are near in the
+/// circuit are near in its lists. Each gate comes after the signals that it reads. A signal's
+/// number in the lists is its place: its number in the circuit with the statements in this order.
 #[derive(Drop)]
 pub struct FlatCircuit {
     circuit: Circuit,
@@ -444,8 +443,8 @@ fn add_row(
     })
 }
 
-/// Returns the kind and the form of the gate that drives a signal, and adds the places of the
-/// signals that its pins read at the end of the list.
+/// Returns the kind and the form of the gate that drives a signal. Adds the places of the signals
+/// that its pins read at the end of the list.
 fn add_pins(
     placed: Placed<'_>,
     signal: u32,
@@ -500,8 +499,8 @@ fn only_gate(sinks: &[Sink]) -> Option<u32>
     }
 }
 
-/// Returns whether an observer observes a signal, and adds the places of the live gates that read
-/// it at the end of the list.
+/// Returns whether an observer observes a signal. Adds the places of the live gates that read it at
+/// the end of the list.
 fn add_readers(placed: Placed<'_>, signal: u32, readers: &mut Vec<u32>) -> Result<bool, AllocError>
     requires placed { ArePlaced placed.circuit.now placed.order.now placed.places.now
         placed.live.now }

@@ -52,11 +52,11 @@ impl From<AllocError> for JobFault {
     }
 }
 
-/// A circuit, its faults and classes, and tests for it, with the fault-free words of every block,
-/// the stem and the representative of each class, and the classes of each fanout-free region in a
-/// circle.
+/// A circuit, its faults and classes, and tests for it.
 ///
-/// All of it is in one place of memory, so a job moves as cheaply as a number.
+/// A job also has the fault-free words of every block, and the stem and the representative of each
+/// class. It links the classes of each fanout-free region in a circle. All of it is in one place of
+/// memory, so a job moves as cheaply as a number.
 #[derive(Drop)]
 pub struct Job {
     parts: Box<JobParts>,
@@ -110,9 +110,8 @@ impl Model for Job {
 }
 
 impl Job {
-    /// Makes a job of parts that belong together: the faults and the classes are those of the
-    /// circuit, and the tests have its width. It takes a word for each signal and block, and a few
-    /// numbers for each class.
+    /// Makes a job of parts that belong together: the faults and classes of the circuit, and tests
+    /// of its width. It takes a word for each signal and block, and a few numbers for each class.
     ///
     /// It fails with `TooManyPieces` exactly if classes times blocks are more than
     /// [`patterns::MAX_PIECES`], before it takes memory, and with `Memory` if an allocation fails.
@@ -178,8 +177,8 @@ impl Job {
     }
 
     /// Makes a job as [`Job::new`] does, with the same errors, in at most as many threads as there
-    /// are workers, which share the words of its blocks. If a thread doesn't start, the caller's
-    /// thread does its work.
+    /// are workers. The threads share the words of its blocks. If a thread doesn't start, the
+    /// caller's thread does its work.
     pub fn new_in_threads<R: Threads + Wait>(
         rt: &R,
         alloc: Global,
@@ -448,8 +447,8 @@ impl Job {
         }
     }
 
-    /// Returns the last block that is simulated together with a block: from the third block on the
-    /// other one of its group of two, if it comes after the block.
+    /// Returns the last block that is simulated together with a block. From the third block on this
+    /// is the other block of its group of two, if that comes after it.
     pub fn last_together(&self, block: u32) -> u32
         requires { block < blocks (length self.now.tests.tests) }
         ensures last { result ≡ (span_of (length self.now.tests.tests) block).last }
@@ -459,11 +458,11 @@ impl Job {
         BlockSpan::from(&self.parts.tests, block).last
     }
 
-    /// Returns the number of the signal that is the stem of a class, from 0: the stem of the
+    /// Returns the number, from 0, of the signal that is the stem of a class: the stem of the
     /// fanout-free region of its representative. A signal is a stem unless its fanout is one pin of
-    /// one gate. A fault on a gate's pin lies in the region of the gate's signal, any other in the
-    /// region of the signal that its line carries (Lee and Ha, HOPE: An Efficient Parallel Fault
-    /// Simulator).
+    /// one gate. A fault on a gate's pin lies in the region of the gate's signal. Any other fault
+    /// lies in the region of the signal that its line carries. (Lee and Ha, HOPE: An Efficient
+    /// Parallel Fault Simulator.)
     pub fn stem_of_class(&self, class: u32) -> u32
         requires { class < length self.now.classes.representative }
         ensures stem { IsStemOfClass self.now.list.model self.now.circuit class result }

@@ -1,7 +1,7 @@
 //! The condition of a fault on the test before the one that detects it. A stuck-at fault has none.
 //! For a transition fault that test must give the line the bit that the line is slow to leave
-//! (transition faults by pairs of patterns: Waicukauski, Lindbloom, Rosen and Iyengar, Transition
-//! Fault Simulation). In a list of pairs it must be the launch test of the pair, too.
+//! (Waicukauski, Lindbloom, Rosen and Iyengar, Transition Fault Simulation). In a list of pairs it
+//! must also be the launch test of the pair.
 
 ghost use Rattle.std.specs.Prelude.{◌≡◌, ◌↔◌, ◌+◌, ◌*◌, ◌<◌, All, Bool, Contains, List, ℕ, suc};
 ghost use Rattle.std.specs.Prelude.{Some};
@@ -26,8 +26,8 @@ use crate::origin::origin_of;
 use crate::words::Stuck;
 
 /// Returns the lanes of a group whose test before lets the fault be detected: all lanes for a
-/// stuck-at fault. For a transition fault, those in which that test gives its line the bit that the
-/// line is slow to leave, and in a list of pairs only the capture tests of these.
+/// stuck-at fault. For a transition fault, the test before must give the line the bit that the line
+/// is slow to leave. In a list of pairs only the lanes of capture tests remain.
 pub fn launch_lanes(job: &Job, group: u32, stuck: Stuck) -> u128
     requires group { group < groups (length job.now.tests.tests) }
     requires stuck { (f : Fault) × IsStuckOf job.now.circuit f stuck }
@@ -93,7 +93,7 @@ fn word_before(words: GroupWords<'_>, group: u32, place: u32) -> u128
     one_lane_up(words.of(group)[place as usize], last)
 }
 
-/// Returns the lanes of a word one up, and in lane 0 the last lane of the word before it.
+/// Returns the lanes of a word one up, with the last lane of the preceding word in lane 0.
 fn one_lane_up(word: u128, last: u128) -> u128
     ensures first { lane result 0 ≡ lane last 127 }
     ensures later { (k : ℕ) → k < 127 → lane result (k + 1) ≡ lane word k }

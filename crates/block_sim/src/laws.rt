@@ -21,8 +21,8 @@ ghost use Rattle.block_sim.specs.Reordered.{HasSameStems};
 ghost use Rattle.block_sim.specs.Ways.{OneWayLaw, SomeWayLaw};
 
 /// States that blocks give the first test that detects a fault. Take a table with the true outcome
-/// of each class and block: the test of a class's first Hit is the first test that detects each
-/// fault of the class, and if all blocks are Clear no test detects one.
+/// of each class and block. The test of a class's first Hit is the first test that detects each
+/// fault of the class. If all blocks are Clear, no test detects one.
 pub fn least_is_first()
     ensures { (m : Model) (c : List Statement) (tests : List Test) (table : Table) → IsWellFormed c
         → HaveArities c → IsTrueTable m c tests table → LeastIsFirst m c tests table }
@@ -53,10 +53,10 @@ pub fn class_ways()
     ensures some { (m : Model) (c : List Statement) → IsWellFormed c → SomeWayLaw m c }
 {}
 
-/// States that faults share the circuit after the stem of a fanout-free region. If only one gate
-/// reads a signal, the complemented signal is detected exactly if the gate passes the change on and
-/// the complemented gate is detected. A fault is detected exactly if it changes its first signal
-/// and that signal, complemented, is detected.
+/// States that faults share the circuit after the stem of a fanout-free region. Take a signal that
+/// only one gate reads. The complemented signal is detected exactly if the gate passes the change
+/// on and the complemented gate is detected. A fault is detected exactly if it changes its first
+/// signal and the complement of that signal is detected.
 pub fn regions()
     ensures pin { (c : List Statement) → IsWellFormed c → PinLaw c }
     ensures one_stem { (c : List Statement) → OneStemLaw c }
@@ -70,10 +70,10 @@ pub fn regions()
     ensures lanes { (c : List Statement) → LanesLaw c }
 {}
 
-/// States that simulation results of a circuit whose statements stand in another order are true for
-/// the circuit, with each signal by its other number ([`fault_model::laws::reordering`]): readers,
-/// observers and stems, the gates that a fault makes active, and which tests detect a complemented
-/// signal.
+/// States that results for a circuit whose statements stand in another order are true for the
+/// circuit, with each signal by its other number ([`fault_model::laws::reordering`]). The results
+/// are readers, observers and stems, the gates that a fault makes active, and the tests that detect
+/// a complemented signal.
 pub fn reordering()
     ensures readers { (c d : List Statement) → IsWellFormed c → IsReordered c d
         → HasSameReaders c d }

@@ -1,10 +1,10 @@
 //! A walk through a circuit against the flow, depth first.
 //!
-//! From a gate it goes to the signal of its first pin and everything before it, then to the signal
-//! of its second pin, and so on, and leaves the gate after all of these. So the signals that lead
-//! to a gate are left shortly before it. It starts from the observed signals, the lowest level
-//! first, and at last from the signals that it hasn't met. So everything that leads to the lowest
-//! observer comes first, then what the next observer needs beyond that, and so on.
+//! From a gate it goes to the signal of its first pin and everything before it, and then to the
+//! signal of each further pin. It leaves the gate after all of these. So the signals that lead to a
+//! gate are left shortly before it. It starts from the observed signals, the lowest level first,
+//! and at last from the signals that it hasn't met. So everything that leads to the lowest observer
+//! comes first, then the further signals that the next observer needs, and so on.
 
 ghost use Rattle.std.specs.Prelude.{◌≡◌, ◌<◌, IfOk, IfSome, OnOk, length};
 ghost use Rattle.bench_net.specs.Circuit.{IsCircuit};
@@ -41,7 +41,7 @@ struct Walk {
 /// m = NOT(b)    z = AND(a, m)    y = OR(b, c)        a 0    b 1    m 2    z 3    c 4    y 5
 /// ```
 ///
-/// No clause promises anything of these numbers: they affect the speed of a simulation, and no
+/// No clause promises anything about these numbers: they affect the speed of a simulation, and no
 /// result.
 pub fn walk_ranks(alloc: Global, circuit: &Circuit) -> Result<Vec<u32>, AllocError>
     requires { IsCircuit circuit.now }

@@ -1,6 +1,6 @@
-//! The start of the simulation of a class. A job keeps the representatives, class by class, so the
-//! lists that they come from are read in their order: on 100,000 gates a run in the order of its
-//! regions took three times as long for it.
+//! The start of the simulation of a class. A job keeps the representatives, class by class, so a
+//! run reads them in the order of the list. With the lists that they come from, a run on 100,000
+//! gates in the order of its regions took three times as long for this step.
 
 ghost use Rattle.std.specs.Prelude.{◌≡◌, ◌<◌, ℕ, IfOk, length};
 ghost use Rattle.fault_model.specs.Collapse.{AreClassesOf};
@@ -24,9 +24,9 @@ pub struct Origin {
     pub carried: u32,
 }
 
-/// A class of a list: its number, from 0, and the number, from 0, of the signal that is the stem of
-/// its fanout-free region, with its representative. [`crate::Job::listed`] makes it. A run over a
-/// list of classes keeps an entry for each of them, in the order of the list, and reads no other
+/// A class of a list: its number, its representative and its stem, from [`crate::Job::listed`]. The
+/// stem is the number, from 0, of the signal that is the stem of its fanout-free region. A run over
+/// a list of classes keeps an entry for each of them, in the order of the list, and reads no other
 /// data of a class.
 #[derive(Clone, Copy)]
 pub struct ListedClass {

@@ -109,8 +109,8 @@ impl Sensitized {
     }
 }
 
-/// Goes from a signal to the first one on its way to the stem whose lanes are known, and puts the
-/// signals before that on the path.
+/// Goes from a signal to the first one on its way to the stem whose lanes are known. Puts the
+/// signals before that one on the path.
 fn climb(circuit: &FlatCircuit, signal: u32, known: &KnownWords, path: &mut Vec<u32>) -> Arrival
     requires within { signal < length (names circuit.now.arranged) }
     requires room { length (names circuit.now.arranged) ≤ length known.now }

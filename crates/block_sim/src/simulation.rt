@@ -32,14 +32,15 @@ use std::marker::Model;
 /// The memo of a class: its outcome on the blocks of its last simulation.
 #[derive(Clone, Copy)]
 pub enum Memo {
-    /// It has no outcome on any block.
+    /// The class has no outcome on any block.
     Nothing,
-    /// It is followed on these blocks, and gets its outcome when its region is simulated. No class
-    /// waits from one call to the next.
+    /// The class is followed on these blocks, and gets its outcome when its region is simulated. No
+    /// class waits from one call to the next.
     Pending { span: BlockSpan },
-    /// No test of these blocks detects it.
+    /// No test of these blocks detects the class.
     Clear { span: BlockSpan },
-    /// This test of a block, counted from 0, is the first from the first block on that detects it.
+    /// This test of a block, counted from 0, is the first from the first block on that detects the
+    /// class.
     Hit { first: u32, block: u32, test: u32 },
 }
 
@@ -94,16 +95,16 @@ impl Memo {
 /// The result of following a class by itself on some blocks.
 #[derive(Clone, Copy)]
 pub enum Approach {
-    /// The first test that detects it is known: the least lane that is 1.
+    /// The first test that detects the class is known: the least lane that is 1.
     Known(u128),
-    /// It reached the stem of its region, in some lanes.
+    /// The class reached the stem of its region, in some lanes.
     Stem(Arrival),
 }
 
 /// The simulation of the pieces of a job. Faults of one fanout-free region all leave it through its
-/// stem, so one simulation of the stem serves all classes of the region that a block will likely
-/// need (Lee and Ha, HOPE: An Efficient Parallel Fault Simulator). It keeps for each class its last
-/// outcome.
+/// stem. So one simulation of the stem serves all classes of the region that a block will likely
+/// need (Lee and Ha, HOPE: An Efficient Parallel Fault Simulator). The simulation keeps for each
+/// class its last outcome.
 #[derive(Drop)]
 pub struct Simulation {
     changes: PropagationState,
@@ -159,10 +160,10 @@ impl Simulation {
     ///
     /// It follows classes of the region, including this one, that have no memo on the block before
     /// the call and have one after it. From the third block on it simulates two blocks at once. At
-    /// most it evaluates the gates on the ways of these classes to the stem, and once each the
-    /// gates that the complemented stem makes active: gates with a pin that then sees another bit,
-    /// under some test of the block, or from the third block on of the block after it in its group
-    /// of two. If the class has a memo on the block, it evaluates none.
+    /// most it evaluates the gates on the ways of these classes to the stem and, once each, the
+    /// gates that the complemented stem makes active. A gate is active if one of its pins then sees
+    /// another bit under some test of the simulated blocks. If the class has a memo on the block,
+    /// it evaluates none.
     pub fn outcome(&mut self, job: &Job, class: u32, block: u32) -> Outcome
         requires serves { Serves self.old job.now }
         requires class { class < length job.now.classes.representative }
@@ -347,7 +348,7 @@ fn is_likely(memo: Memo, block: u32) -> bool
     }
 }
 
-/// Goes round the region of a class, and follows with it the others that the block will likely
+/// Goes through the region of a class, and follows with it the others that the block will likely
 /// need. It keeps the outcomes that are known at once.
 fn gather(
     job: &Job,
@@ -389,7 +390,7 @@ fn gather(
     }
 }
 
-/// Follows one more class of the region, and keeps its outcome if it is known at once.
+/// Follows one more class of the region. It keeps the outcome if that is known at once.
 fn follow_too(
     job: &Job,
     span: BlockSpan,

@@ -28,7 +28,7 @@ use fault_model::Line;
 use patterns::Tests;
 
 /// The stuck-at fault that is propagated for a fault of any model: its line is held at 0 or at 1
-/// for all its readers. A transition fault is detected if this one is and the test before fits.
+/// for all its readers. A transition fault is detected if this fault is and the test before fits.
 #[derive(Clone, Copy)]
 pub struct Stuck {
     pub model: fault_model::Model,
@@ -60,7 +60,7 @@ impl Stuck {
 }
 
 /// Returns the word that the readers of a line get: the stuck bit in every lane if the fault is on
-/// this very line, else the word that drives it.
+/// this very line, or else the word that drives it.
 #[inline(always)]
 fn seen(fault: Option<Stuck>, own: Line, word: u128) -> u128
     ensures { (k : ℕ) → k < 128 → lane result k ≡ under (fault_of fault) own (lane word k) }
@@ -72,7 +72,7 @@ fn seen(fault: Option<Stuck>, own: Line, word: u128) -> u128
 }
 
 /// Returns the word that a pin of a gate reads: the word of its signal, inverted in the lanes in
-/// which that differs, or the stuck bit if the fault is on the pin.
+/// which the signal differs, or the stuck bit if the fault is on the pin.
 #[inline(always)]
 fn pin_word(
     gate: FlatGate<'_>,
@@ -107,9 +107,9 @@ struct Folds {
     odd: u128,
 }
 
-/// Returns the folded words of a gate's pins. The first and the last are read apart, so that a gate
-/// of one pin or two, as most are, takes no turn of the loop: no branch decides which of the two it
-/// is.
+/// Returns the folded words of a gate's pins. It reads the first pin and the last apart from the
+/// others, so the loop makes no pass for a gate of one or two pins, as most are. No branch decides
+/// whether a gate has one pin or two.
 #[inline(always)]
 fn folds_of(
     gate: FlatGate<'_>,

@@ -23,7 +23,7 @@ use Rattle.block_sim.proofs.ArrangedWords.{carried_is, starts_there}
 use Rattle.block_sim.proofs.BitBefore.{fits_where, lane_has_bit}
 use Rattle.block_sim.proofs.activation.opposite_lanes.Goals as goal
 
--- the word of the line's signal tells the line's bits
+-- the word of the line's signal has the line's bits
 detection : (c d : List Statement) (tests : List Test) (group : ℕ) (f : Fault) (origin : Origin)
     (row : List ℕ) → IsWellFormed c → IsArranged c d → Starts c d f origin
     → AreWords d tests group None row → (k : ℕ) (bit : Bool) → k < 128
@@ -38,7 +38,7 @@ detection c d tests group f origin row well arranged starts words k bit lt =
     let same = ap (λ s. lane (slice_index_or row s 0) k) named.3 in
     (λ e. bits.1 (own.0 (sym same ∙ e)), λ h. same ∙ own.1 (bits.0 h))
 
--- where the lanes of another word are 1 just where those of this one have a bit
+-- the lanes of another word are 1 exactly if the lanes of this one have a bit
 decided : (word other k : ℕ) (bit : Bool) (P : Bool → Type 0)
     → ((b : Bool) → (lane word k ≡ b) ↔ P b)
     → (lane other k ≡ true) ↔ (lane word k ≡ bit) → Decides (lane other k) (P bit)

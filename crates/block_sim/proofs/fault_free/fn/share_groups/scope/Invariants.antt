@@ -1,7 +1,7 @@
 use Rattle.std.proofs.Common.{◌≡◌, ◌<◌, ◌≤◌, ℕ, get_or, vec_items, vec_len}
 use Rattle.block_sim.proofs.fault_free.fn.share_groups.scope.Given as goal
 
--- no group is given out past the last, and each handle is promised words of these tests
+-- no group past the last is given to a thread, and each handle promises words of these tests
 abbrev pub invariant-loop-thread : goal.invariant-loop-thread
 invariant-loop-thread g l = record {
   low : l.first ≤ l.count;
