@@ -8,7 +8,7 @@ use Rattle.bench_net.specs.Scan.{names, cells, signal, name_of}
 use Rattle.list_lemmas.proofs.Members.{Among, contained}
 use Rattle.bench_net.proofs.Public.{name_of-signal}
 
--- what a list of stored cells has at a place where the cells of the circuit have q
+-- the element of a list of stored cells at the place at which the cells of the circuit have q
 pub cell_at : (cs : List (Name × Name)) (rs : List ScanCell) (f : Name → ℕ) (i : ℕ) (d : ScanCell)
     → map {B = ℕ × ℕ} (λ cell. (cell.q, cell.d)) rs ≡ map (λ cell. (f cell.0, f cell.1)) cs
     → i < length cs
@@ -43,13 +43,13 @@ cell_is_named (Gate m kind args ∷ c) q a = inr (cell_is_named c q a)
 cell_is_named (Dff p d ∷ c) q (inl e) = inl e
 cell_is_named (Dff p d ∷ c) q (inr a) = inr (cell_is_named c q a)
 
--- what stands at a place is within the list
+-- a place with an element is within the list
 within : (ns : List Name) (i : ℕ) (n : Name) → slice_get ns i ≡ Some n → i < length ns
 within [] i n e = let bad : None ≡ Some n = e in cc
 within (m ∷ ns) zero n e = omega arith
 within (m ∷ ns) (suc i) n e = omega (arith, within ns i n e)
 
--- the number of a cell's q is that of a signal, whose name is q
+-- the number of a cell's q is the number of a signal, whose name is q
 pub cell_signal : (c : List Statement) (q : Name) → Among q (map (λ qd. qd.0) (cells c))
     → (signal c q < length (names c)) × (name_of c (signal c q) ≡ Some q)
 cell_signal c q a =

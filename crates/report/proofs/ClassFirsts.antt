@@ -19,7 +19,7 @@ use Rattle.block_sim.specs.First.{IsFirst}
 use Rattle.workers.specs.Verdict.{AreFirsts}
 use Rattle.report.specs.Report.{class_firsts, first_at}
 
--- where there is a fault, there is a class
+-- if there is a fault, there is a class
 pub some_class : (m : Model) (c : List Statement) (classes : Collapsed) (f : Fault)
     → Contains (faults m c) f → AreClassesOf m c classes → 0 < length classes.representative
 some_class m c classes f has are =
@@ -67,7 +67,7 @@ first_moves c tests f g (Some t) to from is = (
 )
 first_moves c tests f g None to from is = λ t has. is t (to t has)
 
--- the first test of a class is that of each of its faults
+-- the first test of a class is the first test of each of its faults
 pub first_of_class : (m : Model) (c : List Statement) (tests : List Test) (classes : Collapsed)
     (firsts : List (Option ℕ)) (f : Fault) (class : ℕ) (first : Option ℕ)
     → IsCircuit c → AreClassesOf m c classes → AreFirsts m c tests firsts → IsClassOf m c f class

@@ -1,4 +1,4 @@
--- From the compaction of a job to that of the texts that the job was read from.
+-- From the compaction of a job to the compaction of the files that the job was read from.
 use Rattle.std.proofs.Common.{◌≡◌, ◌<◌, ◌≤◌, ◌∙◌, ◌++◌, [], ℕ, List, ap, length, subst}
 use Rattle.std.specs.Prelude.{codes, decimal, Err, IfErr, Ok, OnOk, Result}
 use Rattle.fault_model.specs.declared.Model.{Model}
@@ -43,7 +43,7 @@ pub rows_of_kept : (m : Model) (bench text : List ℕ) (count : KeptCount) (byte
     → IsKeptText m bench text rows_as_listed count bytes → IsCompactionOf m bench text bytes
 rows_of_kept m bench text count bytes is = (is.0, is.1, is.2, is.4, is.5, is.6.0, is.8)
 
--- what is given beside a text of one kind is given beside one of another
+-- a value beside a text of one kind is a value beside a text of another kind
 pub given_as : {X : Type 0} (A B : X → List ℕ → Type 0) (r : Result X SimFault)
     (old new : Output) → ((x : X) (text : List ℕ) → A x text → B x text)
     → GivesOneOf A r old new → GivesOneOf B r old new
@@ -56,7 +56,7 @@ given_as A B (Err (fault.Job f)) old new into w = w
 given_as A B (Err (fault.Run f)) old new into w = w
 given_as A B (Err fault.Memory) old new into w = w
 
--- what a refused call wrote that would have given a value too
+-- the text of a failed call that would also have returned a value
 pub given_text : {X : Type 0} (A : List ℕ → Type 0) (B : X → List ℕ → Type 0) (x : X)
     (f : SimFault) (old new : Output) → ((text : List ℕ) → A text → B x text)
     → WritesOneOf A (Err f) old new → GivesOneOf B (Err f) old new
@@ -68,7 +68,7 @@ given_text A B x (fault.Job f) old new into w = w
 given_text A B x (fault.Run f) old new into w = w
 given_text A B x fault.Memory old new into w = w
 
--- the text of a refused call without the value
+-- the text of a failed call without the value
 pub text_alone : {X : Type 0} (A : X → List ℕ → Type 0) (B : List ℕ → Type 0) (f : SimFault)
     (old new : Output) → ((x : X) (text : List ℕ) → A x text → B text)
     → GivesOneOf A (Err f) old new → WritesOneOf B (Err f) old new
@@ -80,13 +80,13 @@ text_alone A B (fault.Job f) old new into w = w
 text_alone A B (fault.Run f) old new into w = w
 text_alone A B fault.Memory old new into w = w
 
--- a fault of one kind is one of another, whatever the call gives
+-- an error of one kind is an error of another kind, whatever value the call returns
 pub err_as : {X : Type 0} (A B : SimFault → Type 0) (r : Result X SimFault)
     → ((f : SimFault) → A f → B f) → IfErr r A → IfErr r B
 err_as A B (Ok u) into w = w
 err_as A B (Err f) into w = into f w
 
--- what is refused of a text that is known
+-- the errors for a file that is known
 pub kept_fault : (workers : ℕ) (IsFault : RunFault → Type 0) (f : SimFault) → 0 < workers
     → workers ≤ 64 → IsListFault f → IsJobTextFault workers IsFault f
 kept_fault workers IsFault (fault.Report f) some few h = (some, few)
@@ -106,7 +106,7 @@ pub ok_as : {X : Type 0} (P Q : Type 0) (r : Result X SimFault) → (P → Q) �
 ok_as P Q (Ok u) into p = into p
 ok_as P Q (Err f) into p = tt
 
--- how many tests are kept, by their numbers
+-- the number of kept tests, by their numbers
 abbrev pub the_count : ℕ → ℕ → KeptCount
 the_count kept all = record { kept = kept; all = all }
 

@@ -1,4 +1,4 @@
--- From the counts of a job to those of the texts that the job was read from.
+-- From the counts of a job to the counts of the files that the job was read from.
 use Rattle.std.proofs.Common.{◌∙◌, ap, subst}
 use Rattle.std.specs.Prelude.{⊤, ℕ, Bool, List}
 use Rattle.fault_model.specs.declared.Model.{Model}
@@ -17,7 +17,7 @@ use Rattle.report.specs.EndToEnd.{IsJobReportFault, IsReportFault, IsRunReportFa
 use Rattle.report.proofs.ReportsOfTexts.{job_run_fault}
 use Rattle.report.proofs.WatchedRuns.{report_fault_as}
 
--- the counts of a job of texts are those of the texts
+-- the counts of a job of files are the counts of the files
 pub counts_of_texts : (m : Model) (bench text : List ℕ) (most : ℕ) (list : Bool) (job : Parts)
     → IsJobOf m bench text job → (bytes : List ℕ) → IsDetectionReportOfJob job most list bytes
     → IsDetectionReportOf m bench text most list bytes
@@ -32,7 +32,7 @@ counts_of_texts m bench text most list job of bytes of_job =
       of_job.2 ∙ ap (λ k. detection_report k job.circuit most of_job.0 list) of.3,
     )
 
--- what doesn't count doesn't run
+-- an error of counting is an error of a run
 count_fault : (job : Parts) (workers : ℕ) (f : RunFault) → IsCountFault workers f
     → IsRunFault job workers ⊤ no_stop f
 count_fault job workers run_fault.NoWorkers h = h
@@ -43,7 +43,7 @@ count_fault job workers run_fault.Memory h = h
 count_fault job workers run_fault.Threads h = h
 count_fault job workers (run_fault.Unfinished c b) h = absurd h
 
--- counts that are refused of a job within the limit of pieces are refused of the texts
+-- an error of counting for a job within the limit of pieces is an error for the files
 pub job_count_fault : (m : Model) (bench text : List ℕ) (workers : ℕ) (job : Parts)
     → IsJobWithin m bench text job → (f : SimFault)
     → IsJobReportFault workers (IsCountFault workers) f → IsReportFault m bench text workers f

@@ -26,7 +26,7 @@ use Rattle.patterns.specs.Least.{below, from_up}
 use Rattle.compaction.specs.Compaction.{finds, is_first}
 use Rattle.report.specs.Curve.{counts_at, curve, found_by, is_found_by, news_at, point_at}
 
--- how many faults have a first test below a number
+-- whether a first test is below a number
 abbrev pub is_below : ℕ → Option ℕ → Bool
 is_below t None = false
 is_below t (Some first) = nat_lt first t
@@ -38,7 +38,7 @@ count_cons : (p : Option ℕ → Bool) (x : Option ℕ) (xs : List (Option ℕ))
     → count_by p (x ∷ xs) ≡ cond (p x) 1 0 + count_by p xs
 count_cons p x xs = sum_by-cons (λ y. cond (p y) 1 0) x xs
 
--- one fault more, at its first test alone
+-- one fault more, at its first test only
 one_more : (t : ℕ) (x : Option ℕ) → cond {A = ℕ} (is_below (t + 1) x) 1 0 ≡ cond (is_below t x) 1 0
     + cond (is_first t x) 1 0
 one_more t None = refl
@@ -83,7 +83,7 @@ below_none (x ∷ xs) = omega (arith, below_none xs, none_below x, count_cons (i
 pub found_few : (firsts : List (Option ℕ)) (t : ℕ) → found_below firsts t ≤ length firsts
 found_few firsts t = count_by-le-length (is_below t) firsts
 
--- a test is the first of some fault where it counts one
+-- a test is the first of some fault if it counts one
 pub finds_some : (p : Option ℕ → Bool) (xs : List (Option ℕ)) → 0 < count_by p xs
     → list_any p xs ≡ true
 finds_some p [] h = absurd (omega (arith, h))
@@ -145,7 +145,7 @@ point_is firsts t gained detected g e =
     ∙ sym e)
     ∙ ap (λ n. record { test = t; gained = n; detected = detected }) (sym g)
 
--- the step of what a test counts
+-- the step of the count of a test
 pub news_more : (firsts : List (Option ℕ)) (t i : ℕ) (first : Option ℕ)
     → slice_get firsts i ≡ Some first → news_at (take (i + 1) firsts) t ≡ news_at (take i firsts) t
     + counts_at t first
@@ -155,11 +155,11 @@ news_more firsts t i first at =
     ∙ ap (λ x. news_at (take i firsts) t + counts_at t x)
     (get_or_from_slice_get firsts i first first at)
 
--- what is left of a vector whose slice was written over
+-- the vector after its slice was overwritten
 pub written_over : (n : ℕ) (new old : List ℕ) → n ≡ length new → take n (new ++ old) ≡ new
 written_over n new old e = ap (λ k. take k (new ++ old)) e ∙ take-append_seam new old
 
--- the curve of a job of texts is that of the texts
+-- the curve of a job of files is the curve of the files
 pub curve_of_texts : (m : Model) (bench text : List ℕ) (job : Parts) → IsJobOf m bench text job
     → (bytes : List ℕ) → IsCurveOfJob job bytes → IsCurveOf m bench text bytes
 curve_of_texts m bench text job is bytes of_job = (

@@ -1,4 +1,4 @@
--- The histogram of the counts of a job, and that of the texts that the job was read from.
+-- The histogram of the counts of a job, and the histogram of the files that the job was read from.
 use Rattle.std.proofs.Common.{◌≡◌, ◌+◌, ◌<◌, ◌≤◌, ◌∙◌, ◌++◌, ◌∷◌, [], ℕ, Bool, List, ap, arith}
 use Rattle.std.proofs.Common.{append_assoc, get_or, length, refl, subst, suc, sym, take, zero}
 use Rattle.std.proofs.Math.Bool.{cond}
@@ -29,7 +29,7 @@ use Rattle.report.proofs.CountedTexts.{job_count_fault}
 use Rattle.report.proofs.LinesByPairs.{zipped_by}
 use Rattle.report.proofs.ReportsOfTexts.{text_fault}
 
--- the histogram of a job of texts is that of the texts
+-- the histogram of a job of files is the histogram of the files
 pub histogram_of_texts : (m : Model) (bench text : List ℕ) (most : ℕ) (list : Bool) (job : Parts)
     → IsJobOf m bench text job → (bytes : List ℕ) → IsHistogramReportOfJob job most list bytes
     → IsHistogramReportOf m bench text most list bytes
@@ -52,7 +52,7 @@ pub with_more : (counts : List ℕ) (n i : ℕ) → i < length counts
 with_more counts n i lt =
     sum_by_more (λ x. cond (x == n) 1 0) counts i 0 lt
 
--- no more than the faults
+-- at most all faults
 pub with_few : (counts : List ℕ) (n : ℕ) → faults_with counts n ≤ length counts
 with_few counts n = count_by-le-length (λ count. count == n) counts
 
@@ -78,7 +78,7 @@ pub line_of_count : (count faults : ℕ) (a b : List ℕ) → a ≡ decimal coun
     → a ++ (codes " " ++ (b ++ (codes "\n" ++ []))) ≡ histogram_line (count, faults)
 line_of_count count faults a b e f = rw (e, f) (simp append_assoc)
 
--- the same of texts whose number of pieces isn't looked at
+-- the same for files whose number of pieces isn't limited
 read : (m : Model) (bench text : List ℕ) (workers : ℕ) (f : SimFault) → IsReadFault bench text f
     → IsTextFault m bench text workers (λ job. IsCountFault workers) f
 read m bench text workers (fault.Run f) h = absurd h
@@ -89,7 +89,7 @@ read m bench text workers (fault.Order f) h = h
 read m bench text workers (fault.Job f) h = h
 read m bench text workers fault.Memory h = h
 
--- texts that are refused before anything is counted
+-- errors of the files before anything is counted
 pub counted_refused : (m : Model) (bench text : List ℕ) (s : Split) (workers : ℕ) (f : SimFault)
     → IsSplitFault m bench text s f → IsCountedFault m bench text s workers f
 counted_refused m bench text split.Whole workers f h = whole f h
@@ -105,7 +105,7 @@ counted_refused m bench text split.Whole workers f h = whole f h
 counted_refused m bench text (split.Parts n) workers f h = read m bench text workers f h
 counted_refused m bench text split.Fitting workers f h = read m bench text workers f h
 
--- counts of a job that are refused
+-- errors of the counts of a job
 pub counted_fault : (m : Model) (bench text : List ℕ) (s : Split) (parts workers : ℕ) (job : Parts)
     → IsJobOf m bench text job → IsSplitOf job s workers parts → (f : SimFault)
     → IsJobReportFault workers (IsCountFault workers) f
@@ -117,7 +117,7 @@ counted_fault m bench text (split.Parts n) parts workers job of is f h =
 counted_fault m bench text split.Fitting parts workers job of is f h =
     text_fault m bench text workers (λ x. IsCountFault workers) job of f h
 
--- the line of a count of the histogram is that of a pair
+-- the line of a count of the histogram is the line of a pair
 pair_at : (faults : List ℕ) (i : ℕ) → i < length faults
     → slice_get (below (length faults)) i ≡ Some i
 pair_at faults i lt =

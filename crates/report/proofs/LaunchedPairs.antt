@@ -1,4 +1,4 @@
--- The text of pairs, and when there is none.
+-- The text of pairs, and its errors.
 use Rattle.std.proofs.Common.{ℕ, List, inl, inr, length, refl}
 use Rattle.bench_net.specs.Refusal.{IsAccepted}
 use Rattle.bench_net.specs.Scan.{sources}
@@ -12,7 +12,7 @@ use Rattle.job_loading.specs.Jobs.{IsInputFault}
 use Rattle.pairs.specs.Pairs.{IsPairingFault}
 use Rattle.report.specs.Pairs.{IsPairsFault}
 
--- a fault of the texts is one of the pairs
+-- an error of the files is an error of the pairs
 pub pairs_input_fault : (bench text : List ℕ) (f : SimFault) → IsInputFault bench text f
     → IsPairsFault bench text f
 pairs_input_fault bench text (fault.Tests test_fault.TooMany) h = inl h
@@ -26,7 +26,7 @@ pairs_input_fault bench text (fault.Run f) h = absurd h
 pairs_input_fault bench text (fault.Report f) h = absurd h
 pairs_input_fault bench text fault.Memory h = tt
 
--- and so is one of making them of the tests of the texts
+-- and so is an error of making pairs of the tests of the files
 pub pairing_fault : (bench text : List ℕ) (c : List Statement) (tests : TestList)
     → IsAccepted bench c → HasTests text (length (sources c)) tests → (f : TestFault)
     → IsPairingFault (length tests.tests) f → IsPairsFault bench text (fault.Tests f)

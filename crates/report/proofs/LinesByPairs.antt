@@ -1,5 +1,5 @@
--- Pairs of a list, of faults or of their names, and of what goes with them; and lines that are put
--- for each pair, one after another.
+-- Pairs of a list, of faults or of their names, and of another list; and lines that are written for
+-- each pair, one after another.
 use Rattle.std.proofs.Common.{◌≡◌, ◌≤◌, ◌<◌, ℕ, zero, suc, ◌+◌, List, [], ◌∷◌, length, take, ap}
 use Rattle.std.proofs.Common.{get_or, arith, refl, sym, ◌∙◌, append-nil}
 use Rattle.std.specs.Prelude.{Some, None, slice_get, zip, unwrap_or}
@@ -18,7 +18,7 @@ all_zipped (f ∷ fs) (x ∷ xs) zero same e = absurd (omega (arith, e))
 all_zipped (f ∷ fs) (x ∷ xs) (suc i) same e =
     ap (λ l. (f, x) ∷ l) (all_zipped fs xs i (omega (arith, same)) (omega (arith, e)))
 
--- the pair of what two lists have at a place
+-- the pair of the elements of two lists at a place
 pub zipped_by : {F X : Type 0} (fs : List F) (xs : List X) (i : ℕ) (f : F) (x : X) (d : F × X)
     → slice_get fs i ≡ Some f → slice_get xs i ≡ Some x
     → (i < length (zip fs xs)) × ((f, x) ≡ get_or (zip fs xs) i d)
@@ -29,7 +29,7 @@ zipped_by (g ∷ fs) (z ∷ xs) zero f x d e h = let p : g ≡ f = ap (λ o. unw
 zipped_by (g ∷ fs) (z ∷ xs) (suc i) f x d e h = let p = zipped_by fs xs i f x d e h in
     (omega (arith, p.0), p.1)
 
--- the line of the pair at a place was taken whole, behind those of the pairs before it
+-- the line of the pair at a place was taken whole, after the lines of the pairs before it
 pub line_taken : {F X : Type 0} (line : F × X → List ℕ) (fs : List F) (xs : List X) (i : ℕ) (x : X)
     (text : F → List ℕ) (a b c : Output) → i < length fs → slice_get xs i ≡ Some x
     → ((f : F) → text f ≡ line (f, x)) → TakesAll a b (flat_map line (take i (zip fs xs)))

@@ -31,7 +31,7 @@ among_cells (Dff p e ∷ c) q d (inr a) = inr (among_cells c q d a)
 length_names : {X : Type 0} (f : X → Name) (xs : List X) → length (map f xs) ≡ length xs
 length_names f xs = length-map xs f
 
--- the number of a defined name is that of a signal
+-- the number of a defined name is the number of a signal
 number_within : (c : List Statement) (n : Name) → Among n (names c) → signal c n < length (names c)
 number_within c n a = place_within (names c) (signal c n) n
     (name_of-signal c n (contained (names c) n a))
@@ -62,7 +62,7 @@ listed_line m c f at = let p = listed_on m c f at in go p.0 p.1 p.2 p.3
     go s n e (inr h) = subst (λ l. IsLineOf c l) (sym h.2)
         (sink_within c n h.0 (branch_among c n h.0 h.1))
 
--- so is the line that stands at a place of the list
+-- so is the line at a place of the list
 pub line_known : (m : Model) (c : List Statement) (fs : List Fault) (i : ℕ) (l : Line)
     → fs ≡ faults m c → i < length fs → IfSome (slice_get fs i) (λ f. l ≡ f.line) → IsLineOf c l
 line_known m c fs i l list h e =
@@ -72,7 +72,7 @@ line_known m c fs i l list h e =
     (listed_line m c at.0 (subst (λ xs. Contains xs at.0) list
     (contained fs at.0 (at_place fs i at.0 at.1))))
 
--- and its model is that of the list
+-- and its model is the model of the list
 pub model_known : (m : Model) (c : List Statement) (fs : List Fault) (i : ℕ) (f : Fault)
     → fs ≡ faults m c → slice_get fs i ≡ Some f → f.model ≡ m
 model_known m c fs i f list at =

@@ -16,7 +16,7 @@ use Rattle.report.specs.Reasons.{IsReasonReportOf, IsReasonReportOfJob, reason_c
 use Rattle.report.specs.Reasons.{reason_report, reason_text, reasons_line}
 use Rattle.report.specs.Report.{fault_text}
 
--- the line of a fault with this reason, and of one that has none
+-- the line of a fault with this reason, and of a fault that has none
 pub is_reason_line : (c : List Statement) (f : Fault) (own : Option Reason) (reason : Reason)
     (said : List ℕ) → own ≡ Some reason → said ≡ reason_text reason
     → fault_text c f ++ (codes " " ++ codes "none " ++ said ++ codes "\n")
@@ -44,7 +44,7 @@ pub reasons_counted : (job : Parts) (firsts : List (Option ℕ)) (reasons : List
 reasons_counted job firsts reasons together are =
     are.count ∙ ap (λ (l : FaultList). length l.list) (sym together.list)
 
--- the report of a job of texts is that of the texts
+-- the report of a job of files is the report of the files
 pub reasons_of_texts : (m : Model) (bench text : List ℕ) (wanted : Bool) (job : Parts)
     → IsJobOf m bench text job → (bytes : List ℕ) → IsReasonReportOfJob job wanted bytes
     → IsReasonReportOf m bench text wanted bytes

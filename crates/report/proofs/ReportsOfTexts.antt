@@ -1,4 +1,4 @@
--- From the report of a job to that of the texts that the job was read from.
+-- From the report of a job to the report of the files that the job was read from.
 use Rattle.std.proofs.Common.{◌≡◌, ◌∙◌, ℕ, ap, inl, inr, length, refl, subst, List}
 use Rattle.std.specs.Prelude.{Result, Ok, Err, IfErr, OnOk}
 use Rattle.bench_net.specs.Refusal.{IsAccepted}
@@ -25,7 +25,7 @@ use Rattle.report.specs.declared.contents.Contents.{Contents}
 use Rattle.report.specs.Report.{listing, whole_report}
 use Rattle.report.proofs.VerdictsOfRuns.{schedule_fault}
 
--- a text of one kind is one of another
+-- a text of one kind is a text of another kind
 pub written_as : (A B : List ℕ → Type 0) (r : Result (Unit {0}) SimFault) (old new : Output)
     → ((text : List ℕ) → A text → B text) → WritesOneOf A r old new → WritesOneOf B r old new
 written_as A B (Ok u) old new into w = (w.0, into w.0 w.1, w.2)
@@ -37,13 +37,13 @@ written_as A B (Err (fault.Job f)) old new into w = w
 written_as A B (Err (fault.Run f)) old new into w = w
 written_as A B (Err fault.Memory) old new into w = w
 
--- a fault of one kind is one of another
+-- an error of one kind is an error of another kind
 pub refused_as : (A B : SimFault → Type 0) (r : Result (Unit {0}) SimFault)
     → ((f : SimFault) → A f → B f) → IfErr r A → IfErr r B
 refused_as A B (Ok u) into w = w
 refused_as A B (Err f) into w = into f w
 
--- the report of a job of texts is that of the texts
+-- the report of a job of files is the report of the files
 pub report_of : (m : Model) (bench text : List ℕ) (contents : Contents) (job : Parts)
     → IsJobOf m bench text job → (bytes : List ℕ) → IsReportOfJob job contents bytes
     → IsReportOf m bench text contents bytes
@@ -61,7 +61,7 @@ report_of m bench text contents job is bytes of_job =
       of_job.2 ∙ ap (λ k. whole_report k job.circuit job.classes of_job.0 contents) is.3,
     )
 
--- what is written of a job of texts is written of the texts
+-- a text that is written of a job of files is written of the files
 pub written_of_texts : (m : Model) (bench text : List ℕ) (contents : Contents) (job : Parts)
     (r : Result (Unit {0}) SimFault) (old new : Output) → IsJobOf m bench text job
     → WritesOneOf (IsReportOfJob job contents) r old new
@@ -70,7 +70,7 @@ written_of_texts m bench text contents job r old new is =
     written_as (IsReportOfJob job contents) (IsReportOf m bench text contents) r old new
     (report_of m bench text contents job is)
 
--- a refused run of a job of texts is refused of the texts
+-- an error of a run of a job of files is an error of the files
 pub job_run_fault : (m : Model) (bench text : List ℕ) (workers : ℕ) (job : Parts)
     → IsJobWithin m bench text job → (f : SimFault) → IsRunReportFault job workers f
     → IsReportFault m bench text workers f
@@ -82,7 +82,7 @@ job_run_fault m bench text workers job within (fault.Order f) h = absurd h
 job_run_fault m bench text workers job within (fault.Job f) h = absurd h
 job_run_fault m bench text workers job within fault.Memory h = absurd h
 
--- the same of a run of a job of any size
+-- the same for a run of a job of any size
 pub text_fault : (m : Model) (bench text : List ℕ) (workers : ℕ)
     (IsFault : Parts → RunFault → Type 0) (job : Parts) → IsJobOf m bench text job
     → (f : SimFault) → IsJobReportFault workers (IsFault job) f
@@ -109,7 +109,7 @@ moves_fault m bench text order workers job moves within has (fault.Order f) h = 
 moves_fault m bench text order workers job moves within has (fault.Job f) h = absurd h
 moves_fault m bench text order workers job moves within has fault.Memory h = absurd h
 
--- a job that is refused for its pieces, where the moves of the order are read already
+-- an error of a job for its pieces, after the moves of the order were read
 pub pieces_fault : (m : Model) (bench text order : List ℕ) (workers : ℕ) (c : List Statement)
     (tests : TestList) → IsAccepted bench c → HasTests text (length (sources c)) tests
     → HasSomeMoves order workers → (f : SimFault) → IsPiecesFault m c tests f
@@ -125,7 +125,7 @@ pieces_fault m bench text order workers c tests accepted has some (fault.Order f
 pieces_fault m bench text order workers c tests accepted has some (fault.Run f) h = absurd h
 pieces_fault m bench text order workers c tests accepted has some (fault.Report f) h = absurd h
 
--- what holds anyway holds where a call was done
+-- a fact that holds anyway holds if a call succeeded
 pub on_ok : (P : Type 0) (r : Result (Unit {0}) SimFault) → P → OnOk r P
 on_ok P (Ok u) p = p
 on_ok P (Err f) p = tt
@@ -147,12 +147,12 @@ taken_of_circuit m c list classes IsTaken listed are taken =
           taken,
     )
 
--- the listing of the circuit of a text is that of the text
+-- the listing of the circuit of a file is the listing of the file
 pub listing_of : (m : Model) (bench : List ℕ) (c : List Statement) → IsAccepted bench c
     → (text : List ℕ) → IsListingOfCircuit m c text → IsListingOf m bench text
 listing_of m bench c accepted text is = (c, is.0, accepted, is.1, is.2)
 
--- a refused listing of the circuit of a text is refused of the text
+-- an error of the listing of the circuit of a file is an error of the file
 pub listing_fault : (bench : List ℕ) (f : SimFault) → IsListFault f → IsListingFault bench f
 listing_fault bench (fault.Report f) h = tt
 listing_fault bench fault.Memory h = tt

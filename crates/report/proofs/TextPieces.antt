@@ -26,7 +26,7 @@ fault_by_parts m c fs i f l bit list at line_is bit_is =
     let own_model : f.model ≡ m = model_known m c fs i f list at in
     rw (own_line, own_bit, ← own_model) refl
 
--- a fault of the list from its pieces: its line, and what is wrong with it
+-- a fault of the list from its pieces: its line and its defect
 pub fault_pieces : (m : Model) (c : List Statement) (fs : List Fault) (i : ℕ) (f : Fault)
     (l : Line) (bit : Bool) (front defect whole : List ℕ)
     → fs ≡ faults m c → slice_get fs i ≡ Some f → IfSome (slice_get fs i) (λ f. l ≡ f.line)
@@ -37,7 +37,7 @@ fault_pieces m c fs i f l bit front defect whole list at line_is bit_is front_is
     let own = fault_by_parts m c fs i f l bit list at line_is bit_is in
     rw (is, ← own, front_is, defect_is) refl
 
--- the line of a fault with this first test, where it is asked for, and where it isn't
+-- the line of a fault with this first test, if it is requested, and if it isn't
 pub is_first_line : (lines : Lines) (c : List Statement) (f : Fault) (first : Option ℕ)
     (said : List ℕ) → has_line lines first ≡ true → said ≡ first_text first
     → fault_text c f ++ (codes " " ++ said ++ codes "\n") ≡ wanted_line lines c (f, first)
@@ -47,7 +47,7 @@ pub has_no_line : (lines : Lines) (c : List Statement) (f : Fault) (first : Opti
     → has_line lines first ≡ false → wanted_line lines c (f, first) ≡ []
 has_no_line lines c f first has = rw has refl
 
--- the line of a fault with its class, and with how many tests detect it
+-- the line of a fault with its class, and with the number of tests that detect it
 pub is_class_line : (c : List Statement) (f : Fault) (class : ℕ) (said : List ℕ)
     → said ≡ decimal class
     → fault_text c f ++ (codes " " ++ codes "class " ++ said ++ codes "\n")

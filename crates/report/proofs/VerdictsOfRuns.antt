@@ -1,5 +1,5 @@
--- What a run says of a job: a verdict for each fault, and, by the moves of an order text, when it
--- is refused.
+-- The results of a run of a job: a verdict for each fault, and, for the moves of an order file, its
+-- errors.
 use Rattle.std.proofs.Common.{◌≡◌, ◌<◌, ◌≤◌, ℕ, get_or, arith, refl, sym, ap, List, length, ◌∙◌}
 use Rattle.std.specs.Prelude.{Option, Some, nat_le, position}
 use Rattle.std.proofs.lemmas.Bool.{leb-true}
@@ -37,7 +37,7 @@ taken_of_job job contents firsts IsTaken are taken = (
   taken,
 )
 
--- moves of an order text are all of workers of its number
+-- moves of an order file are all moves of workers of its number
 no_other_worker : (order : List ℕ) (workers index : ℕ) (moves : List ℕ)
     → HasMoves order workers moves → position (λ worker. nat_le workers worker) moves ≡ Some index
     → ⊥
@@ -48,7 +48,7 @@ no_other_worker order workers index moves has at =
     let above : workers ≤ get_or moves index 0 = leb-true workers (get_or moves index 0) found.1 in
     omega (arith, below, above)
 
--- a run of the moves of an order text is refused for its number of workers, or for want of memory
+-- a run of the moves of an order file fails for its number of workers, or because memory is refused
 pub schedule_fault : (m : Model) (bench text order : List ℕ) (workers : ℕ) (job : Parts)
     (moves : List ℕ) (f : RunFault) → IsJobWithin m bench text job → HasMoves order workers moves
     → IsScheduleFault (piece_count job) workers moves f

@@ -1,4 +1,4 @@
--- When the report of a run that a gate watches is refused, by the refusals of its job.
+-- The errors of the report of a run that a gate watches, from the errors of its job.
 use Rattle.std.proofs.Common.{arith, subst}
 use Rattle.std.specs.Prelude.{◌≡◌, ⊤, ℕ, List, Result, IfErr}
 use Rattle.fault_model.specs.declared.Model.{Model}
@@ -19,7 +19,7 @@ use Rattle.report.specs.EndToEnd.{IsTextFault, IsWatchedFault, IsWithin}
 use Rattle.workers.proofs.Public.{parts_fault}
 use Rattle.report.proofs.ReportsOfTexts.{refused_as, text_fault}
 
--- a refused run of a job of the texts that is run whole, so that the job is within the limit of
+-- an error of a run of a job of the files that is run whole, so that the job is within the limit of
 -- pieces
 pub watched_whole : (m : Model) (bench text : List ℕ) (parts workers : ℕ) (passing : Type 0)
     (stops : Stops) (job : Parts) → IsJobWithin m bench text job
@@ -66,7 +66,7 @@ fitting_fault job parts workers passing stops within run_fault.Threads h = (part
 fitting_fault job parts workers passing stops within (run_fault.Unfinished c b) h =
     (parts, within, h)
 
--- a report that is refused for faults of one kind is refused for those of another
+-- a report that fails with errors of one kind fails with errors of another
 pub report_fault_as : (workers : ℕ) (A B : RunFault → Type 0) → ((f : RunFault) → A f → B f)
     → (f : SimFault) → IsJobReportFault workers A f → IsJobReportFault workers B f
 report_fault_as workers A B into (fault.Run f) h = into f h
@@ -77,7 +77,7 @@ report_fault_as workers A B into (fault.Order f) h = h
 report_fault_as workers A B into (fault.Job f) h = h
 report_fault_as workers A B into fault.Memory h = h
 
--- a refused run of a job of the texts that is cut so
+-- an error of a run of a job of the files with this split
 pub split_fault : (m : Model) (bench text : List ℕ) (s : Split) (parts workers : ℕ)
     (passing : Type 0) (stops : Stops) (job : Parts) → IsJobOf m bench text job
     → IsSplitOf job s workers parts → (f : SimFault)
@@ -95,14 +95,14 @@ split_fault m bench text split.Fitting parts workers passing stops job of is f h
     (IsFittingFault job workers passing stops)
     (fitting_fault job parts workers passing stops is.1) f h)
 
--- memory may be refused any time
+-- memory may be refused at any time
 pub split_memory : (m : Model) (bench text : List ℕ) (s : Split) (workers : ℕ) (passing : Type 0)
     (stops : Stops) → IsWatchedFault m bench text s workers passing stops fault.Memory
 split_memory m bench text split.Whole workers passing stops = tt
 split_memory m bench text (split.Parts count) workers passing stops = tt
 split_memory m bench text split.Fitting workers passing stops = tt
 
--- and that of another text that is made of the verdicts
+-- and an error of another text that is made of the verdicts
 pub split_text_fault : (m : Model) (bench text : List ℕ) (s : Split) (parts workers : ℕ)
     (passing : Type 0) (stops : Stops) (job : Parts) → IsJobOf m bench text job
     → IsSplitOf job s workers parts → (f : SimFault)
@@ -119,7 +119,7 @@ split_text_fault m bench text s parts workers passing stops job of is (fault.Job
 split_text_fault m bench text s parts workers passing stops job of is fault.Memory h =
     split_memory m bench text s workers passing stops
 
--- texts that are refused before they are run
+-- errors of the files before they are run
 pub split_refused : (m : Model) (bench text : List ℕ) (s : Split) (workers : ℕ) (passing : Type 0)
     (stops : Stops) (f : SimFault) → IsSplitFault m bench text s f
     → IsWatchedFault m bench text s workers passing stops f
@@ -145,7 +145,7 @@ split_refused m bench text split.Fitting workers passing stops (fault.Order f) h
 split_refused m bench text split.Fitting workers passing stops (fault.Job f) h = h
 split_refused m bench text split.Fitting workers passing stops fault.Memory h = h
 
--- what is known of the pieces of texts whose job is cut so
+-- the bound on the pieces of files whose job is split so
 pub split_within : (m : Model) (bench text : List ℕ) (s : Split) (parts workers : ℕ) (job : Parts)
     → IsJobOf m bench text job → IsSplitOf job s workers parts → ArePartsWithin job parts
     → IsWithin m bench text s
@@ -154,7 +154,7 @@ split_within m bench text (split.Parts count) parts workers job of is within =
     (job, of, subst (λ n. ArePartsWithin job n) is.1 within)
 split_within m bench text split.Fitting parts workers job of is within = tt
 
--- a run whose gate lets every piece pass is refused as a run without a gate
+-- the errors of a run whose gate lets every piece pass are the errors of a run without a gate
 pub open_fault : (m : Model) (bench text : List ℕ) (workers : ℕ) (f : SimFault)
     → IsWatchedFault m bench text split.Whole workers ⊤ no_stop f
     → IsReportFault m bench text workers f
@@ -172,7 +172,7 @@ open_fault m bench text workers (fault.Order f) h = h
 open_fault m bench text workers (fault.Job f) h = h
 open_fault m bench text workers fault.Memory h = h
 
--- the same of what a call gave
+-- the same for the result of a call
 pub refused_open : (m : Model) (bench text : List ℕ) (workers : ℕ) (r : Result (Unit {0}) SimFault)
     → IfErr r (IsWatchedFault m bench text split.Whole workers ⊤ no_stop)
     → IfErr r (IsReportFault m bench text workers)

@@ -19,7 +19,7 @@ use Rattle.report.specs.declared.compacted.KeptForm.{KeptForm}
 use Rattle.report.specs.declared.compacted.KeptForm.TheVariants.{Numbers, Rows}
 use Rattle.report.specs.declared.compacted.KeptLayout.{KeptLayout}
 
--- the bytes are the rows of a compaction of a test text for a bench text, under a model
+-- the bytes are the rows of a compaction of a test file for a bench file, under a model
 abbrev pub IsCompactionOf : Model → List ℕ → List ℕ → List ℕ → Type 0
 IsCompactionOf m bench text bytes = (c : List Statement) × (tests : TestList)
     × (kept : List Test) × IsAccepted bench c × HasTests text (length (sources c)) tests
@@ -29,32 +29,32 @@ IsCompactionOf m bench text bytes = (c : List Statement) × (tests : TestList)
 abbrev pub number_line : ℕ → List ℕ
 number_line n = decimal n ++ codes "\n"
 
--- what is written of the tests that are kept: their rows, or the number of each in the list
+-- the text of the kept tests: their rows, or the number of each in the list
 abbrev pub kept_text : KeptForm → List Test → List ℕ → List ℕ
 kept_text Rows kept numbers = test_text kept
 kept_text Numbers kept numbers = flat_map number_line numbers
 
--- how many of a list of tests are kept
+-- the number of tests of a list that are kept
 abbrev pub count_of : List Test → List Test → KeptCount
 count_of tests kept = record { kept = length kept; all = length tests }
 
--- the bytes are the rows or the numbers of a compaction of a test text for a bench text, under a
--- model and in an order, and so many tests are kept of so many
+-- the bytes are the rows or the numbers of a compaction of a test file for a bench file, under a
+-- model and in an order, and the count has the numbers of kept and of all tests
 abbrev pub IsKeptText : Model → List ℕ → List ℕ → KeptLayout → KeptCount → List ℕ → Type 0
 IsKeptText m bench text layout count bytes = (c : List Statement) × (tests : TestList)
     × (kept : List Test) × (numbers : List ℕ) × IsAccepted bench c
     × HasTests text (length (sources c)) tests × IsOrdered layout.order m c tests.tests kept numbers
     × (count ≡ count_of tests.tests kept) × (bytes ≡ kept_text layout.form kept numbers)
 
--- the same of a job
+-- the same for a job
 abbrev pub IsKeptTextOfJob : Parts → KeptLayout → KeptCount → List ℕ → Type 0
 IsKeptTextOfJob job layout count bytes = (kept : List Test) × (numbers : List ℕ)
     × IsOrdered layout.order job.list.model job.circuit job.tests.tests kept numbers
     × (count ≡ count_of job.tests.tests kept) × (bytes ≡ kept_text layout.form kept numbers)
 
--- What a call wrote that gives a value beside a text of this kind: the whole text of the value, and
--- nothing else; a beginning of one, where the output failed; or nothing, where anything else was
--- refused.
+-- The bytes that a call wrote that returns a value beside a text of this kind: the whole text of
+-- the value, and nothing else; a beginning of one, if the output failed; or nothing, after any
+-- other error.
 abbrev pub GivesOneOf : {X : Type 0} → (X → List ℕ → Type 0) → Result X SimFault → Output → Output
     → Type 0
 GivesOneOf IsText (Ok x) old new = (text : List ℕ) × IsText x text × TakesAll old new text

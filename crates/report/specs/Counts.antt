@@ -1,4 +1,4 @@
--- A run in numbers.
+-- The counts of a run.
 use Rattle.std.specs.Prelude.{ℕ, List, Option, length}
 use Rattle.fault_model.specs.Collapse.{Collapsed}
 use Rattle.fault_model.specs.Solution.{Test}
@@ -10,7 +10,7 @@ use Rattle.report.specs.declared.counts.RunCounts.{RunCounts}
 use Rattle.report.specs.Reasons.{reason_count}
 use Rattle.report.specs.Report.{class_firsts}
 
--- how many tests, faults and classes there are, and how many faults and classes a test detects
+-- the number of tests, faults and classes, and of faults and classes that a test detects
 abbrev pub counts_of : List Test → Collapsed → List (Option ℕ) → RunCounts
 counts_of tests classes firsts = record {
   tests = length tests;
@@ -20,7 +20,7 @@ counts_of tests classes firsts = record {
   detected_classes = detected_count (class_firsts classes firsts);
 }
 
--- how many faults have each reason
+-- the number of faults for each reason
 abbrev pub reason_counts_of : List (Option Reason) → ReasonCounts
 reason_counts_of reasons = record {
   no_path = reason_count NoPath reasons;

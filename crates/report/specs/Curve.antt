@@ -1,4 +1,4 @@
--- The curve of a run: how many faults are detected up to each test.
+-- The curve of a run: the number of faults that are detected up to each test.
 use Rattle.std.specs.Prelude.{◌≡◌, ⊤, ℕ, nat_le, Bool, false, List, ◌++◌, map, filter, flat_map}
 use Rattle.std.specs.Prelude.{length, Option, Some, None, count_by, codes, decimal, if◌then◌else◌}
 use Rattle.bench_net.specs.Statement.{Statement}
@@ -21,11 +21,11 @@ abbrev pub is_found_by : ℕ → Option ℕ → Bool
 is_found_by t None = false
 is_found_by t (Some first) = nat_le first t
 
--- what a fault of this first test counts at a test
+-- the count of a fault with this first test at a test
 abbrev pub counts_at : ℕ → Option ℕ → ℕ
 counts_at t first = if is_first t first then 1 else 0
 
--- how many faults have this first test, and how many have a first test up to it
+-- the number of faults with this first test, and the number of faults with a first test up to it
 abbrev pub news_at : List (Option ℕ) → ℕ → ℕ
 news_at firsts t = count_by (is_first t) firsts
 
@@ -40,21 +40,21 @@ point_at firsts t = record {
   detected = found_by firsts t;
 }
 
--- the points of the tests that detect a fault first, in order, of so many tests
+-- the points of the tests that detect a fault first, in order, for this number of tests
 abbrev pub curve : ℕ → List (Option ℕ) → List CurvePoint
 curve count firsts = map (point_at firsts) (filter (finds firsts) (below count))
 
--- a line of the curve, `TEST DETECTED P.PP`, where there are so many faults
+-- a line of the curve, `TEST DETECTED P.PP`, for this number of faults
 abbrev pub point_line : ℕ → CurvePoint → List ℕ
 point_line total point = decimal point.test ++ codes " " ++ decimal point.detected ++ codes " "
     ++ percentage point.detected total ++ codes "\n"
 
--- the text of points: a line each, and the coverage line
+-- the text of points: one line for each, and the coverage line
 abbrev pub curve_text : List CurvePoint → List (Option ℕ) → List ℕ
 curve_text points firsts = flat_map (point_line (length firsts)) points
     ++ coverage_line (detected_count firsts) (length firsts)
 
--- the bytes are the curve of a bench text and a test text under a model
+-- the bytes are the curve of a bench file and a test file under a model
 abbrev pub IsCurveOf : Model → List ℕ → List ℕ → List ℕ → Type 0
 IsCurveOf m bench text bytes = (c : List Statement) × (tests : TestList)
     × (firsts : List (Option ℕ)) × IsAccepted bench c
@@ -67,8 +67,8 @@ IsCurveOfJob job bytes = (firsts : List (Option ℕ))
     × AreFirsts job.list.model job.circuit job.tests.tests firsts
     × (bytes ≡ curve_text (curve (length job.tests.tests) firsts) firsts)
 
--- When each fault of the curve of a job comes: those of a report that is run in threads, and want
--- of memory.
+-- The condition of each error of the curve of a job: the errors of a report that is run in threads,
+-- and of memory.
 abbrev pub IsCurveFault : Parts → ℕ → SimFault → Type 0
 IsCurveFault job workers fault.Memory = ⊤
 IsCurveFault job workers f = IsRunReportFault job workers f

@@ -1,4 +1,4 @@
--- The text of how many tests detect each fault.
+-- The text of the detection counts of faults.
 use Rattle.std.specs.Prelude.{◌≡◌, ℕ, ◌<◌, ◌≤◌, Bool, List, [], ◌++◌, count_by, codes, decimal}
 use Rattle.std.specs.Prelude.{flat_map, if◌then◌else◌, length, nat_le, zip}
 use Rattle.bench_net.specs.Statement.{Statement}
@@ -18,27 +18,27 @@ use Rattle.report.specs.Report.{coverage_line, fault_text}
 abbrev pub count_line : List Statement → Fault × ℕ → List ℕ
 count_line c at = fault_text c at.0 ++ (codes " " ++ decimal at.1 ++ codes "\n")
 
--- the number of faults that at least so many tests detect
+-- the number of faults that at least this many tests detect
 abbrev pub reached_count : ℕ → List ℕ → ℕ
 reached_count most counts = count_by (nat_le most) counts
 
--- the report: the line of each fault where they are asked for, and the coverage line of the faults
--- that at least so many tests detect
+-- the report: the line of each fault if they are requested, and the coverage line of the faults
+-- that at least this many tests detect
 abbrev pub detection_report : Model → List Statement → ℕ → List ℕ → Bool → List ℕ
 detection_report m c most counts list =
     (if list then flat_map (count_line c) (zip (faults m c) counts) else [])
     ++ coverage_line (reached_count most counts) (length counts)
 
--- the bytes are this report of a bench text and a test text under a model: each fault has the
--- number
--- of tests that detect it, of which so many are counted at most
+-- the bytes are this report of a bench file and a test file under a model: each fault has the
+-- number of tests that detect it, counted up to this limit
 abbrev pub IsDetectionReportOf : Model → List ℕ → List ℕ → ℕ → Bool → List ℕ → Type 0
 IsDetectionReportOf m bench text most list bytes = (c : List Statement) × (tests : TestList)
     × (counts : List ℕ) × IsAccepted bench c
     × HasTests text (length (sources c)) tests × AreCounts m c tests.tests most counts
     × (bytes ≡ detection_report m c most counts list)
 
--- when so many workers don't count: for their number, and then for want of memory or of a thread
+-- the condition of each error of counting with this many workers: their number, and then memory or
+-- a thread
 abbrev pub IsCountFault : ℕ → RunFault → Type 0
 IsCountFault workers Memory = (0 < workers) × (workers ≤ 64)
 IsCountFault workers Threads = (0 < workers) × (workers ≤ 64)

@@ -27,7 +27,7 @@ use Rattle.byte_output.specs.Output.{Output, TakesAll, TakesFront}
 use Rattle.report.specs.declared.contents.Contents.{Contents}
 use Rattle.report.specs.Report.{whole_report, listing}
 
--- the bytes are the report of a bench text and a test text under a model: each fault has the first
+-- the bytes are the report of a bench file and a test file under a model: each fault has the first
 -- test that detects it, or none
 abbrev pub IsReportOf : Model → List ℕ → List ℕ → Contents → List ℕ → Type 0
 IsReportOf m bench text contents bytes = (c : List Statement) × (tests : TestList)
@@ -35,7 +35,7 @@ IsReportOf m bench text contents bytes = (c : List Statement) × (tests : TestLi
     × HasTests text (length (sources c)) tests × AreClassesOf m c classes
     × AreFirsts m c tests.tests firsts × (bytes ≡ whole_report m c classes firsts contents)
 
--- the bytes are the listing of a bench text under a model
+-- the bytes are the listing of a bench file under a model
 abbrev pub IsListingOf : Model → List ℕ → List ℕ → Type 0
 IsListingOf m bench bytes = (c : List Statement) × (classes : Collapsed) × IsAccepted bench c
     × AreClassesOf m c classes × (bytes ≡ listing m c classes.class_of
@@ -46,30 +46,30 @@ abbrev pub IsListingOfCircuit : Model → List Statement → List ℕ → Type 0
 IsListingOfCircuit m c bytes = (classes : Collapsed) × AreClassesOf m c classes
     × (bytes ≡ listing m c classes.class_of (length classes.representative))
 
--- What a call wrote whose text is of this kind: the whole text, and nothing else; a beginning of
--- it, where the output failed; or nothing, where anything else was refused.
+-- The bytes that a call wrote whose text is of this kind: the whole text, and nothing else; a
+-- beginning of it, if the output failed; or nothing, after any other error.
 abbrev pub WritesOneOf : (List ℕ → Type 0) → Result (Unit {0}) SimFault → Output → Output → Type 0
 WritesOneOf IsText (Ok u) old new = (text : List ℕ) × IsText text × TakesAll old new text
 WritesOneOf IsText (Err (fault.Report f)) old new = (text : List ℕ) × IsText text
     × TakesFront old new text
 WritesOneOf IsText (Err _) old new = new ≡ old
 
--- When each fault of the listing comes. Want of memory, and an output that takes nothing more, may
--- come any time.
+-- The condition of each error of the listing. An error of memory or of the output is possible at
+-- any time.
 abbrev pub IsListingFault : List ℕ → SimFault → Type 0
 IsListingFault bench (fault.Bench f) = (f ≡ bench_fault.Memory) ⊎ IsRefused bench f
 IsListingFault bench fault.Memory = ⊤
 IsListingFault bench (fault.Report f) = ⊤
 IsListingFault bench _ = ⊥
 
--- the same of the listing of a circuit
+-- the same for the listing of a circuit
 abbrev pub IsListFault : SimFault → Type 0
 IsListFault fault.Memory = ⊤
 IsListFault (fault.Report f) = ⊤
 IsListFault _ = ⊥
 
--- When each fault of the report comes: those of its job, then those of a run whose gate lets every
--- piece pass, then an output that takes nothing more.
+-- The condition of each error of the report: the errors of its job, then of a run whose gate lets
+-- every piece pass, then of the output.
 abbrev pub IsReportFault : Model → List ℕ → List ℕ → ℕ → SimFault → Type 0
 IsReportFault m bench text workers (fault.Run f) =
     (job : Parts) × IsJobWithin m bench text job × IsRunFault job workers ⊤ no_stop f
@@ -77,9 +77,9 @@ IsReportFault m bench text workers (fault.Report f) =
     (job : Parts) × IsJobWithin m bench text job × (0 < workers) × (workers ≤ 64)
 IsReportFault m bench text workers f = IsJobFault m bench text f
 
--- When each fault of a text comes whose run is refused so: those of the two texts, then those of
--- the
--- run, then an output that takes nothing more. No number of pieces is looked at before the run.
+-- The condition of each error of a text with this condition on the errors of its run: the errors of
+-- the two files, then of the run, then of the output. The number of pieces is not limited before
+-- the run.
 abbrev pub IsTextFault : Model → List ℕ → List ℕ → ℕ → (Parts → RunFault → Type 0) → SimFault
     → Type 0
 IsTextFault m bench text workers IsFault (fault.Run f) =
@@ -88,33 +88,35 @@ IsTextFault m bench text workers IsFault (fault.Report f) =
     (job : Parts) × IsJobOf m bench text job × (0 < workers) × (workers ≤ 64)
 IsTextFault m bench text workers IsFault f = IsReadFault bench text f
 
--- the classes of the texts' faults, in so many parts, have each part within the limit of pieces
+-- the classes of the faults of the files, in this many parts, have each part within the limit of
+-- pieces
 abbrev pub HasPartsWithin : Model → List ℕ → List ℕ → ℕ → Type 0
 HasPartsWithin m bench text parts =
     (job : Parts) × IsJobOf m bench text job × ArePartsWithin job parts
 
--- when the report of a run in so many parts is refused
+-- the condition of each error of the report of a run in this many parts
 abbrev pub IsPartsReportFault : Model → List ℕ → List ℕ → ℕ → ℕ → SimFault → Type 0
 IsPartsReportFault m bench text parts workers f =
     IsTextFault m bench text workers (λ job. IsPartsFault job parts workers ⊤ no_stop) f
 
--- what a run that was done says of the pieces: those of the whole are within the limit, or those of
--- each part where a number of parts is given
+-- the number of pieces after a run without errors: the pieces of the whole run are within the
+-- limit, or the pieces of each part if a number of parts is given
 abbrev pub IsWithin : Model → List ℕ → List ℕ → Split → Type 0
 IsWithin m bench text split.Whole = (job : Parts) × IsJobWithin m bench text job
 IsWithin m bench text (split.Parts parts) = HasPartsWithin m bench text parts
 IsWithin m bench text split.Fitting = ⊤
 
--- when a run in parts that fit is refused: in some number of parts that are each within the limit
--- of pieces, and never for the pieces
+-- the condition of each error of a run in parts that fit: the error of a run in some number of
+-- parts that are each within the limit of pieces, and never the number of pieces
 abbrev pub IsFittingFault : Parts → ℕ → Type 0 → Stops → RunFault → Type 0
 IsFittingFault job workers passing stops run_fault.TooManyPieces = ⊥
 IsFittingFault job workers passing stops f =
     (parts : ℕ) × ArePartsWithin job parts × IsPartsFault job parts workers passing stops f
 
--- When the report of a run that a gate watches is refused, cut into parts so: as that of the run
--- without a gate, but where the gate stopped workers. Then the fault names the class and the block
--- for which the run in parts waits, and the gate isn't one that lets every piece pass.
+-- The condition of each error of the report of a run that a gate watches, with this split: the
+-- errors of the run without a gate, and an error if the gate stopped workers. That error names the
+-- class and the block for which the run in parts waits, and the gate isn't one that lets every
+-- piece pass.
 abbrev pub IsWatchedFault : Model → List ℕ → List ℕ → Split → ℕ → Type 0 → Stops → SimFault
     → Type 0
 IsWatchedFault m bench text split.Whole workers passing stops
@@ -129,13 +131,13 @@ IsWatchedFault m bench text (split.Parts parts) workers passing stops f =
 IsWatchedFault m bench text split.Fitting workers passing stops f =
     IsTextFault m bench text workers (λ job. IsFittingFault job workers passing stops) f
 
--- the order text spells moves of so many workers
+-- the order file has moves of this many workers
 abbrev pub HasSomeMoves : List ℕ → ℕ → Type 0
 HasSomeMoves order workers = (moves : List ℕ) × HasMoves order workers moves
 
--- When each fault of the report of a schedule comes: those of the bench text and of the test text,
--- then those of the order text, then those of the job, and then those of a run of moves that are
--- all of workers of the run.
+-- The condition of each error of the report of a schedule: the errors of the bench file and of the
+-- test file, then of the order file, then of the job, and then of a run of moves that are all moves
+-- of workers of the run.
 abbrev pub IsScheduleTextFault : Model → List ℕ → List ℕ → List ℕ → ℕ → SimFault → Type 0
 IsScheduleTextFault m bench text order workers (fault.Order f) =
     (c : List Statement) × (tests : TestList)
@@ -159,25 +161,25 @@ IsReportOfJob job contents bytes = (firsts : List (Option ℕ))
     × AreFirsts job.list.model job.circuit job.tests.tests firsts
     × (bytes ≡ whole_report job.list.model job.circuit job.classes firsts contents)
 
--- When each fault of the report of a job that is run in threads comes: those of the run, then an
--- output that takes nothing more.
+-- The condition of each error of the report of a job that is run in threads: the errors of the run,
+-- then of the output.
 abbrev pub IsRunReportFault : Parts → ℕ → SimFault → Type 0
 IsRunReportFault job workers (fault.Run f) = IsRunFault job workers ⊤ no_stop f
 IsRunReportFault job workers (fault.Report f) = (0 < workers) × (workers ≤ 64)
 IsRunReportFault job workers _ = ⊥
 
--- the same of a run that is refused so
+-- the same for a run with this condition on its errors
 abbrev pub IsJobReportFault : ℕ → (RunFault → Type 0) → SimFault → Type 0
 IsJobReportFault workers IsFault (fault.Run f) = IsFault f
 IsJobReportFault workers IsFault (fault.Report f) = (0 < workers) × (workers ≤ 64)
 IsJobReportFault workers IsFault _ = ⊥
 
--- the same of another text that is made of the verdicts, for which memory may be refused
+-- the same for another text that is made of the verdicts, for which memory may be refused
 abbrev pub IsJobTextFault : ℕ → (RunFault → Type 0) → SimFault → Type 0
 IsJobTextFault workers IsFault fault.Memory = ⊤
 IsJobTextFault workers IsFault f = IsJobReportFault workers IsFault f
 
--- the same for a job with so many pieces that is run by moves
+-- the same for a job with this many pieces that is run by moves
 abbrev pub IsScheduleReportFault : ℕ → List ℕ → ℕ → SimFault → Type 0
 IsScheduleReportFault pieces moves workers (fault.Run f) = IsScheduleFault pieces workers moves f
 IsScheduleReportFault pieces moves workers (fault.Report f) = (0 < workers) × (workers ≤ 64)

@@ -1,4 +1,4 @@
--- The text of the pairs of launch on capture.
+-- The text of launch-on-capture pairs.
 use Rattle.std.specs.Prelude.{◌≡◌, ◌⊎◌, ℕ, List, length}
 use Rattle.bench_net.specs.Statement.{Statement}
 use Rattle.bench_net.specs.Scan.{sources}
@@ -12,20 +12,20 @@ use Rattle.job_loading.specs.Jobs.{IsInputFault}
 use Rattle.pairs.specs.Pairs.{AreLaunchPairs, AreTooManyPairs}
 use Rattle.report.specs.Responses.{IsResponsesFault}
 
--- the bytes are the pairs of a bench text and a test text, and are read as these pairs
+-- the bytes are the pairs of a bench file and a test file, and are read as these pairs
 abbrev pub ArePairsOf : List ℕ → List ℕ → List ℕ → Type 0
 ArePairsOf bench text bytes = (c : List Statement) × (tests pairs : TestList)
     × IsAccepted bench c × HasTests text (length (sources c)) tests
     × AreLaunchPairs c tests.tests pairs.tests × (bytes ≡ test_text pairs.tests)
     × HasTests bytes (length (sources c)) pairs
 
--- the pairs of the texts are more rows than a test text may have
+-- the pairs of the files are more rows than a test file may have
 abbrev pub HasTooManyPairs : List ℕ → List ℕ → Type 0
 HasTooManyPairs bench text = (c : List Statement) × (tests : TestList) × IsAccepted bench c
     × HasTests text (length (sources c)) tests × AreTooManyPairs (length tests.tests)
 
--- When each fault of the pairs comes: those of the two texts, then too many pairs, then an output
--- that takes nothing more. Want of memory may come any time.
+-- The condition of each error of the pairs: the errors of the two files, then too many pairs, then
+-- an error of the output. An error of memory is possible at any time.
 abbrev pub IsPairsFault : List ℕ → List ℕ → SimFault → Type 0
 IsPairsFault bench text (fault.Tests test_fault.TooMany) =
     IsInputFault bench text (fault.Tests test_fault.TooMany) ⊎ HasTooManyPairs bench text

@@ -22,7 +22,7 @@ reason_text NoPath = codes "no path"
 reason_text NotActivated = codes "not activated"
 reason_text NotObserved = codes "not observed"
 
--- the line of a fault that has a reason, `FAULT none REASON`; no other has one
+-- the line of a fault that has a reason, `FAULT none REASON`; a fault without a reason has no line
 abbrev pub reason_line : List Statement → Fault × Option Reason → List ℕ
 reason_line c (f, None) = []
 reason_line c (f, Some reason) =
@@ -35,7 +35,8 @@ has_reason NotActivated (Some NotActivated) = true
 has_reason NotObserved (Some NotObserved) = true
 has_reason _ _ = false
 
--- how many faults have a reason, and the last line, `N no path, N not activated, N not observed`
+-- the number of faults with a reason, and the last line, `N no path, N not activated, N not
+-- observed`
 abbrev pub reason_count : Reason → List (Option Reason) → ℕ
 reason_count reason reasons = count_by (has_reason reason) reasons
 
@@ -44,8 +45,8 @@ reasons_line reasons = decimal (reason_count NoPath reasons) ++ codes " no path,
     ++ decimal (reason_count NotActivated reasons) ++ codes " not activated, "
     ++ decimal (reason_count NotObserved reasons) ++ codes " not observed\n"
 
--- the report: the line of each fault that has a reason, the report without lines of faults, and how
--- many faults there are of each reason
+-- the report: the line of each fault that has a reason, the report without lines of faults, and the
+-- number of faults for each reason
 abbrev pub reason_report : Model → List Statement → Collapsed → List (Option ℕ)
     → List (Option Reason) → Bool → List ℕ
 reason_report m c classes firsts reasons wanted =
@@ -53,7 +54,7 @@ reason_report m c classes firsts reasons wanted =
     ++ (whole_report m c classes firsts (record { lines = Omitted; classes = wanted })
     ++ reasons_line reasons)
 
--- the bytes are this report of a bench text and a test text under a model: each fault that no test
+-- the bytes are this report of a bench file and a test file under a model: each fault that no test
 -- detects has its reason
 abbrev pub IsReasonReportOf : Model → List ℕ → List ℕ → Bool → List ℕ → Type 0
 IsReasonReportOf m bench text wanted bytes = (c : List Statement) × (tests : TestList)
@@ -62,7 +63,7 @@ IsReasonReportOf m bench text wanted bytes = (c : List Statement) × (tests : Te
     × AreFirsts m c tests.tests firsts × AreReasons m c tests.tests firsts reasons
     × (bytes ≡ reason_report m c classes firsts reasons wanted)
 
--- the same of a job
+-- the same for a job
 abbrev pub IsReasonReportOfJob : Parts → Bool → List ℕ → Type 0
 IsReasonReportOfJob job wanted bytes = (firsts : List (Option ℕ)) × (reasons : List (Option Reason))
     × AreFirsts job.list.model job.circuit job.tests.tests firsts

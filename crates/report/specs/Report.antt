@@ -15,8 +15,8 @@ use Rattle.report.specs.declared.contents.Contents.{Contents}
 use Rattle.report.specs.declared.contents.Lines.{Lines}
 use Rattle.report.specs.declared.contents.Lines.TheVariants.{Omitted, All, Undetected}
 
--- what a report with the list of faults tells, and one without: the lines of all faults, or none,
--- and the coverage of the faults
+-- the contents of a report with the list of faults, and of one without: the lines of all faults, or
+-- none, and the coverage of the faults
 abbrev pub contents_of : Bool → Contents
 contents_of list = record { lines = if list then All else Omitted; classes = false }
 
@@ -34,8 +34,8 @@ line_text c (Pin gate pin) = codes "pin " ++ signal_text c gate ++ codes " " ++ 
 line_text c (Data cell) = codes "data " ++ cell_text c cell
 line_text c (Out output) = codes "out " ++ decimal (output + 1)
 
--- what is wrong with a line: it is stuck at 0 or at 1, slow to rise (to leave 0) or slow to fall
--- (to leave 1)
+-- the defect of a line: it is stuck at 0 or at 1, slow to rise (to leave 0) or slow to fall (to
+-- leave 1)
 abbrev pub defect_text : Model → Bool → List ℕ
 defect_text StuckAt false = codes " sa0"
 defect_text StuckAt true = codes " sa1"
@@ -44,7 +44,7 @@ defect_text Transition true = codes " stf"
 defect_text TransitionPairs false = codes " str"
 defect_text TransitionPairs true = codes " stf"
 
--- a fault: its line, and what is wrong with it
+-- a fault: its line, and its defect
 abbrev pub fault_text : List Statement → Fault → List ℕ
 fault_text c f = line_text c f.line ++ defect_text f.model f.stuck
 
@@ -57,14 +57,14 @@ first_text (Some t) = decimal t
 abbrev pub two_digits : ℕ → List ℕ
 two_digits n = (48 + n / 10) ∷ (48 + n % 10) ∷ []
 
--- a part in a whole, `P.PP`: with h = 10000 part div whole, the digits before the point are h div
--- 100 and those behind it are h mod 100
+-- a part of a whole in percent, `P.PP`: with h = 10000 part div whole, the digits before the point
+-- are h div 100 and the digits after it are h mod 100
 abbrev pub percentage : ℕ → ℕ → List ℕ
 percentage part whole =
     let h : ℕ = 10000 * part / whole in
     decimal (h / 100) ++ codes "." ++ two_digits (h % 100)
 
--- `D of T (P.PP%)`, with what is counted before the bracket
+-- `D of T (P.PP%)`, with the counted noun before the bracket
 abbrev pub coverage_of : List ℕ → ℕ → ℕ → List ℕ
 coverage_of counted found total =
     decimal found ++ codes " of " ++ decimal total ++ counted ++ codes " ("
@@ -78,18 +78,18 @@ coverage_line found total = coverage_of [] found total
 abbrev pub name_line : List ℕ × Option ℕ → List ℕ
 name_line at = at.0 ++ (codes " " ++ first_text at.1 ++ codes "\n")
 
--- whether a fault with this first test has a line: none has, all have, or those that no test
--- detects
+-- whether a fault with this first test has a line: no fault has one, all faults have one, or the
+-- faults that no test detects
 abbrev pub has_line : Lines → Option ℕ → Bool
 has_line Omitted first = false
 has_line All first = true
 has_line Undetected first = is_none first
 
--- the line of a fault, given as text, where it has one
+-- the line of a fault, given as text, if it has one
 abbrev pub wanted_name : Lines → List ℕ × Option ℕ → List ℕ
 wanted_name lines at = if has_line lines at.1 then name_line at else []
 
--- the same of a fault of a circuit
+-- the same for a fault of a circuit
 abbrev pub wanted_line : Lines → List Statement → Fault × Option ℕ → List ℕ
 wanted_line lines c at = wanted_name lines (fault_text c at.0, at.1)
 
@@ -97,16 +97,16 @@ wanted_line lines c at = wanted_name lines (fault_text c at.0, at.1)
 abbrev pub fault_lines : Lines → Model → List Statement → List (Option ℕ) → List ℕ
 fault_lines lines m c firsts = flat_map (wanted_line lines c) (zip (faults m c) firsts)
 
--- the report: the fault lines that are asked for, and the coverage line
+-- the report: the requested fault lines, and the coverage line
 abbrev pub report : Model → List Statement → List (Option ℕ) → Lines → List ℕ
 report m c firsts lines = fault_lines lines m c firsts
     ++ coverage_line (detected_count firsts) (length firsts)
 
--- the first test of the fault of a number
+-- the first test of the fault with a number
 abbrev pub first_at : List (Option ℕ) → ℕ → Option ℕ
 first_at firsts fault = slice_index_or firsts fault None
 
--- the first test of each class: that of its representative, which all its faults share
+-- the first test of each class: the first test of its representative, which all its faults share
 abbrev pub class_firsts : Collapsed → List (Option ℕ) → List (Option ℕ)
 class_firsts classes firsts = map (first_at firsts) classes.representative
 
@@ -116,7 +116,7 @@ class_coverage_line classes firsts =
     coverage_of (codes " classes") (detected_count (class_firsts classes firsts))
     (length classes.representative)
 
--- the report with all that is asked for: that of the classes is the last line
+-- the report with all requested contents: the last line has the coverage of the classes
 abbrev pub whole_report : Model → List Statement → Collapsed → List (Option ℕ) → Contents → List ℕ
 whole_report m c classes firsts contents = report m c firsts contents.lines
     ++ (if contents.classes then class_coverage_line classes firsts else [])
@@ -132,8 +132,8 @@ listing m c class_of class_count =
     ++ (decimal (length (faults m c)) ++ codes " faults in " ++ decimal class_count
     ++ codes " classes\n")
 
--- the line's numbers are those of signals, pins, cells and outputs that the circuit has, as far as
--- its text needs them
+-- the line's numbers are numbers of signals, pins, cells and outputs of the circuit, as far as its
+-- text needs them
 abbrev pub IsLineOf : List Statement → Line → Type 0
 IsLineOf c (Stem s) = s < length (names c)
 IsLineOf c (Pin gate pin) = gate < length (names c)

@@ -10,19 +10,19 @@ use Rattle.job_loading.specs.declared.fault.SimFault.{SimFault}
 use Rattle.job_loading.specs.declared.fault.SimFault.TheVariants as fault
 use Rattle.job_loading.specs.Jobs.{IsInputFault}
 
--- the bytes are the responses of a bench text to a test text: for each test a row of bits
+-- the bytes are the responses of a bench file to a test file: for each test a row of bits
 abbrev pub AreResponsesOf : List ℕ → List ℕ → List ℕ → Type 0
 AreResponsesOf bench text bytes = (c : List Statement) × (tests rows : TestList)
     × IsAccepted bench c × HasTests text (length (sources c)) tests
     × AreResponses c tests.tests rows × (bytes ≡ test_text rows.tests)
 
--- both texts are accepted
+-- both files are accepted
 abbrev pub AreInputs : List ℕ → List ℕ → Type 0
 AreInputs bench text = (c : List Statement) × (tests : TestList) × IsAccepted bench c
     × HasTests text (length (sources c)) tests
 
--- When each fault of the responses comes: those of the two texts, then an output that takes nothing
--- more. Want of memory may come any time.
+-- The condition of each error of the responses: the errors of the two files, then an error of the
+-- output. An error of memory is possible at any time.
 abbrev pub IsResponsesFault : List ℕ → List ℕ → SimFault → Type 0
 IsResponsesFault bench text fault.Memory = ⊤
 IsResponsesFault bench text (fault.Report f) = AreInputs bench text

@@ -1,4 +1,4 @@
-//! Fewer tests that detect the same faults, from the bytes of texts to the bytes of rows or of
+//! Fewer tests that detect the same faults, from the bytes of files to the bytes of rows or of
 //! numbers.
 
 ghost use Rattle.std.specs.Prelude.{◌≡◌, ◌<◌, ◌≤◌, ⊤, IfErr, OnOk, length};
@@ -25,38 +25,38 @@ use std::alloc::Global;
 use std::sync::Wait;
 use std::thread::Threads;
 
-/// What is written of the tests that a compaction keeps.
+/// The form in which the tests that a compaction keeps are written.
 #[derive(Clone, Copy, Debug, PartialEq, Eq)]
 pub enum KeptForm {
-    /// The tests: a test text.
+    /// The tests: a test file.
     Rows,
     /// The number of each test in the list, from 0, on a line of its own.
     Numbers,
 }
 
-/// How the tests that a compaction keeps are written.
+/// The order and the form in which the tests that a compaction keeps are written.
 #[derive(Clone, Copy, Debug, PartialEq, Eq)]
 pub struct KeptLayout {
     /// Their order. With [`Model::Transition`] it is always the order of the list.
     pub order: TestOrder,
-    /// What is written of each.
+    /// Their form.
     pub form: KeptForm,
 }
 
-/// How many tests a compaction keeps of how many.
+/// The number of tests that a compaction keeps, and the number of all tests.
 #[derive(Clone, Copy, Debug, PartialEq, Eq)]
 pub struct KeptCount {
-    /// The tests that are kept.
+    /// The number of kept tests.
     pub kept: u32,
-    /// All tests of the list.
+    /// The number of all tests of the list.
     pub all: u32,
 }
 
-/// Reads a circuit and tests for it, and writes a test file with some of the tests, in order, which
+/// Reads a circuit and tests for it, and writes a test file with some of the tests, in order. They
 /// detect each fault of a model that the tests detect ([`compaction::compact`]).
 ///
-/// It fails as [`crate::simulate_text_in`] does, in the same order. It writes nothing before all is
-/// known.
+/// It fails as [`crate::simulate_text_in`] does, in the same order. It writes nothing before all
+/// kept tests are known.
 pub fn compact_text_in<R: Threads + Wait, W: Out>(
     rt: &R,
     alloc: Global,
@@ -83,11 +83,11 @@ pub fn compact_text_in<R: Threads + Wait, W: Out>(
 }
 
 /// Reads a circuit and tests for it, and writes the tests that [`compact_text_in`] writes, or their
-/// numbers in the list, in an order ([`compaction::compact_in_order`]) and however the runs are
-/// split. Returns how many are kept.
+/// numbers in the list. It writes them in an order ([`compaction::compact_in_order`]), for each
+/// split of the runs. Returns the number of kept tests.
 ///
-/// It is refused as [`crate::simulate_text_watched`] is with an open gate. Nothing is written
-/// before all is known.
+/// It fails as [`crate::simulate_text_watched`] does with an open gate. It writes nothing before
+/// all kept tests are known.
 pub fn compact_text_with<R: Threads + Wait, W: Out>(
     rt: &R,
     alloc: Global,
@@ -111,8 +111,8 @@ pub fn compact_text_with<R: Threads + Wait, W: Out>(
     write_compacted(rt, alloc, &mut job, parts, workers, layout, out)
 }
 
-/// Writes some of a job's tests, or their numbers, that detect each fault that all detect, and
-/// returns how many these are.
+/// Writes some of a job's tests, or their numbers, that detect each fault that all tests detect.
+/// Returns how many tests it keeps.
 fn write_compacted<R: Threads + Wait, W: Out>(
     rt: &R,
     alloc: Global,
@@ -165,7 +165,7 @@ fn write_numbers<W: Out>(numbers: &[u32], out: &mut W) -> Result<(), ReportFault
     Ok(put_numbers(numbers, out)?)
 }
 
-/// Writes them. An error says only that the output failed.
+/// Writes numbers. Its only error is that of the output.
 fn put_numbers<W: Out>(numbers: &[u32], out: &mut W) -> Result<(), OutFailed>
     ensures { Writes result (W.seen out.old) (W.seen out.new)
         (flat_map number_line numbers.now) }

@@ -6,7 +6,7 @@ ghost use Rattle.report.specs.Report.{contents_of, has_line};
 /// The faults with a line of their own in a report, before the coverage line.
 #[derive(Clone, Copy, Debug, PartialEq, Eq)]
 pub enum Lines {
-    /// None.
+    /// No faults.
     Omitted,
     /// All faults of the list.
     All,
@@ -15,8 +15,8 @@ pub enum Lines {
 }
 
 impl Lines {
-    /// Returns whether a fault has a line, given its first test. It is for the crates above, which
-    /// write reports of faults of their own.
+    /// Returns whether a fault has a line, given its first test. The crates above call it to write
+    /// reports of faults of their own.
     pub fn has(self, first: Option<u32>) -> bool
         ensures { result ≡ has_line self first }
     {
@@ -33,7 +33,7 @@ impl Lines {
 pub struct Contents {
     /// The faults that have a line.
     pub lines: Lines,
-    /// Whether a last line gives the coverage of the classes.
+    /// Whether the last line gives the coverage of the classes.
     pub classes: bool,
 }
 
@@ -49,8 +49,8 @@ impl Contents {
         }
     }
 
-    /// Returns the contents of a report with a line for each fault, if `list` is set, and else of
-    /// one with only the coverage of the faults.
+    /// Returns the contents of a report with a line for each fault, if `list` is set, or else with
+    /// only the coverage of the faults.
     pub fn of_list(list: bool) -> Contents
         ensures { result ≡ contents_of list }
     {

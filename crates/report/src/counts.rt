@@ -1,4 +1,4 @@
-//! A run in numbers.
+//! The counts of a run.
 
 ghost use Rattle.std.specs.Prelude.{◌≡◌};
 ghost use Rattle.report.specs.Counts.{counts_of};
@@ -7,19 +7,20 @@ use crate::report::detected_classes;
 use block_sim::Job;
 use workers::Verdicts;
 
-/// How many tests, faults and fault classes a run has, and how many of the faults and of the
-/// classes a test detects.
+/// The numbers of tests, faults and fault classes of a run, and of the faults and classes that a
+/// test detects.
 #[derive(Clone, Copy, Debug, PartialEq, Eq)]
 pub struct RunCounts {
     pub tests: u32,
-    /// The number of faults, before collapsing.
+    /// The number of uncollapsed faults.
     pub faults: u32,
     pub detected: u32,
     pub classes: u32,
     pub detected_classes: u32,
 }
 
-/// Counts the tests, the faults and the classes of a job, and what its verdicts detect.
+/// Counts the tests, the faults and the classes of a job, and the faults and classes that its
+/// verdicts detect.
 pub fn count_run(job: &Job, verdicts: &Verdicts) -> RunCounts
     ensures { result ≡ counts_of job.now.tests.tests job.now.classes verdicts.now.firsts }
 {

@@ -36,9 +36,9 @@ pub struct CurvePoint {
     pub detected: u32,
 }
 
-/// Reads a circuit and tests for it, and writes the curve of the faults of a model: a line `TEST
-/// DETECTED P.PP` for each test that is the first to detect some fault, in order, and then the
-/// coverage line. It works as [`crate::simulate_text_in`] does.
+/// Reads a circuit and tests for it, and writes the curve of the faults of a model. The curve has a
+/// line `TEST DETECTED P.PP` for each test that is the first to detect some fault, in order, and
+/// then the coverage line. It works as [`crate::simulate_text_in`] does.
 ///
 /// It fails as [`crate::simulate_text_in`] does, in the same order.
 pub fn curve_text_in<R: Threads + Wait, W: Out>(
@@ -62,11 +62,11 @@ pub fn curve_text_in<R: Threads + Wait, W: Out>(
 }
 
 /// Reads a circuit and tests for it, and writes the curve that [`curve_text_in`] writes, with the
-/// same bytes, however the run is split. It calls the gate when the run begins and when it ends,
-/// and asks it before each piece of work; the gate decides nothing of the curve but whether there
-/// is one.
+/// same bytes, for each split of the run. It calls the gate when the run begins and when it ends,
+/// and asks it before each piece of work. The gate decides whether there is a curve, but not its
+/// bytes.
 ///
-/// It is refused as [`crate::simulate_text_watched`] is.
+/// It fails as [`crate::simulate_text_watched`] does.
 pub fn curve_text_watched<R: Threads + Wait, G: Watch + Sync, W: Out>(
     rt: &R,
     alloc: Global,
@@ -188,11 +188,11 @@ fn points_of(
     Ok(points)
 }
 
-/// Writes the points of a curve of the verdicts of a job, a line each, and then the coverage line.
-/// It takes no memory.
+/// Writes the points of a curve of the verdicts of a job, one line for each, and then the coverage
+/// line. It takes no memory.
 ///
-/// If the output takes nothing more, it fails with [`ReportFault::Write`], and the output has a
-/// beginning of the text.
+/// If the output fails, it fails with [`ReportFault::Write`], and the output has a beginning of the
+/// text.
 pub fn write_curve<W: Out>(
     job: &Job,
     verdicts: &Verdicts,

@@ -24,9 +24,9 @@ use std::sync::Wait;
 use std::thread::Threads;
 use workers::{MAX_WORKERS, RunFault};
 
-/// Reads a circuit and tests for it, and writes how many tests detect each fault of a model: with
-/// `list` a line for each fault, and then how many faults at least `most` tests detect. The count
-/// of a fault ends at `most`.
+/// Reads a circuit and tests for it, and writes how many tests detect each fault of a model. With
+/// `list` it writes a line for each fault. Then it writes how many faults at least `most` tests
+/// detect. The count of a fault ends at `most`.
 ///
 /// It fails as [`crate::simulate_text_in`] does, in the same order.
 pub fn detections_text_in<R: Threads + Wait, W: Out>(
@@ -50,10 +50,9 @@ pub fn detections_text_in<R: Threads + Wait, W: Out>(
 }
 
 /// Reads a circuit and tests for it, and writes the report that [`detections_text_in`] writes, with
-/// the same bytes, whatever the number of pieces: nothing is kept of a piece, so there needn't be a
-/// limit.
+/// the same bytes, for any number of pieces. It keeps nothing for a piece, so there is no limit.
 ///
-/// It is refused as [`detections_text_in`] is, and for no number of pieces.
+/// It fails as [`detections_text_in`] does, except for the number of pieces.
 pub fn detections_text_of_any_size<R: Threads + Wait, W: Out>(
     rt: &R,
     alloc: Global,
@@ -102,7 +101,7 @@ fn report_counts<R: Threads + Wait, W: Out>(
 /// # Errors
 ///
 /// [`RunFault::NoWorkers`] or [`RunFault::TooManyWorkers`] if the number of workers is not one of a
-/// run; else only of memory and threads.
+/// run; and the errors of memory and threads.
 pub fn counts_of<R: Threads + Wait>(
     rt: &R,
     alloc: Global,
@@ -126,8 +125,8 @@ pub fn counts_of<R: Threads + Wait>(
     }
 }
 
-/// Writes the report of how many tests detect each fault of a job: with `listed` a line for each
-/// fault, and then how many faults at least `most` tests detect. It takes no memory.
+/// Writes the report of how many tests detect each fault of a job. With `listed` it writes a line
+/// for each fault. Then it writes how many faults at least `most` tests detect. It takes no memory.
 pub fn write_detections<W: Out>(
     job: &Job,
     counts: &[u32],

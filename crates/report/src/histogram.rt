@@ -25,12 +25,12 @@ use std::thread::Threads;
 use workers::RunFault;
 
 /// Reads a circuit and tests for it, and writes how many tests detect each fault of a model, as
-/// [`crate::detections_text_in`] does, and then the histogram: a line `COUNT FAULTS` for each count
-/// from 0 to `most`, with the number of faults that this many tests detect. The last one has
-/// the faults that at least `most` tests detect.
+/// [`crate::detections_text_in`] does, and then the histogram. The histogram has a line `COUNT
+/// FAULTS` for each count from 0 to `most`, with the number of faults that this many tests detect.
+/// The last line counts the faults that at least `most` tests detect.
 ///
-/// It is refused as [`crate::detections_text_in`] is with [`Split::Whole`], and else as
-/// [`crate::detections_text_of_any_size`] is.
+/// It fails as [`crate::detections_text_in`] does with [`Split::Whole`], and else as
+/// [`crate::detections_text_of_any_size`] does.
 pub fn histogram_text_in<R: Threads + Wait, W: Out>(
     rt: &R,
     alloc: Global,
@@ -97,8 +97,8 @@ fn write_both<W: Out>(
     Ok(())
 }
 
-/// How many faults have each count of tests that detect them, from 0 to `most`, where no count is
-/// above `most`. It takes 4 bytes for each.
+/// Returns how many faults have each count of tests that detect them, from 0 to `most`, if no count
+/// is above `most`. It takes 4 bytes for each.
 pub fn histogram_of(alloc: Global, counts: &[u32], most: u32) -> Result<Vec<u32>, AllocError>
     requires { length counts.now < 2 ^ 32 }
     ensures { IfOk result (λ faults. faults.items ≡ histogram most counts.now) }

@@ -4,8 +4,8 @@
 //! [`simulate_text`] writes the first test of a list that detects each fault of a circuit, and the
 //! fault coverage, by workers in threads. [`schedule_text`] writes the same in one thread, which
 //! makes the moves of an order file. [`faults_text`] lists the faults with their classes. All write
-//! to an [`Out`], and their contracts define the bytes. Part files are in `part_files`, which puts
-//! lines by [`put_fault_line`] and [`put_coverage`], too.
+//! to an [`Out`], and their contracts define the bytes. The crate `part_files` writes part files,
+//! with lines by [`put_fault_line`] and [`put_coverage`].
 #![tactic(auto)]
 
 mod compacted;

@@ -28,11 +28,11 @@ use undetected::{Reason, reasons};
 use workers::Verdicts;
 
 /// Reads a circuit and tests for it, and writes the report of the faults that no test detects, each
-/// with the reason why none does: a line for each of these faults, then the coverage line, with
-/// `classes` that of the classes, and last how many faults there are of each reason.
+/// with the reason why none does. The report has a line for each of these faults, then the coverage
+/// line, with `classes` the coverage of the classes, and last the number of faults for each reason.
 ///
-/// The gate and the split are those of [`crate::simulate_text_watched`], and it is refused as that
-/// is.
+/// The gate and the split are as in [`crate::simulate_text_watched`], and it fails as that function
+/// does.
 pub fn reasons_text_watched<R: Threads + Wait, G: Watch + Sync, W: Out>(
     rt: &R,
     alloc: Global,
@@ -85,12 +85,13 @@ fn report_reasons<R: Threads + Wait, G: Watch + Sync, W: Out>(
 }
 
 /// Writes the report of the undetected faults of a job with their reasons, as
-/// [`undetected::reasons`] returns them: a line for each, then the coverage line, with `classes`
-/// the coverage of the classes, and last the number of faults for each reason. It takes no memory.
+/// [`undetected::reasons`] returns them. The report has a line for each, then the coverage line,
+/// with `classes` the coverage of the classes, and last the number of faults for each reason. It
+/// takes no memory.
 ///
 /// # Errors
 ///
-/// [`ReportFault::Write`] if the output takes nothing more. It has a beginning of the report.
+/// [`ReportFault::Write`] if the output fails. The output has a beginning of the report.
 pub fn write_reasons<W: Out>(
     job: &Job,
     verdicts: &Verdicts,

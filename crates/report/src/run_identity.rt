@@ -1,4 +1,4 @@
-//! What identifies a run in its files: the name of its model, and the sums of its inputs.
+//! The identity of a run in its files: the name of its model, and the sums of its inputs.
 
 ghost use Rattle.std.specs.Prelude.{◌≡◌, string_bytes, IfOk};
 ghost use Rattle.report.specs.RunIdentity.{model_name, sum_text};
@@ -8,7 +8,7 @@ use hex::encode;
 use sha2::{Digest, Sha256};
 use std::alloc::{AllocError, Global};
 
-/// Returns the name of a model, as a part text and the command line have it.
+/// Returns the name of a model, as in part files and on the command line.
 pub fn model_name(model: Model) -> &'static str
     ensures { result.now ≡ model_name model }
 {
@@ -19,7 +19,7 @@ pub fn model_name(model: Model) -> &'static str
     }
 }
 
-/// Returns the SHA-256 of a text in lower-case hex digits, as a part text has it.
+/// Returns the SHA-256 of a text in lower-case hex digits, as in part files.
 pub fn sum_of(alloc: Global, text: &[u8]) -> Result<String, AllocError>
     ensures { IfOk result (λ sum. string_bytes sum ≡ sum_text text.now) }
 {

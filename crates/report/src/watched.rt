@@ -19,12 +19,12 @@ use std::thread::Threads;
 
 /// Reads a circuit and tests for it, and writes the report that [`crate::simulate_text_with`]
 /// writes, with the same bytes. It calls the gate when the run begins and when it ends, and asks it
-/// before each piece of work; the gate decides nothing of the report but whether there is one.
+/// before each piece of work. The gate decides whether there is a report, but not its bytes.
 ///
 /// With [`Split::Parts`] it runs as [`crate::simulate_text_in_parts`] does, and with
-/// [`Split::Whole`] as [`crate::simulate_text_with`]. It is refused as these are, and with
+/// [`Split::Whole`] as [`crate::simulate_text_with`]. It fails as these do, and with
 /// [`crate::RunFault::Unfinished`] if the gate stops workers and not all classes are settled. With
-/// [`Split::Fitting`] no number of pieces is refused.
+/// [`Split::Fitting`] it fails for no number of pieces.
 pub fn simulate_text_watched<R: Threads + Wait, G: Watch + Sync, W: Out>(
     rt: &R,
     alloc: Global,
@@ -49,7 +49,7 @@ pub fn simulate_text_watched<R: Threads + Wait, G: Watch + Sync, W: Out>(
     report_run(rt, alloc, &job, parts, workers, contents, gate, out)
 }
 
-/// Runs a job in parts by workers in threads of their own, and writes its report. The gate learns
+/// Runs a job in parts by workers in threads of their own, and writes its report. It calls the gate
 /// when the run begins and when all is settled.
 fn report_run<R: Threads + Wait, G: Watch + Sync, W: Out>(
     rt: &R,

@@ -2,7 +2,7 @@ use Rattle.std.proofs.Common.{◌≡◌, ◌+◌, ◌<◌, ℕ, List, get_or, le
 use Rattle.report.specs.Histogram.{faults_with}
 use Rattle.report.proofs.histogram.histogram_of.Given as goal
 
--- the table has the faults so far
+-- the table has the counts of the faults so far
 pub record AreCounted (most : ℕ) (counts faults : List ℕ) : Type 0 where
   pub count : length faults ≡ most + 1
   pub each : (n : ℕ) → n < most + 1 → get_or faults n 0 ≡ faults_with counts n
