@@ -1,5 +1,5 @@
--- The rows of tables of a curve from their numbers, given as texts, and from the curve of a job to
--- the table of the files that it was read from.
+-- The rows of tables of a curve from their numbers, given as texts; and the step from the curve of
+-- a job to the table of the files that the job was read from.
 use Rattle.std.proofs.Common.{◌≡◌, ◌∙◌, ◌<◌, ◌*◌, ◌/◌, ◌%◌, ◌++◌, [], ℕ, List, ap, append_assoc}
 use Rattle.std.proofs.Common.{arith, length, subst, sym}
 use Rattle.std.specs.Prelude.{Option, codes, decimal}
@@ -46,7 +46,7 @@ sums_pieces found total a b whole tens ones e f g h i =
     let last : 10000 * found / total % 100 % 10 < 10 = omega arith in
     rw (e, f, g, h, i, decimal_digit _ small, decimal_digit _ last) (simp append_assoc)
 
--- the table of a job's curve is that of the files
+-- the table of a job's curve is the table of the files
 pub curve_of_texts : (m : Model) (bench text : List ℕ) (job : Parts) (format : Format)
     → IsJobOf m bench text job → (bytes : List ℕ) → IsCurveTableOfJob job format bytes
     → IsCurveTableOf m bench text format bytes

@@ -1,5 +1,5 @@
--- The rows of tables of a histogram, and from the histogram of a job to the table of the files that
--- it was read from.
+-- The rows of tables of a histogram; and the step from the histogram of a job to the table of the
+-- files that the job was read from.
 use Rattle.std.proofs.Common.{◌≡◌, ◌<◌, ◌+◌, ◌∙◌, ◌++◌, [], ℕ, List, ap, arith, get_or, length}
 use Rattle.std.proofs.Common.{refl, subst, sym, take}
 use Rattle.std.proofs.lemmas.Option.{get_or_from_slice_get, slice_get-get_or, slice_get_within}
@@ -45,7 +45,7 @@ count_added format faults i lt =
     (slice_get_within pairs i pair at)
     (ap (count_row format) (sym (get_or_from_slice_get pairs i pair (0, 0) at)))
 
--- the table of a job's histogram is that of the files
+-- the table of a job's histogram is the table of the files
 pub histogram_of_texts : (m : Model) (bench text : List ℕ) (most : ℕ) (format : Format)
     (job : Parts) → IsJobOf m bench text job → (bytes : List ℕ)
     → IsHistogramTableOfJob job most format bytes

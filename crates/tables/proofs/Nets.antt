@@ -1,4 +1,4 @@
--- The names of the signals that lines carry, out of what the calls of a circuit give.
+-- The names of the signals that lines carry, from the results of the calls of a circuit.
 use Rattle.std.proofs.Common.{◌≡◌, ◌<◌, ℕ, zero, suc, refl, ◌∙◌, ap, List, [], ◌∷◌, length}
 use Rattle.std.proofs.Common.{arith, drop}
 use Rattle.std.proofs.lemmas.Option.{get_or_from_slice_get, slice_get-map, slice_get_within}
@@ -13,7 +13,7 @@ use Rattle.list_lemmas.proofs.Members.{contained}
 use Rattle.list_lemmas.proofs.Places.{at_place}
 use Rattle.fault_model.specs.Detection.{argument}
 
--- what stands at a place of a list of numbers that is made of another
+-- the element at a place of a list of numbers that is made of another list
 pub mapped_at : {X : Type 0} (f : X → ℕ) (xs : List X) (ys : List ℕ) (i : ℕ) (x : X)
     → ys ≡ map f xs → slice_get xs i ≡ Some x
     → (i < length ys) × (slice_index_or ys i 0 ≡ f x)
@@ -24,13 +24,13 @@ mapped_at f xs ys i x e at =
       get_or_from_slice_get ys i (f x) 0 there,
     )
 
--- the number of a defined name is that of a signal, which has this name
+-- the number of a defined name is the number of a signal, which has this name
 pub signal_named : (c : List Statement) (n : Name) → Contains (names c) n
     → (signal c n < length (names c)) × (name_of c (signal c n) ≡ Some n)
 signal_named c n at = let e = name_of-signal c n at in
     (slice_get_within (names c) (signal c n) n e, e)
 
--- a pin that reads a name is one of a gate
+-- a pin that reads a name is a pin of a gate
 pub record PinOf (c : List Statement) (gate pin : ℕ) (n : Name) : Type 0 where
   pub name : Name
   pub kind : Kind
@@ -82,7 +82,7 @@ pin_reads_signal c gate pin n kind pins e at =
     ap (λ (o : Option (Kind × List ℕ)). (unwrap_or o (kind, pins)).1) same in
     mapped_at (signal c) p.args pins pin n read p.reads
 
--- what a list of stored cells has at the place of a cell of the circuit
+-- the element of a list of stored cells at the place of a cell of the circuit
 pub record StoredAt (cs : List (Name × Name)) (rs : List ScanCell) (f : Name → ℕ) (i : ℕ)
     (other : ScanCell) : Type 0 where
   pub cell : Name × Name

@@ -30,7 +30,7 @@ reason_added row c fs xs i f x reason e h has =
     (zip fs xs) i (f, x) (row (row_cells c f) reason) (slice_get_within (zip fs xs) i (f, x) at)
     (rw (get_or_from_slice_get (zip fs xs) i (f, x) (f, x) at, has) refl)
 
--- a fault that has none adds nothing
+-- a fault without a reason adds nothing
 pub reason_skipped : (row : RowCells → Reason → List ℕ) (c : List Statement) (fs : List Fault)
     (xs : List (Option Reason)) (i : ℕ) (f : Fault) (x : Option Reason)
     → slice_get fs i ≡ Some f → slice_get xs i ≡ Some x → x ≡ None
@@ -57,7 +57,7 @@ reasons_table job firsts reasons format listed are why bytes is = (
   is ∙ ap (λ l. reason_table format job.circuit l firsts reasons) (ap (λ l. l.list) listed),
 )
 
--- the table of the job of texts
+-- the table of the job of files
 pub reasons_of_texts : (m : Model) (bench text : List ℕ) (job : Parts) (format : Format)
     → IsJobOf m bench text job → (bytes : List ℕ) → IsReasonTableOfJob job format bytes
     → IsReasonTableOf m bench text format bytes

@@ -1,4 +1,4 @@
--- Rows of a list of faults and of what is told of each, one after another.
+-- Rows of a list of faults with their values, one after another.
 use Rattle.std.proofs.Common.{◌≡◌, ◌≤◌, ◌∙◌, ℕ, zero, suc, ◌+◌, List, [], ◌∷◌, ◌++◌, length, take}
 use Rattle.std.proofs.Common.{ap, append-nil, arith, refl}
 use Rattle.std.proofs.lemmas.Option.{get_or_from_slice_get, slice_get_within}
@@ -29,7 +29,7 @@ all_zipped (f ∷ fs) (x ∷ xs) zero same e = absurd (omega (arith, e))
 all_zipped (f ∷ fs) (x ∷ xs) (suc i) same e =
     ap (λ l. (f, x) ∷ l) (all_zipped fs xs i (omega (arith, same)) (omega (arith, e)))
 
--- the row of a fault that has one stands behind those before it
+-- the row of a fault that has one comes after the rows before it
 pub row_added : (row : RowCells → Option ℕ → List ℕ) (c : List Statement) (lines : Lines)
     (fs : List Fault) (xs : List (Option ℕ)) (i : ℕ) (f : Fault) (x : Option ℕ)
     → slice_get fs i ≡ Some f → slice_get xs i ≡ Some x → has_row lines x ≡ true
@@ -41,7 +41,7 @@ row_added row c lines fs xs i f x e h has =
     (zip fs xs) i (f, x) (row (row_cells c f) x) (slice_get_within (zip fs xs) i (f, x) at)
     (rw (get_or_from_slice_get (zip fs xs) i (f, x) (f, x) at, has) refl)
 
--- a fault that has none adds nothing
+-- a fault without a row adds nothing
 pub row_skipped : (row : RowCells → Option ℕ → List ℕ) (c : List Statement) (lines : Lines)
     (fs : List Fault) (xs : List (Option ℕ)) (i : ℕ) (f : Fault) (x : Option ℕ)
     → slice_get fs i ≡ Some f → slice_get xs i ≡ Some x → has_row lines x ≡ false

@@ -1,4 +1,4 @@
--- From the table of a circuit or a job to that of the texts that it was read from.
+-- From the table of a circuit or a job to the table of the files that it was read from.
 use Rattle.std.proofs.Common.{◌≡◌, ◌∙◌, ℕ, List, ap, length, subst}
 use Rattle.std.specs.Prelude.{Err, Ok, Option, Result}
 use Rattle.bench_net.specs.Refusal.{IsAccepted}
@@ -19,7 +19,7 @@ use Rattle.tables.specs.Refusals.{IsTableFault}
 use Rattle.tables.specs.Tables.{IsClassTableOf, IsClassTableOfCircuit, IsFirstTableOf}
 use Rattle.tables.specs.Tables.{IsFirstTableOfJob, IsTable, class_column, first_column, table_text}
 
--- a text of one kind is one of another
+-- a text of one kind is a text of another kind
 pub written_as : (A B : List ℕ → Type 0) (r : Result (Unit {0}) SimFault) (old new : Output)
     → ((text : List ℕ) → A text → B text) → WritesOneOf A r old new → WritesOneOf B r old new
 written_as A B (Ok u) old new into w = (w.0, into w.0 w.1, w.2)
@@ -31,7 +31,7 @@ written_as A B (Err (fault.Job f)) old new into w = w
 written_as A B (Err (fault.Run f)) old new into w = w
 written_as A B (Err fault.Memory) old new into w = w
 
--- a table that is refused is one of a refused listing
+-- an error of a table is an error of a listing
 pub table_fault : (bench : List ℕ) (f : SimFault) → IsTableFault f → IsListingFault bench f
 table_fault bench (fault.Report f) h = tt
 table_fault bench fault.Memory h = tt
@@ -57,7 +57,7 @@ classes_table m c list classes format listed are bytes is =
           (class_column classes.class_of (length classes.representative))) own,
     )
 
--- that of the circuit of a text
+-- the table of the circuit of a file
 pub classes_of_text : (m : Model) (bench : List ℕ) (c : List Statement) (format : Format)
     → IsAccepted bench c → (bytes : List ℕ) → IsClassTableOfCircuit m c format bytes
     → IsClassTableOf m bench format bytes
@@ -76,7 +76,7 @@ firsts_table job firsts lines format listed are bytes is = (
       (ap (λ l. l.list) listed),
 )
 
--- that of the job of texts
+-- the table of the job of files
 pub firsts_of_texts : (m : Model) (bench text : List ℕ) (job : Parts) (lines : Lines)
     (format : Format) → IsJobOf m bench text job → (bytes : List ℕ)
     → IsFirstTableOfJob job lines format bytes → IsFirstTableOf m bench text lines format bytes

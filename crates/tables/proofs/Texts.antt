@@ -21,7 +21,7 @@ coverage_text found total a b whole tens ones e f g h i =
     let last : 10000 * found / total % 100 % 10 < 10 = omega arith in
     rw (e, f, g, h, i, decimal_digit _ small, decimal_digit _ last) (simp append_assoc)
 
--- what is found of so many, from its numbers, given as texts
+-- the detected ones of a number, given as texts
 pub found_pieces : (detected total : ℕ) (member a b u whole tens ones : List ℕ)
     → a ≡ decimal total → b ≡ decimal detected → u ≡ decimal (total - detected)
     → whole ≡ decimal (10000 * detected / max total 1 / 100)
@@ -82,7 +82,7 @@ effort_pieces workers milliseconds n e =
     regrouped begin n middle seconds end
     ∙ ap (λ t. begin ++ (t ++ (middle ++ (seconds ++ end)))) e
 
--- equal texts are added alike
+-- equal texts are added in the same way
 pub added_same : {E : Type 0} (r : Result (Unit {0}) E) (old new x y : List ℕ) → x ≡ y
     → OnOk r (new ≡ old ++ x) → OnOk r (new ≡ old ++ y)
 added_same r old new x y e h = subst (λ t. OnOk r (new ≡ old ++ t)) e h

@@ -15,7 +15,7 @@ use Rattle.tables.specs.declared.table.Format.{Format}
 use Rattle.tables.specs.declared.table.Format.TheVariants.{Csv, Json}
 use Rattle.tables.specs.Tables.{coverage_object}
 
--- the record of a point, where there are so many faults
+-- the record of a point, for this number of faults
 abbrev pub csv_point : ℕ → CurvePoint → List ℕ
 csv_point total point = decimal point.test ++ (codes "," ++ (decimal point.gained ++ (codes ","
     ++ (decimal point.detected ++ (codes "," ++ (percentage point.detected total
@@ -41,7 +41,7 @@ abbrev pub points_json : ℕ → ℕ → List ℕ → List ℕ
 points_json detected total rows = (codes "{\"summary\":" ++ coverage_object detected total)
     ++ (codes ",\"points\":[" ++ (drop 1 rows ++ codes "\n]}\n"))
 
--- the table of points, where so many of the faults are detected
+-- the table of points, for this number of detected faults and of all faults
 abbrev pub curve_table : Format → List CurvePoint → ℕ → ℕ → List ℕ
 curve_table Csv points detected total = points_csv (flat_map (point_row Csv total) points)
 curve_table Json points detected total =
@@ -55,7 +55,7 @@ IsCurveTableOf m bench text format bytes = (c : List Statement) × (tests : Test
     × (bytes ≡ curve_table format (curve (length tests.tests) firsts) (detected_count firsts)
     (length firsts))
 
--- the same of a job
+-- the same for a job
 abbrev pub IsCurveTableOfJob : Parts → Format → List ℕ → Type 0
 IsCurveTableOfJob job format bytes = (firsts : List (Option ℕ))
     × AreFirsts job.list.model job.circuit job.tests.tests firsts

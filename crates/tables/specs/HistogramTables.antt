@@ -14,7 +14,7 @@ use Rattle.tables.specs.declared.table.Format.{Format}
 use Rattle.tables.specs.declared.table.Format.TheVariants.{Csv, Json}
 use Rattle.tables.specs.Tables.{coverage_object}
 
--- the record of a count and of the number of faults that have it
+-- the record of a count and of the number of faults with this count
 abbrev pub csv_count : ℕ × ℕ → List ℕ
 csv_count at = decimal at.0 ++ (codes "," ++ (decimal at.1 ++ codes "\n"))
 
@@ -23,7 +23,7 @@ abbrev pub json_count : ℕ × ℕ → List ℕ
 json_count at = codes ",\n{\"detections\":" ++ (decimal at.0 ++ (codes ",\"faults\":"
     ++ (decimal at.1 ++ codes "}")))
 
--- the row of a count in a format, and those of all counts from 0 on
+-- the row of a count in a format, and the rows of all counts from 0 on
 abbrev pub count_row : Format → ℕ × ℕ → List ℕ
 count_row Csv at = csv_count at
 count_row Json at = json_count at
@@ -40,7 +40,7 @@ abbrev pub counts_json : ℕ → ℕ → List ℕ → List ℕ
 counts_json reached total rows = (codes "{\"summary\":" ++ coverage_object reached total)
     ++ (codes ",\"histogram\":[" ++ (drop 1 rows ++ codes "\n]}\n"))
 
--- the table of a histogram, where so many of the faults have its last count
+-- the table of a histogram, for this number of faults with its last count and of all faults
 abbrev pub histogram_table : Format → List ℕ → ℕ → ℕ → List ℕ
 histogram_table Csv faults reached total = counts_csv (count_rows Csv faults)
 histogram_table Json faults reached total = counts_json reached total (count_rows Json faults)
@@ -54,7 +54,7 @@ IsHistogramTableOf m bench text most format bytes = (c : List Statement) × (tes
     × (bytes ≡ histogram_table format (histogram most counts) (reached_count most counts)
     (length counts))
 
--- the same of a job
+-- the same for a job
 abbrev pub IsHistogramTableOfJob : Parts → ℕ → Format → List ℕ → Type 0
 IsHistogramTableOfJob job most format bytes = (counts : List ℕ)
     × AreCounts job.list.model job.circuit job.tests.tests most counts

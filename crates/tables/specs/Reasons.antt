@@ -20,7 +20,7 @@ use Rattle.tables.specs.declared.table.Format.TheVariants.{Csv, Json}
 use Rattle.tables.specs.Rows.{RowCells, row_cells}
 use Rattle.tables.specs.Tables.{coverage_object, number_or, object_text}
 
--- the row of a fault that has a reason; no other has one
+-- the row of a fault that has a reason; a fault without a reason has no row
 abbrev pub reason_row : (RowCells → Reason → List ℕ) → RowCells → Option Reason → List ℕ
 reason_row row cells None = []
 reason_row row cells (Some reason) = row cells reason
@@ -78,7 +78,7 @@ IsReasonTableOf m bench text format bytes = (c : List Statement) × (tests : Tes
     × AreReasons m c tests.tests firsts reasons
     × (bytes ≡ reason_table format c (faults m c) firsts reasons)
 
--- the same of a job
+-- the same for a job
 abbrev pub IsReasonTableOfJob : Parts → Format → List ℕ → Type 0
 IsReasonTableOfJob job format bytes = (firsts : List (Option ℕ)) × (reasons : List (Option Reason))
     × AreFirsts job.list.model job.circuit job.tests.tests firsts

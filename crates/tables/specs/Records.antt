@@ -6,7 +6,7 @@ use Rattle.csv.specs.declared.writer.Writer.{Writer}
 use Rattle.csv.specs.Writing.{default_writer, fields_written, has_written, text_written}
 use Rattle.csv.specs.Writing.{writer_setup}
 
--- it writes as one does by default, and has taken this text
+-- it has the default settings of a writer, and has taken this text
 pub record HasTaken (writer : Writer (Vec ℕ Global)) (text : List ℕ) : Type 0 where
   pub taken : text_written (λ v. Some v.items) writer ≡ Some text
   pub setup : writer_setup writer ≡ default_writer

@@ -1,4 +1,4 @@
--- What a row of a table says of a fault.
+-- The columns of the row of a fault.
 use Rattle.std.specs.Prelude.{ℕ, ◌+◌, Bool, List, [], Option, Some, None, codes, drop, unwrap_or}
 use Rattle.bench_net.specs.Statement.{Statement}
 use Rattle.fault_model.specs.declared.Line.{Line}
@@ -22,8 +22,8 @@ pub record RowCells : Type 0 where
   pub line : LineCells
   pub defect : List ℕ
 
--- the name of the signal that a line carries: of a pin or a data pin that of the signal which it
--- reads, of an OUTPUT line that of the signal which it observes
+-- the name of the signal that a line carries: for a pin or a data pin the signal that it reads, for
+-- an OUTPUT line the signal that it observes
 abbrev pub net_text : List Statement → Line → List ℕ
 net_text c l = unwrap_or (name_on c l) []
 
@@ -33,8 +33,7 @@ kind_text (Pin gate pin) = codes "pin"
 kind_text (Data cell) = codes "data"
 kind_text (Out output) = codes "out"
 
--- the name of the stem, of the gate that has the pin, of the flip-flop, or of the signal that is
--- observed
+-- the name of the stem, of the gate that has the pin, of the flip-flop, or of the observed signal
 abbrev pub owner_text : List Statement → Line → List ℕ
 owner_text c (Stem s) = signal_text c s
 owner_text c (Pin gate pin) = signal_text c gate
@@ -47,7 +46,7 @@ pin_number (Pin gate pin) = Some (pin + 1)
 pin_number (Out output) = Some (output + 1)
 pin_number _ = None
 
--- what is wrong with a line: the word of the report
+-- the defect of a line: the word of the report
 abbrev pub defect_name : Model → Bool → List ℕ
 defect_name m bit = drop 1 (defect_text m bit)
 
@@ -62,7 +61,7 @@ line_cells c l = record {
 abbrev pub row_cells : List Statement → Fault → RowCells
 row_cells c f = record { line = line_cells c f.line; defect = defect_name f.model f.stuck }
 
--- what the program keeps of both
+-- the line in columns, from the form of the program
 abbrev pub place_in : Place → LineCells
 place_in p = record { kind = p.kind.now; name = p.name.now; pin = p.pin; net = p.net.now }
 

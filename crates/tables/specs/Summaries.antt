@@ -12,14 +12,15 @@ truth_text true = codes "true"
 truth_text false = codes "false"
 
 -- the first members: the version of the program, whether it was proved, the model, the sums of both
--- texts, and the number of tests, each given as text
+-- files, and the number of tests, each given as text
 abbrev pub inputs_of : List ℕ → List ℕ → List ℕ → List ℕ → List ℕ → List ℕ → List ℕ
 inputs_of version proved model bench tests count =
     codes "{\n\"version\":\"" ++ (version ++ (codes "\",\n\"proved\":" ++ (proved
     ++ (codes ",\n\"model\":\"" ++ (model ++ (codes "\",\n\"bench_sha256\":\"" ++ (bench
     ++ (codes "\",\n\"tests_sha256\":\"" ++ (tests ++ (codes "\",\n\"tests\":" ++ count))))))))))
 
--- so many, of which some are detected; the percentage is cut off, and that of none is 0
+-- a number, and how many of these are detected; the percentage is rounded down, and is 0 if the
+-- number is 0
 abbrev pub found_text : ℕ → ℕ → List ℕ
 found_text detected total = codes "{\"total\":" ++ (decimal total ++ (codes ",\"detected\":"
     ++ (decimal detected ++ (codes ",\"undetected\":" ++ (decimal (total - detected)
@@ -30,14 +31,14 @@ abbrev pub counts_text : RunCounts → List ℕ
 counts_text counts = (codes ",\n\"faults\":" ++ found_text counts.detected counts.faults)
     ++ (codes ",\n\"classes\":" ++ found_text counts.detected_classes counts.classes)
 
--- the reasons, where the run tells them
+-- the reasons, if the run writes them
 abbrev pub reasons_text : Option ReasonCounts → List ℕ
 reasons_text None = codes ",\n\"reasons\":null"
 reasons_text (Some counts) = codes ",\n\"reasons\":{\"no_path\":" ++ (decimal counts.no_path
     ++ (codes ",\"not_activated\":" ++ (decimal counts.not_activated
     ++ (codes ",\"not_observed\":" ++ (decimal counts.not_observed ++ codes "}")))))
 
--- a number of milliseconds as seconds with three decimals, or the word for none
+-- a number of milliseconds as seconds with three decimals, or the word for a missing number
 abbrev pub seconds_text : Option ℕ → List ℕ
 seconds_text None = codes "null"
 seconds_text (Some n) = decimal (n / 1000) ++ (codes "." ++ (48 + n % 1000 / 100)
@@ -48,7 +49,7 @@ abbrev pub effort_text : ℕ → Option ℕ → List ℕ
 effort_text workers milliseconds = codes ",\n\"workers\":" ++ (decimal workers
     ++ (codes ",\n\"seconds\":" ++ (seconds_text milliseconds ++ codes "\n}\n")))
 
--- the summary of a run as a JSON object, a member a line
+-- the summary of a run as a JSON object, one member on each line
 abbrev pub summary_text : Summary → List ℕ
 summary_text s = inputs_of s.version.now (truth_text s.proved) (model_name s.model)
     (sum_text s.bench.now) (sum_text s.tests.now) (decimal s.counts.tests)

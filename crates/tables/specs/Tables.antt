@@ -23,15 +23,15 @@ use Rattle.tables.specs.declared.table.Format.{Format}
 use Rattle.tables.specs.declared.table.Format.TheVariants.{Csv, Json}
 use Rattle.tables.specs.Rows.{RowCells, row_cells}
 
--- The column that the run or the classes give: its name, its value for each fault in the order of
--- the list, which faults have a row, and the sums as a JSON object.
+-- The last column, from the run or the classes: its name, its value for each fault in the order of
+-- the list, the choice of the faults that have a row, and the sums as a JSON object.
 pub record LastColumn : Type 0 where
   pub name : List ℕ
   pub values : List (Option ℕ)
   pub lines : Lines
   pub summary : List ℕ
 
--- whether a fault with this value has a row: with `Undetected`, a fault without a value alone
+-- whether a fault with this value has a row: with `Undetected`, only a fault without a value
 abbrev pub has_row : Lines → Option ℕ → Bool
 has_row Undetected value = is_none value
 has_row All value = true
@@ -58,7 +58,7 @@ first_column firsts lines = record {
   summary = coverage_object (detected_count firsts) (length firsts);
 }
 
--- the class of each fault, of so many classes
+-- the class of each fault, for this number of classes
 abbrev pub class_column : List ℕ → ℕ → LastColumn
 class_column class_of classes = record {
   name = codes "class";
@@ -67,7 +67,7 @@ class_column class_of classes = record {
   summary = classes_object (length class_of) classes;
 }
 
--- a number, or the word for none
+-- a number, or the word for a missing number
 abbrev pub number_or : List ℕ → Option ℕ → List ℕ
 number_or none None = none
 number_or none (Some n) = decimal n
@@ -77,7 +77,7 @@ abbrev pub csv_record : RowCells → Option ℕ → List ℕ
 csv_record row value = row_text default_writer (row.line.kind ∷ row.line.name
     ∷ number_or [] row.line.pin ∷ row.defect ∷ number_or [] value ∷ row.line.net ∷ [])
 
--- a JSON object of a fault, on a line of its own behind a comma
+-- a JSON object of a fault, on a line of its own after a comma
 abbrev pub object_of : List ℕ → List ℕ → List ℕ → List ℕ → List ℕ → List ℕ → List ℕ → List ℕ
 object_of kind name pin defect column value net =
     codes ",\n{\"kind\":\"" ++ (kind ++ (codes "\",\"name\":" ++ (name
@@ -85,7 +85,7 @@ object_of kind name pin defect column value net =
     ++ (codes "\",\"" ++ (column ++ (codes "\":" ++ (value
     ++ (codes ",\"net\":" ++ (net ++ codes "}")))))))))))))
 
--- that of a row
+-- the object of a row
 abbrev pub json_object : List ℕ → RowCells → Option ℕ → List ℕ
 json_object column row value =
     object_of row.line.kind (quoted row.line.name) (number_or (codes "null") row.line.pin)
@@ -125,7 +125,7 @@ table_text Json c list column = json_table c list column
 abbrev pub IsTable : Format → List Statement → List Fault → LastColumn → List ℕ → Type 0
 IsTable format c list column bytes = bytes ≡ table_text format c list column
 
--- the bytes are the table of a run of a bench text and a test text under a model: each fault with
+-- the bytes are the table of a run of a bench file and a test file under a model: each fault with
 -- the first test that detects it, or none
 abbrev pub IsFirstTableOf : Model → List ℕ → List ℕ → Lines → Format → List ℕ → Type 0
 IsFirstTableOf m bench text lines format bytes = (c : List Statement) × (tests : TestList)
@@ -133,21 +133,21 @@ IsFirstTableOf m bench text lines format bytes = (c : List Statement) × (tests 
     × AreFirsts m c tests.tests firsts
     × (bytes ≡ table_text format c (faults m c) (first_column firsts lines))
 
--- the same of a job
+-- the same for a job
 abbrev pub IsFirstTableOfJob : Parts → Lines → Format → List ℕ → Type 0
 IsFirstTableOfJob job lines format bytes = (firsts : List (Option ℕ))
     × AreFirsts job.list.model job.circuit job.tests.tests firsts
     × (bytes ≡ table_text format job.circuit (faults job.list.model job.circuit)
     (first_column firsts lines))
 
--- the bytes are the table of the faults of a bench text under a model with their classes
+-- the bytes are the table of the faults of a bench file under a model with their classes
 abbrev pub IsClassTableOf : Model → List ℕ → Format → List ℕ → Type 0
 IsClassTableOf m bench format bytes = (c : List Statement) × (classes : Collapsed)
     × IsAccepted bench c × AreClassesOf m c classes
     × (bytes ≡ table_text format c (faults m c)
     (class_column classes.class_of (length classes.representative)))
 
--- the same of a circuit
+-- the same for a circuit
 abbrev pub IsClassTableOfCircuit : Model → List Statement → Format → List ℕ → Type 0
 IsClassTableOfCircuit m c format bytes = (classes : Collapsed) × AreClassesOf m c classes
     × (bytes ≡ table_text format c (faults m c)

@@ -11,22 +11,22 @@ use workers::Verdicts;
 /// The value of each fault.
 #[derive(Clone, Copy)]
 pub(crate) enum Column<'a> {
-    /// The first test that detects it, and the faults that have a row.
+    /// The first test that detects the fault, and the choice of the faults that have a row.
     First {
         verdicts: &'a Verdicts,
         lines: Lines,
     },
-    /// The same of a merged run.
+    /// The first test of the fault in a merged run, and the choice of the faults that have a row.
     Merged {
         merged: &'a Merged<'a>,
         lines: Lines,
     },
-    /// Its class.
+    /// The class of the fault.
     Class(&'a Classes),
 }
 
 impl Column<'_> {
-    /// Returns its name.
+    /// Returns the name of the column.
     pub(crate) fn name(&self) -> &'static str
         ensures { result.now ≡ (column_in self.now).name }
     {
@@ -36,7 +36,7 @@ impl Column<'_> {
         }
     }
 
-    /// Returns its value for a fault.
+    /// Returns the value of a fault.
     pub(crate) fn value(&self, fault: u32) -> Option<u32>
         requires { fault < length (column_in self.now).values }
         ensures { slice_get (column_in self.now).values fault ≡ Some result }

@@ -48,14 +48,14 @@ pub(crate) fn csv_table(
     text_of(writer)
 }
 
-/// Returns the text that a writer between two records has taken.
+/// Returns the text that a writer has taken, between two records.
 pub(crate) fn text_of(writer: Writer<Vec<u8>>) -> Result<Vec<u8>, AllocError>
     ensures { (taken : List ℕ) → HasTaken writer taken
         → IfOk result (λ text. text.items ≡ taken) }
 {
     match writer.into_inner() {
         Ok(text) => Ok(text),
-        // A vector refuses bytes for want of memory alone.
+        // A vector only refuses bytes if there is no memory.
         Err(_) => Err(AllocError),
     }
 }
@@ -107,7 +107,7 @@ fn put_record<'a>(
     ];
     match writer.write_fields(&fields) {
         Ok(()) => Ok(()),
-        // A vector refuses bytes for want of memory alone.
+        // A vector only refuses bytes if there is no memory.
         Err(_) => Err(AllocError),
     }
 }

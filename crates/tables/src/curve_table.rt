@@ -23,14 +23,14 @@ use std::alloc::{AllocError, Global};
 use std::sync::Wait;
 use std::thread::Threads;
 
-/// Reads a circuit and tests for it, and writes a table of the curve of the faults of a model: a
-/// row for each test that is the first to detect some fault, in order, with the test's number from
-/// 0, how many faults it is the first to detect, and how many faults it and the tests before it
-/// detect, also in percent.
+/// Reads a circuit and tests for it, and writes a table of the curve of the faults of a model. It
+/// has a row for each test that is the first to detect some fault, in order. A row has the test's
+/// number from 0 and the number of faults that it is the first to detect. Then it has the number of
+/// faults that it and the tests before it detect, also in percent.
 ///
 /// # Errors
 ///
-/// The same as of `report::curve_text_watched`, which also describes the split and the gate.
+/// The errors of `report::curve_text_watched`, which also describes the split and the gate.
 pub fn curve_table_watched<R: Threads + Wait, G: Watch + Sync, W: Out>(
     rt: &R,
     alloc: Global,
@@ -206,7 +206,7 @@ fn points_csv(alloc: Global, rows: &[u8]) -> Result<Vec<u8>, AllocError>
     Ok(text)
 }
 
-/// Returns the object of the sums and of an array of the rows, whose first loses its comma.
+/// Returns the object of the sums and of an array of the rows. The first row loses its comma.
 fn points_json(alloc: Global, detected: u32, total: u32, rows: &[u8]) -> Result<Vec<u8>, AllocError>
     requires { 0 < total }
     ensures { IfOk result (λ text. text.items ≡ points_json detected total rows.now) }
@@ -219,7 +219,7 @@ fn points_json(alloc: Global, detected: u32, total: u32, rows: &[u8]) -> Result<
     Ok(text)
 }
 
-/// Adds the sums as the first member of an object. The percentage is cut off.
+/// Adds the sums as the first member of an object. The percentage is rounded down.
 pub(crate) fn add_sums(text: &mut Vec<u8>, detected: u32, total: u32) -> Result<(), AllocError>
     requires { 0 < total }
     ensures { OnOk result (text.new.items ≡ text.old.items

@@ -24,12 +24,12 @@ use std::sync::Wait;
 use std::thread::Threads;
 
 /// Reads a circuit and tests for it, and writes a table of how many faults of a model each number
-/// of tests detects: a row for each count from 0 to `most`, of which the last has the faults that
-/// at least `most` tests detect.
+/// of tests detects. It has a row for each count from 0 to `most`. The last row counts the faults
+/// that at least `most` tests detect.
 ///
 /// # Errors
 ///
-/// The same as of `report::histogram_text_in`.
+/// The errors of `report::histogram_text_in`.
 pub fn histogram_table_in<R: Threads + Wait, W: Out>(
     rt: &R,
     alloc: Global,
@@ -109,7 +109,7 @@ fn count_reached(counts: &[u32], most: u32) -> u32
     counts.iter().filter(|count| most <= **count).count() as u32
 }
 
-/// Returns the rows of the counts from 0 on, of which each has its number of faults.
+/// Returns the rows of the counts from 0 on, each with its number of faults.
 fn count_rows(alloc: Global, faults: &[u32], format: Format) -> Result<Vec<u8>, AllocError>
     ensures { IfOk result (λ rows. rows.items ≡ count_rows format faults.now) }
 {
@@ -171,7 +171,7 @@ fn counts_csv(alloc: Global, rows: &[u8]) -> Result<Vec<u8>, AllocError>
     Ok(text)
 }
 
-/// Returns the object of the sums and of an array of the rows, whose first loses its comma.
+/// Returns the object of the sums and of an array of the rows. The first row loses its comma.
 fn counts_json(alloc: Global, reached: u32, total: u32, rows: &[u8]) -> Result<Vec<u8>, AllocError>
     requires { 0 < total }
     ensures { IfOk result (λ text. text.items ≡ counts_json reached total rows.now) }

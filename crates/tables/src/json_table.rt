@@ -132,7 +132,7 @@ pub(crate) fn add_pieces(rows: &mut Vec<u8>, pieces: &[&str]) -> Result<(), Allo
     Ok(())
 }
 
-/// Writes the object of a table: the sums, and an array of the rows, whose first loses its comma.
+/// Writes the object of a table: the sums, and an array of the rows. The first row loses its comma.
 pub(crate) fn put_json<W: Out>(
     column: &Column<'_>,
     faults: u32,
@@ -212,7 +212,7 @@ fn put_sums<W: Out>(column: &Column<'_>, faults: u32, out: &mut W) -> Result<(),
     }
 }
 
-/// How many hundredths of a percent a part is of a whole, cut off.
+/// Returns how many hundredths of a percent a part is of a whole, rounded down.
 pub(crate) fn hundredths(part: u32, whole: u32) -> u64
     requires { 0 < whole }
     ensures { result ≡ 10000 * part / whole }
@@ -220,7 +220,7 @@ pub(crate) fn hundredths(part: u32, whole: u32) -> u64
     10_000 * u64::from(part) / u64::from(whole)
 }
 
-/// Writes the sums of a run. The percentage is cut off.
+/// Writes the sums of a run. The percentage is rounded down.
 fn put_coverage<W: Out>(detected: u32, faults: u32, out: &mut W) -> Result<(), OutFailed>
     requires { 0 < faults }
     ensures { Writes result (W.seen out.old) (W.seen out.new) (coverage_object detected faults) }

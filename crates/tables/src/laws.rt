@@ -13,8 +13,8 @@ ghost use Rattle.tables.specs.Tables.{IsFirstTableOf, first_column, table_text};
 
 use part_files::merged_firsts;
 
-/// A merge of the part files of a run gives the table of the run, over the faults of its circuit.
-/// The conditions are those of [`part_files::merged_report`].
+/// States that a merge of the part files of a run gives the table of the run, for the faults of its
+/// circuit. The conditions are as in [`part_files::merged_report`].
 pub fn merged_table()
     ensures { (run : PartedRun) (first : List ℕ) (others : List (List ℕ)) (merged : MergedRun)
         (lines : Lines) (format : Format) (c : List Statement) → IsSomePartOf run first

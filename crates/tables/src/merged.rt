@@ -24,7 +24,7 @@ use std::alloc::Global;
 /// # Errors
 ///
 /// [`SimFault::Memory`] if there is no memory; nothing was written. [`SimFault::Report`] if the
-/// output takes nothing more; a beginning of the table went out.
+/// output failed; it has a beginning of the table.
 pub fn write_merged_table<W: Out>(
     alloc: Global,
     merged: &Merged<'_>,

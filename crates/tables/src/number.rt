@@ -1,11 +1,11 @@
-//! Numbers of a row, and words for none.
+//! Numbers of a row, and words for a missing number.
 
 ghost use Rattle.std.specs.Prelude.{◌≡◌};
 ghost use Rattle.tables.specs.Tables.{number_or};
 
 use itoa::Buffer;
 
-/// Returns a number as a text, or the word for none.
+/// Returns a number as a text, or the word for a missing number.
 pub(crate) fn number_text<'a>(number: Option<u64>, none: &'a str, buffer: &'a mut Buffer) -> &'a str
     ensures { result.now ≡ number_or none.now number }
 {
@@ -15,7 +15,7 @@ pub(crate) fn number_text<'a>(number: Option<u64>, none: &'a str, buffer: &'a mu
     }
 }
 
-/// Returns the same number.
+/// Returns the same number with more bits.
 pub(crate) fn widened(number: Option<u32>) -> Option<u64>
     ensures { result ≡ number }
 {

@@ -53,7 +53,7 @@ pub(crate) fn reason_csv(
     text_of(writer)
 }
 
-/// Returns the reason of the fault of a number.
+/// Returns the reason of the fault with a number.
 fn reason_at(reasons: &[Option<Reason>], fault: u32) -> Option<Reason>
     requires { fault < length reasons.now }
     ensures { slice_get reasons.now fault ≡ Some result }
@@ -110,7 +110,7 @@ fn put_record<'a>(
     ];
     match writer.write_fields(&fields) {
         Ok(()) => Ok(()),
-        // A vector refuses bytes for want of memory alone.
+        // A vector only refuses bytes if there is no memory.
         Err(_) => Err(AllocError),
     }
 }

@@ -24,12 +24,12 @@ use undetected::reasons;
 use workers::Verdicts;
 
 /// Reads a circuit and tests for it, and writes a table of the faults of a model that no test
-/// detects, each with the reason why none does. The reason is the last column, or the last member
-/// of each object.
+/// detects. Each has the reason why no test detects it. The reason is the last column, or the last
+/// member of each object.
 ///
 /// # Errors
 ///
-/// The same as of [`crate::run_table_watched`], which also describes the split and the gate.
+/// The errors of [`crate::run_table_watched`], which also describes the split and the gate.
 pub fn reasons_table_watched<R: Threads + Wait, G: Watch + Sync, W: Out>(
     rt: &R,
     alloc: Global,
@@ -80,8 +80,8 @@ fn write_run<R: Threads + Wait, G: Watch + Sync, W: Out>(
     write_table(alloc, job, &verdicts, reasons.as_slice(), format, out)
 }
 
-/// Writes the table of a job's undetected faults. Its text is made first, so an output gets a table
-/// or a beginning of one, or nothing if memory is refused.
+/// Writes the table of a job's undetected faults. It makes the whole text first, so an output gets
+/// a table or a beginning of one, or nothing if memory is refused.
 fn write_table<W: Out>(
     alloc: Global,
     job: &Job,

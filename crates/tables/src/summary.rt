@@ -23,14 +23,14 @@ pub struct Summary<'a> {
     /// The bytes of the test file, of which the summary has the SHA-256.
     pub tests: &'a [u8],
     pub counts: RunCounts,
-    /// How many undetected faults have each reason, if the run writes reasons.
+    /// The number of undetected faults for each reason, if the run writes reasons.
     pub reasons: Option<ReasonCounts>,
     pub workers: u32,
-    /// How long the run took, if there is a clock.
+    /// The time that the run took, if there is a clock.
     pub milliseconds: Option<u64>,
 }
 
-/// Returns the summary of a run as a JSON object, a member a line.
+/// Returns the summary of a run as a JSON object, one member on each line.
 pub fn summary_text(alloc: Global, summary: &Summary<'_>) -> Result<Vec<u8>, AllocError>
     ensures { IfOk result (λ text. text.items ≡ summary_text summary.now) }
 {
@@ -53,15 +53,15 @@ pub fn summary_text(alloc: Global, summary: &Summary<'_>) -> Result<Vec<u8>, All
     Ok(text)
 }
 
-/// The word of a truth value.
+/// Returns the word of a truth value.
 fn truth_text(is_true: bool) -> &'static str
     ensures { result.now ≡ truth_text is_true }
 {
     if is_true { "true" } else { "false" }
 }
 
-/// Adds what was run: the version of the program, whether it was proved, the name of the model, the
-/// sums of both texts and the number of tests.
+/// Adds the inputs of the run: the version of the program, whether it was proved, the name of the
+/// model, the sums of both files and the number of tests.
 fn add_inputs<'a>(
     text: &mut Vec<u8>,
     version: &'a str,
@@ -91,7 +91,7 @@ fn add_inputs<'a>(
     add_pieces(text, &pieces)
 }
 
-/// Adds how many faults and classes there are, and how many of them a test detects.
+/// Adds the numbers of faults and classes, and how many of them a test detects.
 fn add_counts(text: &mut Vec<u8>, counts: RunCounts) -> Result<(), AllocError>
     ensures { OnOk result (text.new.items ≡ text.old.items ++ counts_text counts) }
 {
@@ -105,7 +105,7 @@ fn add_counts(text: &mut Vec<u8>, counts: RunCounts) -> Result<(), AllocError>
 }
 
 /// Adds a member for a number of faults or classes and the number of them that a test detects. The
-/// percentage is cut off.
+/// percentage is rounded down.
 fn add_found(text: &mut Vec<u8>, member: &str, detected: u32, total: u32) -> Result<(), AllocError>
     ensures { OnOk result (text.new.items
         ≡ text.old.items ++ (member.now ++ found_text detected total)) }
@@ -136,7 +136,7 @@ fn add_found(text: &mut Vec<u8>, member: &str, detected: u32, total: u32) -> Res
     add_pieces(text, &pieces)
 }
 
-/// Adds how many undetected faults have each reason, or `null` if the run writes no reasons.
+/// Adds the number of undetected faults for each reason, or `null` if the run writes no reasons.
 fn add_reasons(text: &mut Vec<u8>, reasons: Option<ReasonCounts>) -> Result<(), AllocError>
     ensures { OnOk result (text.new.items ≡ text.old.items ++ reasons_text reasons) }
 {
@@ -158,7 +158,7 @@ fn add_reasons(text: &mut Vec<u8>, reasons: Option<ReasonCounts>) -> Result<(), 
     add_pieces(text, &pieces)
 }
 
-/// Adds how many workers ran for how long, and the end of the object.
+/// Adds the number of workers and the time of the run, and the end of the object.
 fn add_effort(text: &mut Vec<u8>, workers: u32, milliseconds: Option<u64>) -> Result<(), AllocError>
     ensures { OnOk result (text.new.items ≡ text.old.items ++ effort_text workers milliseconds) }
 {

@@ -34,8 +34,8 @@ pub enum Format {
     Json,
 }
 
-/// Writes a table of faults. Its text is made first, so an output gets a table or a beginning of
-/// one, or nothing where memory is refused.
+/// Writes a table of faults. It makes the whole text first, so an output gets a table or a
+/// beginning of one, or nothing if memory is refused.
 pub(crate) fn write_table<W: Out>(
     alloc: Global,
     circuit: &Circuit,
@@ -106,8 +106,9 @@ fn write_json<W: Out>(
     Ok(())
 }
 
-/// Reads a circuit, and writes a table of the faults of a model with the class of each. It fails as
-/// `report::faults_text_in` does.
+/// Reads a circuit, and writes a table of the faults of a model with the class of each.
+///
+/// It fails as `report::faults_text_in` does.
 pub fn faults_table_in<W: Out>(
     alloc: Global,
     model: Model,
@@ -141,10 +142,11 @@ fn write_classes<W: Out>(
     write_table(alloc, circuit, &list, &column, format, out)
 }
 
-/// Reads a circuit and tests for it, runs them by workers in threads of their own, and writes a
-/// table of the faults of a model with the first test that detects each: with [`Lines::Undetected`]
-/// only of the undetected faults, and else of all. It fails as `report::simulate_text_in` does, in
-/// the same order.
+/// Reads a circuit and tests for it, and writes a table of the faults of a model with the first
+/// test that detects each. Workers in threads of their own run the tests. With
+/// [`Lines::Undetected`] only the undetected faults have a row, and else all have one.
+///
+/// It fails as `report::simulate_text_in` does, in the same order.
 pub fn run_table_in<R: Threads + Wait, W: Out>(
     rt: &R,
     alloc: Global,
@@ -167,9 +169,10 @@ pub fn run_table_in<R: Threads + Wait, W: Out>(
     )
 }
 
-/// Writes the table that [`run_table_in`] writes, however the run is split. It calls the gate when
-/// the run begins and when it ends, and asks it before each piece of work. It is refused as
-/// `report::curve_text_watched` is.
+/// Writes the table that [`run_table_in`] writes, for each split of the run. It calls the gate when
+/// the run begins and when it ends, and asks it before each piece of work.
+///
+/// It fails as `report::curve_text_watched` does.
 pub fn run_table_watched<R: Threads + Wait, G: Watch + Sync, W: Out>(
     rt: &R,
     alloc: Global,
