@@ -1,11 +1,11 @@
--- What is made of a run.
+-- The outputs of a run.
 use Rattle.std.specs.Prelude.{◌<◌}
 use Rattle.job_loading.specs.Splits.{HasSomePart}
 use Rattle.command_line.specs.declared.form.Form.{Form}
 use Rattle.command_line.specs.declared.form.Form.TheVariants.{Report, Reasons, Part, Table}
 use Rattle.command_line.specs.declared.form.Form.TheVariants.{ReasonTable, Curve, CurveTable}
 
--- a number of parts isn't 0, and a single part is among its parts
+-- the number of parts isn't 0, and a single part is one of them
 abbrev pub HasParts : Form → Type 0
 HasParts (Report contents split) = HasSomePart split
 HasParts (Reasons classes split) = HasSomePart split

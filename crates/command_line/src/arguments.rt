@@ -41,7 +41,7 @@ fn read_arguments<R: Env + AllocGlobal>(rt: &R) -> Result<Vec<String>, CommandEr
     }
 }
 
-/// Does what arguments ask for on the files of the system.
+/// Runs arguments on the files of the system.
 fn run_on_files<R: HasFiles + Clock + AllocGlobal + Threads + Wait, W: Write + Drop, E: Out + Send>(
     rt: &R,
     arguments: &[String],
@@ -61,7 +61,7 @@ fn words_of<'a>(alloc: Global, arguments: &'a [String]) -> Result<Vec<&'a str>, 
     arguments.iter().map(|word| word.as_str()).collect(alloc)
 }
 
-/// Does what words ask for on the files of the system, with a buffer before the output.
+/// Runs words on the files of the system, with a buffer before the output.
 fn run_with_buffer<
     'a,
     R: HasFiles + Clock + AllocGlobal + Threads + Wait,

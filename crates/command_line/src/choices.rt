@@ -9,7 +9,7 @@ use std::alloc::{AllocError, Global};
 /// The greatest number of parts of a run.
 pub(crate) const MAX_PARTS: u32 = 65_536;
 
-/// The greatest number of tests that are counted of a fault.
+/// The greatest number up to which the detections of a fault are counted.
 const MAX_DETECTIONS: u32 = 65_536;
 
 /// The description of the models in the long help.
@@ -58,10 +58,10 @@ pub(crate) enum Choice {
     Format,
     /// The format of a curve.
     CurveFormat,
-    /// The coverage of the classes of merged part texts, and the circuit that it wants.
+    /// The coverage of the classes of merged part files, and the circuit that it needs.
     MergeClasses,
     MergeBench,
-    /// The format of merged part texts.
+    /// The format of merged part files.
     MergeFormat,
     FailUnder,
     /// The same for a run that may be of one part, or count detections.
@@ -109,7 +109,7 @@ fn workers_option<'a>(alloc: Global, help: &'a str) -> Arg<'a> {
 /// The words that `--parts` takes in place of a number.
 static PARTS_WORDS: [&str; 1] = [AUTO];
 
-/// The option `--parts N`, where its value is a word or a number.
+/// Returns the option `--parts N`, whose value is a word or a number.
 fn parts_option<'a>(alloc: Global, auto: bool) -> Arg<'a> {
     let option = Arg::new(alloc, "parts")
         .long("parts")
@@ -143,7 +143,7 @@ fn detections_option<'a>(alloc: Global) -> Result<Arg<'a>, AllocError> {
         .conflicts_with("classes")
 }
 
-/// The flag `--histogram`.
+/// Returns the flag `--histogram`.
 fn histogram_flag<'a>(alloc: Global) -> Result<Arg<'a>, AllocError> {
     Arg::new(alloc, "histogram")
         .long("histogram")
@@ -202,7 +202,7 @@ fn pairs_flag<'a>(alloc: Global) -> Arg<'a> {
         .help("Write each test and its capture test: launch-on-capture pairs")
 }
 
-/// The flag `--numbers` of `compact`.
+/// Returns the flag `--numbers` of `compact`.
 fn numbers_flag<'a>(alloc: Global) -> Arg<'a> {
     Arg::new(alloc, "numbers")
         .long("numbers")
@@ -229,7 +229,7 @@ fn test_order_option<'a>(alloc: Global) -> Arg<'a> {
         .help("The order of the kept tests")
 }
 
-/// The option `--bench FILE` of `merge`.
+/// Returns the option `--bench FILE` of `merge`.
 fn merge_bench_option<'a>(alloc: Global) -> Arg<'a> {
     let help = "The circuit of the run, for --classes and --format";
     file_option(alloc, "bench", 'b', help).required(false)
@@ -260,14 +260,14 @@ fn run_format_option<'a>(alloc: Global) -> Result<Arg<'a>, AllocError> {
         .conflicts_with("classes")
 }
 
-/// The option `--format FORMAT` of `merge`.
+/// Returns the option `--format FORMAT` of `merge`.
 fn merge_format_option<'a>(alloc: Global) -> Result<Arg<'a>, AllocError> {
     format_option(alloc)
         .help(RUN_FORMAT_HELP)
         .conflicts_with("classes")
 }
 
-/// The option `--fail-under P`.
+/// Returns the option `--fail-under P`.
 fn fail_under_option<'a>(alloc: Global) -> Arg<'a> {
     Arg::new(alloc, "fail-under")
         .long("fail-under")
@@ -275,14 +275,14 @@ fn fail_under_option<'a>(alloc: Global) -> Arg<'a> {
         .help("End with status 4 if the coverage of the faults is below P percent")
 }
 
-/// The option `--fail-under P` of `run`.
+/// Returns the option `--fail-under P` of `run`.
 fn run_fail_under_option<'a>(alloc: Global) -> Result<Arg<'a>, AllocError> {
     fail_under_option(alloc)
         .conflicts_with("part")?
         .conflicts_with("detections")
 }
 
-/// The option `--summary FILE`.
+/// Returns the option `--summary FILE`.
 fn summary_option<'a>(alloc: Global) -> Result<Arg<'a>, AllocError> {
     Arg::new(alloc, "summary")
         .long("summary")
@@ -315,7 +315,7 @@ fn part_texts<'a>(alloc: Global) -> Arg<'a> {
         .help("The part files of one run, in any order")
 }
 
-/// What some options depend on.
+/// The settings that some options depend on.
 #[derive(Clone, Copy)]
 pub(crate) struct Setting<'a> {
     /// The help of `--workers N`.

@@ -24,10 +24,12 @@ use std::fmt::Write;
 use std::sync::Wait;
 use std::thread::Threads;
 
-/// Does what the words ask for and answers the status: 0 done or helped, 1 a text is refused, 2 the
-/// command line is refused, 3 a file, the output, memory or a thread is refused, 4 all was written
-/// and the coverage is below a threshold. `words[0]` is the program's name. It joins the threads
-/// that it starts.
+/// Runs words and returns the status. `words[0]` is the program's name. It joins the threads that
+/// it starts.
+///
+/// The status is 0 for success or help, 1 for an error of a file's contents, and 2 for an error of
+/// the command line. It is 3 if a file, the output, memory or a thread failed, and 4 if all was
+/// written and the coverage is below a threshold.
 pub fn run_words<'a, R: Threads + Wait, S: Source, W: Out, E: Out + Send>(
     rt: &R,
     alloc: Global,
@@ -44,8 +46,8 @@ pub fn run_words<'a, R: Threads + Wait, S: Source, W: Out, E: Out + Send>(
     }
 }
 
-/// The same with the help of `--workers N`. Whether the words have one for `--parts` decides on the
-/// parser of that option.
+/// Runs words with the help of `--workers N`. If the words have a word for `--parts`, that option
+/// gets another parser.
 fn run_with_help<'a, R: Threads + Wait, S: Source, W: Out, E: Out + Send>(
     rt: &R,
     alloc: Global,
@@ -209,7 +211,7 @@ pub(crate) fn read_file<'a, S: Source>(
     }
 }
 
-/// Which faults the command line asks for.
+/// Returns the lines of faults that the command line requests.
 pub(crate) fn read_lines<'a>(matches: &ArgMatches<'a>) -> Result<Lines, CommandError<'a>> {
     match (matches.get_flag("list"), matches.get_flag("undetected")) {
         (false, false) => Ok(Lines::Omitted),

@@ -15,8 +15,8 @@ use std::fmt::Write;
 use std::sync::Wait;
 use std::thread::Threads;
 
-/// `compact`: both files are read before either text is looked at. How many tests are kept goes to
-/// `err`.
+/// Runs `compact`. It reads both files before it checks either. It prints the number of kept tests
+/// to `err`.
 pub(crate) fn do_compact<'a, R: Threads + Wait, S: Source, W: Out, E: Out>(
     rt: &R,
     alloc: Global,
@@ -45,7 +45,7 @@ pub(crate) fn do_compact<'a, R: Threads + Wait, S: Source, W: Out, E: Out>(
     }
 }
 
-/// Why tests stay in the order of the list.
+/// The reason why tests stay in the order of the list.
 const ONE_ORDER: &str = "with --model transition a test makes a pair with the one before it";
 
 /// Returns the order of the kept tests, if the model has it.
@@ -60,7 +60,7 @@ fn read_test_order<'a>(
     }
 }
 
-/// What the command line asks for of the tests that are kept.
+/// Returns the form of the kept tests that the command line requests.
 fn read_kept_form(matches: &ArgMatches<'_>) -> KeptForm {
     if matches.get_flag("numbers") {
         KeptForm::Numbers

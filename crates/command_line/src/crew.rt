@@ -5,14 +5,14 @@ use crate::status::CommandError;
 use clap::ArgMatches;
 use clap::parser::ValueSource;
 
-/// About how many bytes a bench file has for each signal.
+/// The approximate number of bytes that a bench file has for each signal.
 const BYTES_OF_A_SIGNAL: u64 = 24;
 
-/// About how many fault classes a circuit has for each signal.
+/// The approximate number of fault classes that a circuit has for each signal.
 const CLASSES_OF_A_SIGNAL: u64 = 3;
 
-/// A run is short if its classes times its blocks times its signals are fewer: it takes some
-/// milliseconds, and the start of threads would take longer than they save.
+/// A run is short if its classes times its blocks times its signals are below this number. Then it
+/// takes some milliseconds, and the start of threads would take longer than they save.
 const SHORT_RUN: u64 = 1 << 26;
 
 /// Returns the number of workers that share a run: the one that the command line names. Without

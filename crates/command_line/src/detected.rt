@@ -13,10 +13,10 @@ use std::sync::Wait;
 use std::thread::Threads;
 use tables::{Format, histogram_table_in};
 
-/// Why `--format` cannot be used with `--detections` alone.
+/// The reason why `--format` cannot be used with `--detections` but without `--histogram`.
 const NO_HISTOGRAM: &str = "give --histogram, too";
 
-/// Why `--list` cannot be used beside the table of a histogram.
+/// The reason why `--list` cannot be used beside the table of a histogram.
 const BESIDE_TABLE: &str = "give --list or --format, not both";
 
 /// Returns the format of the table of a histogram, and none for the program's own text. Other
@@ -32,8 +32,8 @@ fn read_histogram_format<'a>(matches: &ArgMatches<'a>) -> Result<Option<Format>,
     Ok(format)
 }
 
-/// `run --detections`: both files are read before either text is looked at. Nothing is kept of a
-/// piece of work, so with any number of parts their number has no limit.
+/// Runs `run --detections`. It reads both files before it checks either. It keeps nothing for a
+/// piece of work, so with a number of parts there is no limit on pieces.
 pub(crate) fn do_detections<'a, R: Threads + Wait, S: Source, W: Out>(
     rt: &R,
     alloc: Global,

@@ -64,7 +64,7 @@ pub(crate) enum Form {
 }
 
 impl Form {
-    /// Whether all classes are run, and not those of a part alone.
+    /// Returns whether all classes are run, and not only the classes of one part.
     fn is_whole(self) -> bool {
         !matches!(self, Form::Part { .. })
     }
@@ -116,8 +116,8 @@ pub(crate) fn write_form<'a, R: Threads + Wait, S: Source, W: Out, E: Out + Send
     }
 }
 
-/// Ends a run whose text is written, with what it found: writes the summary, if one is asked
-/// for, and compares the coverage with the threshold. A run of one part has neither.
+/// Ends a run whose text is written, with its results. It writes the summary, if one is requested,
+/// and compares the coverage with the threshold. A run of one part has neither.
 fn end_run<'a, S: Source>(
     alloc: Global,
     summary: Option<Request<'a>>,

@@ -16,7 +16,7 @@ use std::alloc::{AllocError, Global};
 use std::str::from_utf8;
 use tables::{Format, write_merged_table};
 
-/// What `merge` writes.
+/// The output of `merge`.
 #[derive(Clone, Copy)]
 enum Outcome {
     /// The report.
@@ -27,13 +27,13 @@ enum Outcome {
     Table(Format),
 }
 
-/// Why `--format` cannot be used without a circuit.
+/// The reason why `--format` cannot be used without a circuit.
 const NO_CIRCUIT: &str = "give --bench FILE, too: the circuit of the run";
 
-/// Why `--bench` cannot be used without an option that needs it.
+/// The reason why `--bench` cannot be used without an option that needs it.
 const NO_USE: &str = "give it with --classes, --format csv or --format json";
 
-/// Reads from the command line what to write.
+/// Reads from the command line the output that it requests.
 fn read_outcome<'a>(matches: &ArgMatches<'a>) -> Result<Outcome, CommandError<'a>> {
     let has_circuit = matches.get_str("bench").is_some();
     let classes = matches.get_flag("classes");
@@ -46,8 +46,9 @@ fn read_outcome<'a>(matches: &ArgMatches<'a>) -> Result<Outcome, CommandError<'a
     }
 }
 
-/// `merge`: reads one file after another. The names of the faults stay in the first text, and each
-/// other text is let go once its verdicts are taken over. It writes nothing before all is known.
+/// Runs `merge`. It reads one file after another. The names of the faults stay in the bytes of the
+/// first file. It frees each other file once its verdicts are taken over. It writes nothing before
+/// all is known.
 pub(crate) fn do_merge<'a, S: Source, W: Out>(
     alloc: Global,
     matches: &ArgMatches<'a>,
@@ -81,7 +82,7 @@ pub(crate) fn do_merge<'a, S: Source, W: Out>(
     check_threshold(threshold, merged.detected(), merged.total())
 }
 
-/// What the part text of the first file and those of the other files say together.
+/// Returns the merged verdicts of the part file that is read first and of the other part files.
 fn merge_files<'a, 't, S: Source>(
     alloc: Global,
     first: &'a str,
@@ -129,12 +130,12 @@ fn model_for<'a>(
     }
 }
 
-/// The model that a part text names, if it is one of the program's.
+/// Returns the model that a part file names, if it is a model of the program.
 fn model_of(header: &PartHeader<'_>) -> Option<Model> {
     model_named(from_utf8(header.model).ok()?)
 }
 
-/// Whether a part text is of a run of this bench text.
+/// Returns whether a part file is of a run of this bench file.
 fn is_of_bench(alloc: Global, header: &PartHeader<'_>, bench: &[u8]) -> Result<bool, AllocError> {
     let sum = sum_of(alloc, bench)?;
     Ok(sum.as_bytes() == header.bench)
@@ -148,7 +149,7 @@ fn read_circuit<'a>(alloc: Global, bench: &[u8]) -> Result<Circuit, CommandError
     }
 }
 
-/// The classes of the faults of a bench text under a model.
+/// Returns the classes of the circuit of a bench file under a model.
 fn read_classes<'a>(
     alloc: Global,
     model: Model,
@@ -176,7 +177,7 @@ fn write_faults<'a, W: Out>(
     }
 }
 
-/// Writes the report with the coverage of the classes, of which each circuit has some.
+/// Writes the report with the coverage of the classes. Each circuit has some class.
 fn write_classes<'a, W: Out>(
     alloc: Global,
     model: Model,
@@ -198,7 +199,7 @@ fn write_classes<'a, W: Out>(
 /// Writes the table of a merged run of a bench file under a model.
 ///
 /// If the part file at `path` has another number of faults than the circuit, the error names the
-/// first line that one of both lacks.
+/// first line that only one of them has.
 fn write_table<'a, W: Out>(
     alloc: Global,
     model: Model,

@@ -431,7 +431,7 @@ once.
 
 Each FILE is read whole. One FILE can be -, the standard input.";
 
-/// A command with options.
+/// Returns a command with options.
 fn with_options<'a>(
     alloc: Global,
     mut command: Command<'a>,
@@ -444,7 +444,7 @@ fn with_options<'a>(
     Ok(command)
 }
 
-/// The subcommand of a task.
+/// Returns the subcommand of a task.
 fn subcommand<'a>(
     alloc: Global,
     task: Task,
@@ -457,7 +457,7 @@ fn subcommand<'a>(
     with_options(alloc, command, task.choices(), setting)
 }
 
-/// The command line of the program.
+/// Returns the command line of the program.
 pub(crate) fn command_line<'a>(
     alloc: Global,
     setting: Setting<'a>,

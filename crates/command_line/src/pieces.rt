@@ -7,8 +7,8 @@ use input_check::{Answer, check_texts};
 use report::{RunFault, SimFault};
 use std::alloc::Global;
 
-/// The fault of a run of all classes of two texts: past the limit of pieces with what is too much,
-/// and in how many parts the run goes.
+/// Returns the error of a run of all classes of two files. An error of the limit of pieces also has
+/// the excess, and the number of parts in which the run fits.
 pub(crate) fn run_fault<'a>(
     alloc: Global,
     fault: SimFault,

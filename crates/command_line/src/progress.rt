@@ -8,12 +8,12 @@ use std::fmt::Write;
 use std::sync::Mutex;
 use std::sync::atomic::{AtomicU64, Ordering};
 
-/// One piece in this number is watched: if its class and its block have the same remainder. A note
-/// for each piece would cost more than some pieces do.
+/// The gate watches one piece in this number: it watches a piece if its class and its block have
+/// the same remainder. A note for each piece would cost more than some pieces do.
 const EVERY: u32 = 64;
 
 /// The number of watched pieces that worker 0 passes from one look at the figure to the next. They
-/// stand for 3,200,000 pieces, which take a tenth of a second if pieces take little work.
+/// stand for 3,200,000 pieces, which take 0.1 s if each takes little work.
 const BETWEEN: u64 = 50_000;
 
 /// The progress of a worker, from its watched pieces. Only the worker writes here, and there is
@@ -24,10 +24,10 @@ struct Place {
     settled: AtomicU64,
     /// The settled pieces of the parts that it has run.
     done: AtomicU64,
-    /// The classes of the part that it runs: the watched ones at block 0, where it comes to all of
-    /// them.
+    /// The classes of the part that it runs: the watched ones at block 0, because it comes to all
+    /// of them there.
     classes: AtomicU64,
-    /// The block at which it is.
+    /// The current block of the worker.
     block: AtomicU64,
     /// The watched pieces that it has passed.
     passed: AtomicU64,
@@ -46,7 +46,7 @@ impl Place {
         }
     }
 
-    /// Notes a piece on a block, of this number of blocks. A worker goes over the classes of a part
+    /// Notes a piece on a block, of this number of blocks. A worker visits the classes of a part
     /// block after block, so a block before the last one is in a new part.
     fn note(&self, block: u64, blocks: &AtomicU64) {
         let before = self.block.load(Ordering::SeqCst);
@@ -79,7 +79,7 @@ impl Place {
         self.done.store(done.saturating_add(part), Ordering::SeqCst);
     }
 
-    /// Returns whether it has passed enough pieces for another look at the figure.
+    /// Returns whether the worker has passed enough pieces for another look at the figure.
     fn is_time(&self) -> bool {
         let before = self.passed.fetch_add(1, Ordering::SeqCst);
         before % BETWEEN == BETWEEN - 1
@@ -93,7 +93,7 @@ struct Pen<'a, E> {
     alloc: Global,
     /// The figure that was drawn last.
     percent: u64,
-    /// Whether there is a line without an end.
+    /// Whether the last line has no end.
     open: bool,
 }
 
@@ -107,7 +107,7 @@ impl<'a, E: Out> Pen<'a, E> {
         }
     }
 
-    /// Draws that no piece is settled yet.
+    /// Draws that no piece is settled.
     fn draw_first(&mut self, pieces: u64) {
         self.put(0, pieces, 0, "");
     }
@@ -127,7 +127,7 @@ impl<'a, E: Out> Pen<'a, E> {
         self.open = false;
     }
 
-    /// Puts the line. A line that fails is left out.
+    /// Writes the line. It leaves out a line that fails.
     fn put(&mut self, settled: u64, pieces: u64, percent: u64, end: &str) {
         self.open = true;
         if let Ok(line) = line_of(self.alloc, settled, pieces, percent, end) {
@@ -144,12 +144,12 @@ impl<'a, E: Out> Pen<'a, E> {
     }
 }
 
-/// Puts a text. A text that fails is left out.
+/// Writes a text. It leaves out a text that fails.
 fn put_text<E: Out>(text: &str, err: &mut E) {
     let _ = write!(Formatted(err), "{text}");
 }
 
-/// Returns the line, which begins where the line before it began.
+/// Returns the line. It begins at the beginning of the line before it.
 fn line_of(
     alloc: Global,
     settled: u64,
@@ -218,7 +218,7 @@ impl<'a, E: Out> Progress<'a, E> {
         settled.saturating_mul(u64::from(EVERY)).min(pieces)
     }
 
-    /// Notes a watched piece. It is a function of its own, so that the other pieces only cost a
+    /// Notes a watched piece. This is a function of its own, so that each other piece only costs a
     /// comparison.
     #[inline(never)]
     fn note(&self, worker: u32, block: u32) {

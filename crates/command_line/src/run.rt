@@ -35,7 +35,7 @@ fn read_form<'a>(matches: &ArgMatches<'a>) -> Result<Form, CommandError<'a>>
     }
 }
 
-/// A report, of the undetected faults with their reasons if `why` is set.
+/// Returns the form of a report, of the undetected faults with their reasons if `why` is set.
 fn report_form<'a>(contents: Contents, split: Split, why: bool) -> Result<Form, CommandError<'a>>
     requires { HasSomePart split }
     ensures { IfOk result HasParts }
@@ -50,7 +50,7 @@ fn report_form<'a>(contents: Contents, split: Split, why: bool) -> Result<Form, 
     }
 }
 
-/// A table, of the undetected faults with their reasons if `why` is set.
+/// Returns the form of a table, of the undetected faults with their reasons if `why` is set.
 fn table_form<'a>(
     lines: Lines,
     format: Format,
@@ -71,10 +71,10 @@ fn table_form<'a>(
     }
 }
 
-/// Why `--parts` cannot be used beside `--part`.
+/// The reason why `--parts` cannot be used beside `--part`.
 const BESIDE_PART: &str = "give --part or --parts, not both";
 
-/// Why the text of `--part` cannot be used.
+/// The reason why the text of `--part` cannot be used.
 const NO_PART: &str = "give I/N: part I, from 1 to N, of N parts, at most 65536";
 
 /// Returns the part that a text `I/N` names, I from 1.

@@ -1,4 +1,4 @@
-//! The option `--parts`: into how many parts a run is cut.
+//! The option `--parts`: the number of parts of a run.
 
 ghost use Rattle.std.specs.Prelude.{IfOk};
 ghost use Rattle.job_loading.specs.Splits.{HasSomePart};
@@ -7,11 +7,11 @@ use crate::status::CommandError;
 use clap::ArgMatches;
 use report::Split;
 
-/// The word that stands for as many parts as it takes.
+/// The word for as many parts as the run needs.
 pub(crate) const AUTO: &str = "auto";
 
-/// Whether the words give this one for a number of parts. The parser of a number takes no word, so
-/// the option has another one then.
+/// Returns whether the words have this word as the number of parts. The parser of a number takes no
+/// word, so the option has another parser then.
 pub(crate) fn is_auto(words: &[&str]) -> bool {
     let mut is_value = false;
     for word in words {
@@ -23,7 +23,7 @@ pub(crate) fn is_auto(words: &[&str]) -> bool {
     false
 }
 
-/// Into how many parts the command line cuts a run.
+/// Returns the parts into which the command line splits a run.
 pub(crate) fn read_split<'a>(matches: &ArgMatches<'a>) -> Result<Split, CommandError<'a>>
     ensures { IfOk result HasSomePart }
 {

@@ -1,4 +1,4 @@
-//! Faults of a command, and their words.
+//! Errors of a command, and their words.
 
 ghost use Rattle.std.specs.Prelude.{◌<◌, ◌≤◌};
 
@@ -11,32 +11,32 @@ use std::fmt::Write;
 /// The status of a coverage that is below the threshold.
 pub(crate) const MISSED: u8 = 4;
 
-/// Why a command was not done, or what is wrong where it was.
+/// The error of a command that failed, or the shortfall of a command that succeeded.
 #[derive(Clone, Copy)]
 pub(crate) enum CommandError<'a> {
     /// An argument of the process is no text.
     NoText,
-    /// The command line lacks an option, or what it has there doesn't do.
+    /// The command line lacks an option, or has a value that the option doesn't take.
     Misused(&'a str),
-    /// What the command line has for an option doesn't do, and why.
+    /// The command line has a value that an option doesn't take, for this reason.
     Unfit(&'a str, &'static str),
-    /// The file at a path is refused.
+    /// The file at a path cannot be read.
     Unreadable(&'a str),
     /// The file at a path cannot be written.
     Unwritten(&'a str),
-    /// A text is refused, or the work on it, or the output.
+    /// A file has an error, or the work on it or the output failed.
     Sim(SimFault),
     /// A run has too many pieces, by this excess.
     TooManyPieces(SimFault, Excess),
-    /// The part text in the file at a path is refused.
+    /// The part file at a path has an error.
     Part(&'a str, MergeFault),
-    /// Part texts together are refused.
+    /// Part files don't go together.
     Merge(MergeFault),
     /// All was written, and the coverage is below this percentage.
     Missed(&'a str),
 }
 
-/// The output takes nothing more.
+/// The output fails.
 pub(crate) const UNWRITTEN: CommandError<'static> = CommandError::Sim(SimFault::Report(
     ReportFault::Write,
 ));
@@ -44,7 +44,7 @@ pub(crate) const UNWRITTEN: CommandError<'static> = CommandError::Sim(SimFault::
 /// Memory is refused.
 pub(crate) const NO_MEMORY: CommandError<'static> = CommandError::Sim(SimFault::Memory);
 
-/// Returns the error of the part text at a path. A refused allocation is no error of the text.
+/// Returns the error of the part file at a path. A refused allocation is no error of the file.
 pub(crate) fn part_fault(path: &str, fault: MergeFault) -> CommandError<'_> {
     match fault {
         MergeFault::Memory | MergeFault::Part(PartFault::Memory) => NO_MEMORY,
@@ -52,7 +52,7 @@ pub(crate) fn part_fault(path: &str, fault: MergeFault) -> CommandError<'_> {
     }
 }
 
-/// Returns the error of part texts together. A refused allocation is no error of the texts.
+/// Returns the error of part files that are merged. A refused allocation is no error of the files.
 pub(crate) fn merge_fault(fault: MergeFault) -> CommandError<'static> {
     match fault {
         MergeFault::Memory | MergeFault::Part(PartFault::Memory) => NO_MEMORY,
@@ -60,8 +60,8 @@ pub(crate) fn merge_fault(fault: MergeFault) -> CommandError<'static> {
     }
 }
 
-/// Writes an error on one line and what is known beside it on a second one, and returns its status,
-/// also if the lines cannot be written.
+/// Writes an error on one line, and its details on a second line. Returns its status, also if the
+/// lines cannot be written.
 pub(crate) fn answer_fault<E: Out>(fault: &CommandError<'_>, err: &mut E) -> u8
     ensures failed { 0 < result }
     ensures few { result ≤ 4 }

@@ -1,4 +1,4 @@
-//! The option `--summary FILE`: what a run found, in numbers, for scripts.
+//! The option `--summary FILE`: the results of a run in numbers, for scripts.
 
 use crate::status::{CommandError, NO_MEMORY};
 use clap::ArgMatches;
@@ -6,21 +6,21 @@ use command_basics::{Source, VERSION, WriteFault, is_standard_input};
 use std::alloc::{AllocError, Global};
 use tables::{Summary, summary_text};
 
-/// What the version ends in if the program is not proved.
+/// The end of the version if the program is not proved.
 const UNPROVED: &str = " (unproved)";
 
-/// Why the summary cannot go to a path.
+/// The reason why the summary cannot go to a path.
 const NO_FILE: &str = "give a file that is no input";
 
-/// A summary that the command line asks for.
+/// A summary that the command line requests.
 #[derive(Clone, Copy)]
 pub(crate) struct Request<'a> {
     path: &'a str,
-    /// When the command began, in milliseconds, if there is a clock.
+    /// The time at which the command began, in milliseconds, if there is a clock.
     began: Option<u64>,
 }
 
-/// The summary that the command line asks for, if it asks for one.
+/// Returns the summary that the command line requests, if it requests one.
 pub(crate) fn read_request<'a, S: Source>(
     matches: &ArgMatches<'a>,
     files: &S,
@@ -35,7 +35,7 @@ pub(crate) fn read_request<'a, S: Source>(
     Ok(Some(Request { path, began }))
 }
 
-/// Whether the command line names this path for a file that is read.
+/// Returns whether the command line names this path for an input file.
 fn is_input(matches: &ArgMatches<'_>, path: &str) -> bool {
     for option in ["bench", "tests"] {
         if matches.get_str(option).is_some_and(|input| input == path) {
@@ -45,7 +45,7 @@ fn is_input(matches: &ArgMatches<'_>, path: &str) -> bool {
     false
 }
 
-/// The version of the program, and whether it is proved.
+/// Returns the version of the program, and whether it is proved.
 pub(crate) fn version_and_proof() -> (&'static str, bool) {
     match VERSION.strip_suffix(UNPROVED) {
         Some(version) => (version, false),
@@ -54,7 +54,7 @@ pub(crate) fn version_and_proof() -> (&'static str, bool) {
 }
 
 impl<'a> Request<'a> {
-    /// The milliseconds since the command began, if there is a clock.
+    /// Returns the milliseconds since the command began, if there is a clock.
     pub(crate) fn milliseconds<S: Source>(self, files: &S) -> Option<u64> {
         let began = self.began?;
         Some(files.milliseconds()?.saturating_sub(began))

@@ -1,4 +1,4 @@
-//! What a run finds, as its gate sees it.
+//! The results of a run, as its gate sees them.
 
 ghost use Rattle.workers.specs.Verdict.{AreFirsts};
 
@@ -6,14 +6,14 @@ use block_sim::Job;
 use report::{Gate, ReasonCounts, RunCounts, Verdicts, Watch, count_run};
 use std::sync::Mutex;
 
-/// What a gate has seen of its run.
+/// The results that a gate has seen of its run.
 #[derive(Clone, Copy, Debug, PartialEq, Eq)]
 pub(crate) struct Found {
     pub(crate) counts: Option<RunCounts>,
     pub(crate) reasons: Option<ReasonCounts>,
 }
 
-/// What a run finds, once it is known.
+/// The results of a run, once they are known.
 #[derive(Drop)]
 pub(crate) struct Tally {
     found: Mutex<Found>,
@@ -29,7 +29,7 @@ impl Tally {
         }
     }
 
-    /// Takes note of the verdicts on a job.
+    /// Notes the verdicts on a job.
     pub(crate) fn note(&self, job: &Job, verdicts: &Verdicts)
         requires { AreFirsts job.now.list.model job.now.circuit job.now.tests.tests
             verdicts.now.firsts }
@@ -40,21 +40,21 @@ impl Tally {
         }
     }
 
-    /// Takes note of how many faults have each reason.
+    /// Notes the number of faults for each reason.
     pub(crate) fn note_reasons(&self, reasons: ReasonCounts) {
         if let Some(mut found) = self.found.try_lock() {
             found.reasons = Some(reasons);
         }
     }
 
-    /// What was seen of the run.
+    /// Returns the results of the run that were noted.
     pub(crate) fn found(self) -> Found {
         let Tally { found } = self;
         found.into_inner()
     }
 }
 
-/// A gate that lets every piece pass, and takes note of what the run finds.
+/// A gate that lets every piece pass, and notes the results of the run.
 #[derive(Clone, Copy)]
 pub(crate) struct Quiet<'t> {
     tally: &'t Tally,

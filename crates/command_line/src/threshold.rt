@@ -1,20 +1,21 @@
-//! The option `--fail-under P`: a coverage that is to be reached.
+//! The option `--fail-under P`: the least coverage of a successful run.
 
 ghost use Rattle.std.specs.Prelude.{◌*◌, ◌<◌, ◌≤◌, ◌↔◌, IsTrue};
 
 use crate::status::CommandError;
 use clap::ArgMatches;
 
-/// How many decimals a percentage may have.
+/// The greatest number of decimals of a percentage.
 const DECIMALS: usize = 6;
 
 /// A hundred percent, in millionths of a percent.
 const HUNDRED: u64 = 100_000_000;
 
-/// Why a text is no percentage.
+/// The reason why a text is no percentage.
 const NO_PERCENTAGE: &str = "give a percentage from 0 to 100, with at most 6 decimals";
 
-/// A coverage that is to be reached, in millionths of a percent, and as it is written.
+/// The least coverage of a successful run, in millionths of a percent, and in the words of the
+/// command line.
 #[derive(Clone, Copy)]
 pub(crate) struct Threshold<'a> {
     pub(crate) text: &'a str,
@@ -31,7 +32,7 @@ impl<'a> Threshold<'a> {
     }
 }
 
-/// The threshold that the command line names, if it names one.
+/// Returns the threshold that the command line names, if it names one.
 pub(crate) fn read_threshold<'a>(
     matches: &ArgMatches<'a>,
 ) -> Result<Option<Threshold<'a>>, CommandError<'a>> {
@@ -44,7 +45,7 @@ pub(crate) fn read_threshold<'a>(
     }
 }
 
-/// Refuses `detected` of `faults` faults if the threshold is missed.
+/// Fails if `detected` of `faults` faults miss the threshold.
 pub(crate) fn check_threshold<'a>(
     threshold: Option<Threshold<'a>>,
     detected: u32,
@@ -56,7 +57,7 @@ pub(crate) fn check_threshold<'a>(
     }
 }
 
-/// The millionths of a percent in a text of digits, with or without a point and decimals.
+/// Returns the millionths of a percent in a text of digits, with or without a point and decimals.
 fn millionths_of(text: &str) -> Option<u64> {
     let (whole, decimals) = match text.split_once('.') {
         Some((whole, decimals)) => (whole, decimals),
@@ -76,7 +77,7 @@ fn millionths_of(text: &str) -> Option<u64> {
     )
 }
 
-/// The number in a text that has digits alone, one at least.
+/// Returns the number in a text that has only digits, and at least one.
 fn number_of(text: &str) -> Option<u64> {
     if text.bytes().all(|byte| byte.is_ascii_digit()) {
         text.parse::<u64>().ok()
