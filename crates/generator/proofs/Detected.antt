@@ -56,7 +56,7 @@ detects_along c xs ys f t same is = (
   looks_along c xs ys f.model f.line f.stuck t same is.3,
 )
 
--- a list that begins with the same two rows detects as early
+-- a list that begins with the same two rows also detects a fault early
 pub early_along : (m : Model) (c : List Statement) (xs ys : List (List Bool))
     → ((k : ℕ) (row : List Bool) → k < 2 → slice_get xs k ≡ Some row → slice_get ys k ≡ Some row)
     → DetectsEarly m c xs → DetectsEarly m c ys
@@ -90,9 +90,9 @@ some_among c xs ys same (f, t, listed, is) =
     let at = same t is.0 is.1 in
     (f, at.0, listed, stuck_at c ys f at.0 is.0 listed at.1 is.2)
 
--- ---- what is kept of a round
+-- ---- the kept tests of a round
 
--- a fault that looks back at the model of its list
+-- a fault that depends on the test before as its list's model does
 own_look : (m : Model) (c : List Statement) (tests : List (List Bool)) (f : Fault) (t : ℕ)
     → Contains (faults m c) f → LooksBack c tests f.model f.line f.stuck t
     → LooksBack c tests m f.line f.stuck t
@@ -105,7 +105,7 @@ its_look : (m : Model) (c : List Statement) (tests : List (List Bool)) (f : Faul
 its_look m c tests f t listed is =
     subst (λ x. LooksBack c tests x f.line f.stuck t) (sym (listed_model m c f listed)) is
 
--- the first two tests that are kept detect a transition fault
+-- the first two kept tests detect a transition fault
 early_pair : (m : Model) (c : List Statement) (tests new : List (List Bool)) (marks : List Bool)
     (room : ℕ) (old : List (List Bool)) → AreKept tests marks true room old new → length old ≡ 0
     → 2 ≤ room → (f : Fault) → Contains (faults m c) f → (t : ℕ) → IsMarked marks t
@@ -134,7 +134,7 @@ early_pair m c tests new marks room old are none big f listed (suc t) e before i
       ),
     )
 
--- Where nothing was kept before, what is kept of a round that detects a fault detects one early.
+-- If nothing was kept before, the kept tests of a round that detects a fault detect a fault early.
 pub kept_early : (m : Model) (c : List Statement) (tests new : List (List Bool))
     (marks : List Bool) (pairs : Bool) (room : ℕ) (old : List (List Bool)) → pairs ≡ in_pairs m
     → AreKept tests marks pairs room old new → length old ≡ 0 → 2 ≤ room → HasMark marks
@@ -170,7 +170,7 @@ class_count job b =
     ∙ (ap (λ (l : List (Option Fault)). length l) b.classes.representative
     ∙ length-map {B = Option Fault} (representatives job.list.model job.circuit) Some)
 
--- no more than there may be pieces
+-- at most as many as there may be pieces
 pub few_classes : (job : Parts) → BelongTogether job
     → length job.classes.representative ≤ max_pieces
 few_classes job b =
@@ -208,8 +208,8 @@ first_detects job classes firsts b all are t (k, at) =
       is.0,
     )
 
--- Where nothing was kept before, the needed tests of a round in which a class has a first test
--- detect a fault early.
+-- If nothing was kept before, the needed tests of a round in which a class has a first test detect
+-- a fault early.
 pub round_early : (job : Parts) (classes : List ℕ) (firsts : List (Option ℕ)) (marks : List Bool)
     (pairs : Bool) (room : ℕ) (old new : List (List Bool)) → BelongTogether job
     → All (λ class. class < length job.classes.representative) classes
@@ -237,13 +237,13 @@ fault_class job b f listed =
     let count = class_count job b in
     (class.0, omega (arith, within, count), of)
 
--- where there is no class there is no fault
+-- if there is no class, there is no fault
 pub no_class : (job : Parts) → BelongTogether job → length job.classes.representative ≡ 0
     → (f : Fault) → Contains (faults job.list.model job.circuit) f → ⊥
 no_class job b none f listed =
     let class = fault_class job b f listed in let low = class.1 in omega (arith, low, none)
 
--- where no class of a list with all classes has a first test, no test detects a fault
+-- if no class of a list with all classes has a first test, no test detects a fault
 pub none_detects : (job : Parts) (classes : List ℕ) (firsts : List (Option ℕ))
     → BelongTogether job
     → ((class : ℕ) → class < length job.classes.representative

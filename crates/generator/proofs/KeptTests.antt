@@ -1,4 +1,4 @@
--- Tests that are wanted, and how those that are kept begin.
+-- Wanted tests, and the beginning of the kept tests.
 use Rattle.std.proofs.Common.{◌≡◌, ◌<◌, ◌≤◌, ◌+◌, ◌∙◌, ◌⊎◌, inl, inr, ℕ, zero, suc, Bool, true}
 use Rattle.std.proofs.Common.{false, List, [], ◌∷◌, ◌++◌, length, set, Some, None, refl, sym, ap}
 use Rattle.std.proofs.Common.{Option, subst, arith, replicate}
@@ -10,7 +10,7 @@ use Rattle.list_lemmas.proofs.Places.{within_place}
 use Rattle.generator.specs.Keeping.{AreNeeded, AreNoted, HasFirst, HasMark, IsFirstWanted}
 use Rattle.generator.specs.Keeping.{IsMarked, IsWanted}
 
--- what stands in a list stands there with one element more
+-- an element of a list is also an element of the list with one more
 pub pushed_stay : {X : Type 0} (xs : List X) (y x : X) (k : ℕ) → slice_get xs k ≡ Some x
     → slice_get (xs ++ y ∷ []) k ≡ Some x
 pushed_stay [] y x k e = let bad : None ≡ Some x = e in absurd (cc)
@@ -22,7 +22,7 @@ pub pushed_last : {X : Type 0} (xs : List X) (y : X)
 pushed_last [] y = refl
 pushed_last (z ∷ xs) y = pushed_last xs y
 
--- ---- the first test that is wanted
+-- ---- the first wanted test
 
 -- of marks one is the first
 pub first_mark : (marks : List Bool) → HasMark marks
@@ -38,7 +38,7 @@ first_mark (false ∷ marks) (suc t, e) =
     go n none zero lt x = let bad : Some false ≡ Some true = x in absurd (cc)
     go n none (suc j) lt x = none j (omega (arith, lt)) x
 
--- where each test counts by itself, it is the first that is marked
+-- if each test counts by itself, it is the first marked test
 pub wanted_alone : (marks : List Bool) (t : ℕ) → IsMarked marks t
     → ((j : ℕ) → j < t → IsMarked marks j → ⊥) → IsFirstWanted marks false t
 wanted_alone marks t e none = record { wanted = inl e; first = λ j lt w. go j lt w }
@@ -47,7 +47,7 @@ wanted_alone marks t e none = record { wanted = inl e; first = λ j lt w. go j l
     go j lt (inl x) = none j lt x
     go j lt (inr x) = let bad : false ≡ true = x.0 in absurd (cc)
 
--- in pairs it is the one before that
+-- in pairs it is the test before that
 pub wanted_before : (marks : List Bool) (t : ℕ) → IsMarked marks (suc t)
     → ((j : ℕ) → j < suc t → IsMarked marks j → ⊥) → IsFirstWanted marks true t
 wanted_before marks t e none = record {
@@ -67,10 +67,10 @@ pub wanted_behind : (marks : List Bool) (pairs : Bool) (t : ℕ) → IsMarked ma
 wanted_behind marks pairs t e =
     let same : suc t ≡ t + 1 = omega arith in inl (subst (IsMarked marks) same e)
 
--- ---- how tests that are kept begin
+-- ---- the beginning of the kept tests
 
--- Of a list of tests those that are wanted are kept, where so many tests were looked at, none was
--- kept before, and the first that is wanted is this one.
+-- The wanted tests of a list are kept. This many tests were visited, none was kept before, and the
+-- first wanted test is this one.
 pub record IsBegun (tests : List (List Bool)) (marks : List Bool) (pairs : Bool) (s test : ℕ)
     (kept : List (List Bool)) : Type 0 where
   pub before : test ≤ s → length kept ≡ 0

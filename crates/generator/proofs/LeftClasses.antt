@@ -9,7 +9,7 @@ use Rattle.std.proofs.lemmas.Option.{get_or_from_slice_get, slice_get-get_or, sl
 use Rattle.std.proofs.lemmas.Slice.Zip.{length-zip}
 use Rattle.generator.specs.Keeping.{AreLeft, HasFirst}
 
--- as the program gathers them
+-- the classes as the program gathers them
 abbrev pub gathered : List ℕ → List (Option ℕ) → List ℕ
 gathered xs fs = map (λ at. at.0) (filter (λ at. is_none at.1) (zip xs fs))
 
@@ -58,7 +58,7 @@ left_are xs fs left is = subst (AreLeft xs fs) (sym is) (record {
   same = same_left xs fs;
 })
 
--- they are among those that were asked
+-- they are among the given classes
 pub left_within : (n : ℕ) (classes : List ℕ) (firsts : List (Option ℕ)) (left : List ℕ)
     → AreLeft classes firsts left → All (λ x. x < n) classes → All (λ x. x < n) left
 left_within n classes firsts left are all k d lt =

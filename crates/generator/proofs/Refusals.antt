@@ -1,4 +1,4 @@
--- A round is refused for its number of workers, or for want of memory or of a thread.
+-- A round fails for its number of workers, or because memory or a thread is refused.
 use Rattle.std.proofs.Common.{◌≤◌, ℕ, List, length, arith}
 use Rattle.std.specs.Prelude.{⊤}
 use Rattle.std.proofs.Math.Nat.{mul-le-mul_right}

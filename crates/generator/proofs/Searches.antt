@@ -1,4 +1,4 @@
--- What a search has found, round by round.
+-- The results of a search, round by round.
 use Rattle.std.proofs.Common.{◌≡◌, ◌<◌, ◌≤◌, ◌+◌, ◌*◌, ◌∙◌, ◌⊎◌, inl, inr, ℕ, zero, suc, Bool, List}
 use Rattle.std.proofs.Common.{Option, Some, length, refl, sym, ap, subst, arith}
 use Rattle.std.specs.Prelude.{slice_get}
@@ -24,7 +24,7 @@ pub record IsEmptyHanded (m : Model) (c : List Statement) (seed blocks n : ℕ) 
   pub tried : (k : ℕ) → k < round → IsInVain m c seed blocks k
   pub count : quiet ≡ round * blocks
 
--- so far what is kept detects a fault early, or nothing is kept
+-- so far the kept tests detect a fault early, or nothing is kept
 abbrev pub IsSearching : Model → List Statement → ℕ → ℕ → ℕ → List ℕ → List (List Bool) → ℕ → ℕ
     → Type 0
 IsSearching m c seed blocks n left kept round quiet =
@@ -116,7 +116,7 @@ searching_along m o c d seed blocks n p left kept round quiet model circuit numb
     (subst (λ x. IsSearching o x seed blocks n left kept round quiet) circuit
     (subst (λ x. IsSearching x c seed blocks n left kept round quiet) model is))
 
--- a search that is over
+-- a finished search
 pub search_over : (job : Parts) (left : List ℕ) (kept : List (List Bool))
     (room seed blocks round quiet : ℕ) → BelongTogether job → 1 ≤ room
     → (length left ≡ 0) ⊎ ((20 ≤ quiet) ⊎ (room ≤ length kept))
@@ -155,7 +155,7 @@ enough_rounds m c seed blocks n left kept round quiet some long (inr e) =
     let enough : 20 ≤ round * blocks = omega (arith, product, long) in
     inr (inr (blocks, round, enough, e.tried))
 
--- what a compaction of the best keeps
+-- the tests that a compaction of the best tests keeps
 pub compacted_some : (m : Model) (c : List Statement) (seed : ℕ)
     (found best kept : List (List Bool))
     → (DetectsEarly m c found → DetectsSome m c best) → IsCompaction m c best kept

@@ -1,4 +1,4 @@
--- Texts that have a job within the limit of pieces are refused for want of memory alone.
+-- Files that have a job within the limit of pieces only fail because memory is refused.
 use Rattle.std.proofs.Common.{◌≡◌, ◌≢◌, ℕ, ◌*◌, ◌<◌, ◌≤◌, List, length}
 use Rattle.std.proofs.Common.{refl, sym, ap, subst, ◌∙◌, ⊎_elim, arith}
 use Rattle.std.specs.Prelude.{slice_get, ⊤}
@@ -25,7 +25,7 @@ use Rattle.job_loading.specs.Jobs.{IsJobOf}
 use Rattle.report.specs.EndToEnd.{IsReportFault}
 use Rattle.generator.specs.Generated.{AreFewPieces, HasJob, IsGeneratorFault, IsSearchFault}
 
--- the laws of texts: a bench text is one circuit, and a text with tests is not refused
+-- the laws of files: a bench file has one circuit, and a file with tests has no error
 abbrev pub OneCircuit : Type 0
 OneCircuit = (text : List ℕ) (c d : List Statement) → IsAccepted text c → IsAccepted text d → c ≡ d
 
@@ -42,7 +42,7 @@ same_number m c classes others are also =
     ∙ ap length (are.representative ∙ sym also.representative)
     ∙ length-map others.representative (slice_get (faults m c))
 
--- all jobs of two texts have as many pieces
+-- all jobs of two files have as many pieces
 same_pieces : OneCircuit → (m : Model) (bench text : List ℕ) (job other : Parts)
     → IsJobOf m bench text job → IsJobOf m bench text other → piece_count job ≡ piece_count other
 same_pieces one_circuit m bench text job other is also =
@@ -58,7 +58,7 @@ same_pieces one_circuit m bench text job other is also =
     ap (λ n. n * blocks (length job.tests.tests)) number
     ∙ ap (λ n. length other.classes.representative * blocks n) tests
 
--- a run of a job within the limit of pieces is refused as a run of the search is
+-- an error of a run of a job within the limit of pieces is an error of a run of the search
 run_refused : (job : Parts) (workers : ℕ) (f : RunFault) → piece_count job ≤ max_pieces
     → IsRunFault job workers ⊤ no_stop f → IsSearchFault workers f
 run_refused job workers run_fault.NoWorkers few is = is
@@ -69,7 +69,7 @@ run_refused job workers run_fault.Memory few is = is
 run_refused job workers run_fault.Threads few is = is
 run_refused job workers (run_fault.Unfinished class block) few is = absurd (is.4 tt)
 
--- texts that have a job within the limit of pieces are refused as the search is
+-- errors of files that have a job within the limit of pieces are errors of the search
 pub report_refused : OneCircuit → NotBoth → (m : Model) (bench text : List ℕ) (workers : ℕ)
     (f : SimFault) → HasJob m bench text → ((g : ReportFault) → f ≢ fault.Report g)
     → IsReportFault m bench text workers f → IsGeneratorFault bench workers f
@@ -98,7 +98,7 @@ report_refused one_circuit not_both m bench text workers (fault.Report f) has un
     absurd (unwritten f refl)
 report_refused one_circuit not_both m bench text workers fault.Memory has unwritten is = is
 
--- the tests that a job may take in place of its own, and their text, have a job
+-- the tests that a job may take in place of its own, and their file, have a job
 pub text_has_job : (m : Model) (bench text : List ℕ) (job : Parts) (best : TestList)
     → IsAccepted bench job.circuit → BelongTogether job → job.list.model ≡ m
     → best.width ≡ length (sources job.circuit) → IsTestList best

@@ -1,4 +1,4 @@
--- What a generator gives, and when it is refused.
+-- The results of a generator, and its errors.
 use Rattle.std.specs.Prelude.{◌≡◌, ◌⊎◌, ⊤, ℕ, ◌*◌, ◌<◌, ◌≤◌, Bool, List, Contains, length}
 use Rattle.bench_net.specs.declared.BenchFault.TheVariants as bench_fault
 use Rattle.bench_net.specs.Refusal.{IsAccepted, IsRefused}
@@ -20,13 +20,13 @@ use Rattle.job_loading.specs.declared.fault.SimFault.TheVariants as fault
 use Rattle.job_loading.specs.Jobs.{IsJobWithin}
 use Rattle.generator.specs.RandomTests.{IsRound}
 
--- the text is that of at most so many tests
+-- the text is a file of at most this many tests
 abbrev pub HasFewRows : ℕ → List ℕ → Type 0
 HasFewRows most text = (tests : List (List Bool)) × (text ≡ test_text tests) × (length tests ≤ most)
 
--- The text is that of tests which are a compaction of others, for the circuit of a bench text under
--- a model, so that each of them is needed to detect what those detect. Nothing is said of what the
--- others detect.
+-- The text is a file of tests that are a compaction of others, for the circuit of a bench file
+-- under a model. So each of them is needed to detect the faults that the others detect. Nothing is
+-- stated about the faults that the others detect.
 abbrev pub IsCompacted : Model → List ℕ → List ℕ → Type 0
 IsCompacted m bench text = (c : List Statement) × (found kept : List (List Bool))
     × IsAccepted bench c × IsCompaction m c found kept × (text ≡ test_text kept)
@@ -35,7 +35,7 @@ IsCompacted m bench text = (c : List Statement) × (found kept : List (List Bool
 abbrev pub DetectsSome : Model → List Statement → List (List Bool) → Type 0
 DetectsSome m c tests = (f : Fault) × (t : ℕ) × Contains (faults m c) f × DetectsAt c tests f t
 
--- one of the first two tests does
+-- one of the first two tests detects some fault of the model
 abbrev pub DetectsEarly : Model → List Statement → List (List Bool) → Type 0
 DetectsEarly m c tests = (f : Fault) × (t : ℕ) × (t < 2) × Contains (faults m c) f
     × DetectsAt c tests f t
@@ -52,21 +52,21 @@ FindsNone m c seed = ((f : Fault) → ¬ Contains (faults m c) f)
     ⊎ ((blocks : ℕ) × (rounds : ℕ) × (20 ≤ rounds * blocks)
     × ((k : ℕ) → k < rounds → IsInVain m c seed blocks k))
 
--- The text is the one of tests of which one detects a fault, unless a search finds nothing for the
--- circuit of the bench text.
+-- The text is a file of tests of which one detects a fault, unless a search finds nothing for the
+-- circuit of the bench file.
 abbrev pub DetectsIfFound : Model → List ℕ → ℕ → List ℕ → Type 0
 DetectsIfFound m bench seed text = (c : List Statement) × (tests : List (List Bool))
     × IsAccepted bench c × (text ≡ test_text tests) × (DetectsSome m c tests ⊎ FindsNone m c seed)
 
--- the two texts have a job under the model, within the limit of pieces
+-- the two files have a job under the model, within the limit of pieces
 abbrev pub HasJob : Model → List ℕ → List ℕ → Type 0
 HasJob m bench text = (job : Parts) × IsJobWithin m bench text job
 
--- so many classes on the blocks of so many tests are within the limit of pieces
+-- this many classes on the blocks of this many tests are within the limit of pieces
 abbrev pub AreFewPieces : ℕ → ℕ → Type 0
 AreFewPieces classes tests = classes * blocks tests ≤ max_pieces
 
--- when a run of the generator is refused: for its number of workers, then for want of memory or of
+-- the condition of each error of a run of the generator: its number of workers, and then memory or
 -- a thread
 abbrev pub IsSearchFault : ℕ → RunFault → Type 0
 IsSearchFault workers NoWorkers = workers ≡ 0
@@ -75,16 +75,16 @@ IsSearchFault workers Memory = (0 < workers) × (workers ≤ 64)
 IsSearchFault workers Threads = (0 < workers) × (workers ≤ 64)
 IsSearchFault workers _ = ⊥
 
--- When each fault of the search comes. Want of memory may come any time, and a job is refused for
--- that alone: no round makes too many pieces.
+-- The condition of each error of the search. Memory may be refused at any time, and this is the
+-- only error of a job: no round makes too many pieces.
 abbrev pub IsWorkFault : ℕ → SimFault → Type 0
 IsWorkFault workers (fault.Run f) = IsSearchFault workers f
 IsWorkFault workers (fault.Job f) = f ≡ job_fault.Memory
 IsWorkFault workers fault.Memory = ⊤
 IsWorkFault workers _ = ⊥
 
--- the same of the generator, which reads the bench text before it searches; its own test text is
--- refused for want of memory alone
+-- the same for the generator, which reads the bench file before it searches; the only error of its
+-- own test file is refused memory
 abbrev pub IsGeneratorFault : List ℕ → ℕ → SimFault → Type 0
 IsGeneratorFault bench workers (fault.Bench f) = (f ≡ bench_fault.Memory) ⊎ IsRefused bench f
 IsGeneratorFault bench workers (fault.Tests f) = f ≡ test_fault.Memory

@@ -1,4 +1,4 @@
--- Which tests of a round are kept, and which classes are left.
+-- The tests of a round that are kept, and the classes that are left.
 use Rattle.std.specs.Prelude.{◌≡◌, ◌≢◌, ◌⊎◌, ◌<◌, ◌≤◌, ◌+◌, ℕ, Bool, true, List, length, Option}
 use Rattle.std.specs.Prelude.{Some, None, false, slice_get, slice_index}
 use Rattle.fault_model.specs.declared.Model.{Model}
@@ -14,7 +14,7 @@ in_pairs TransitionPairs = true
 abbrev pub IsMarked : List Bool → ℕ → Type 0
 IsMarked marks t = slice_get marks t ≡ Some true
 
--- some test is
+-- some test is marked
 abbrev pub HasMark : List Bool → Type 0
 HasMark marks = (t : ℕ) × IsMarked marks t
 
@@ -27,8 +27,8 @@ AreNoted words marks = (block word : ℕ) → slice_get words block ≡ Some wor
 abbrev pub HasFirst : List (Option ℕ) → ℕ → Type 0
 HasFirst firsts t = (k : ℕ) × (slice_get firsts k ≡ Some (Some t))
 
--- Only tests that are the first of some class are marked, and at least one is if some class has a
--- first test.
+-- Only tests that are the first of some class are marked. At least one is marked if some class has
+-- a first test.
 pub record AreNeeded (firsts : List (Option ℕ)) (marks : List Bool) : Type 0 where
   pub first : (t : ℕ) → IsMarked marks t → HasFirst firsts t
   pub some : (t : ℕ) → HasFirst firsts t → HasMark marks
@@ -37,7 +37,7 @@ pub record AreNeeded (firsts : List (Option ℕ)) (marks : List Bool) : Type 0 w
 abbrev pub IsWanted : List Bool → Bool → ℕ → Type 0
 IsWanted marks pairs t = IsMarked marks t ⊎ ((pairs ≡ true) × IsMarked marks (t + 1))
 
--- the first test that is wanted
+-- the first wanted test
 pub record IsFirstWanted (marks : List Bool) (pairs : Bool) (t : ℕ) : Type 0 where
   pub wanted : IsWanted marks pairs t
   pub first : (earlier : ℕ) → earlier < t → ¬ IsWanted marks pairs earlier
@@ -56,9 +56,9 @@ pub record AreKept (tests : List (List Bool)) (marks : List Bool) (pairs : Bool)
       → IsFirstWanted marks pairs t → IsWanted marks pairs (t + 1)
       → slice_get new 1 ≡ slice_get tests (t + 1)
 
--- The classes of a list that are left, if the list is given with the first test that detects each
--- class: those that no test detects. They are no more than the list has, and the list itself if no
--- class has a first test.
+-- The classes of a list that are left, given the first test that detects each class: the classes
+-- that no test detects. They are at most as many as in the list, and the whole list if no class has
+-- a first test.
 pub record AreLeft (classes : List ℕ) (firsts : List (Option ℕ)) (left : List ℕ) : Type 0 where
   pub each : (k class : ℕ) → slice_get left k ≡ Some class
       → (i : ℕ) × (slice_get classes i ≡ Some class) × (slice_get firsts i ≡ Some None)

@@ -7,11 +7,11 @@ use Rattle.rand_core.specs.Stream.{Stream, next_u64}
 use Rattle.rand_xoshiro.specs.SplitMix64.{splitmix_seed}
 use Rattle.rand_xoshiro.specs.Xoshiro256.{of_seed, plus_plus}
 
--- the numbers that xoshiro256++ gives from a state on
+-- the numbers of xoshiro256++ from a state on
 abbrev pub numbers : List ℕ → Stream
 numbers state = stream_of (steps_u64_high plus_plus) state
 
--- the state that SplitMix64 makes of a seed
+-- the state that SplitMix64 makes from a seed
 unfoldable pub seeded : ℕ → List ℕ
 seeded seed = of_seed (splitmix_seed 32 seed)
 

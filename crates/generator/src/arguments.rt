@@ -12,8 +12,8 @@ use std::rt::{Clock, Env, Files as HasFiles};
 use std::sync::Wait;
 use std::thread::Threads;
 
-/// Does what the arguments of the process ask for, as [`run_words`] does, on the files of the
-/// system, and answers the status.
+/// Runs the arguments of the process, as [`run_words`] does, on the files of the system, and
+/// returns the status.
 pub fn run_arguments<R: Env + HasFiles + Clock + AllocGlobal + Threads + Wait, W: Out, E: Out>(
     rt: &R,
     out: &mut W,
@@ -40,7 +40,7 @@ fn read_arguments<R: Env + AllocGlobal>(rt: &R) -> Result<Vec<String>, CommandEr
     }
 }
 
-/// Does what arguments ask for on the files of the system.
+/// Runs arguments on the files of the system.
 fn run_on_files<R: HasFiles + Clock + AllocGlobal + Threads + Wait, W: Out, E: Out>(
     rt: &R,
     arguments: &[String],

@@ -14,7 +14,7 @@ use std::fmt::Write;
 use std::sync::Wait;
 use std::thread::Threads;
 
-/// The reason why nothing was written, or not all.
+/// The reason why nothing was written, or only a part.
 #[derive(Clone, Copy)]
 pub(crate) enum CommandError<'a> {
     /// An argument of the process is no text.
@@ -23,7 +23,7 @@ pub(crate) enum CommandError<'a> {
     Misused(&'a str),
     /// The file at a path cannot be read.
     Unreadable(&'a str),
-    /// The output takes nothing more.
+    /// The output fails.
     Unwritten,
     /// The circuit has an error, or the work on it failed.
     Sim(SimFault),
@@ -32,9 +32,11 @@ pub(crate) enum CommandError<'a> {
 /// Memory ran out.
 pub(crate) const NO_MEMORY: CommandError<'static> = CommandError::Sim(SimFault::Memory);
 
-/// Runs words and returns the status: 0 for success or help, 1 for an error of the circuit, 2 for
-/// an error of the command line, 3 if a file, the output, memory or a thread failed. `words[0]` is
-/// the program's name. The tests go to `out`, and their coverage line to `err`.
+/// Runs words and returns the status. `words[0]` is the program's name. The tests go to `out`, and
+/// their coverage line to `err`.
+///
+/// The status is 0 for success or help, 1 for an error of the circuit, and 2 for an error of the
+/// command line. It is 3 if a file, the output, memory or a thread failed.
 pub fn run_words<'a, R: Threads + Wait, S: Source, W: Out, E: Out>(
     rt: &R,
     alloc: Global,

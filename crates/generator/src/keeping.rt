@@ -1,4 +1,4 @@
-//! The tests of a round that are kept.
+//! The choice of the tests of a round that are kept.
 
 ghost use Rattle.std.specs.Prelude.{◌≡◌, ◌⊎◌, ◌+◌, ◌++◌, ◌∷◌, [], ◌<◌, ◌≤◌, ℕ, All, Bool, IfOk};
 ghost use Rattle.std.specs.Prelude.{List, OnOk, Some, length, slice_get, slice_index_or};
@@ -15,9 +15,10 @@ use fault_model::Model;
 use patterns::{BLOCK_SIZE, Tests};
 use std::alloc::{AllocError, Global};
 
-/// Adds tests of a job to the kept tests, while they are fewer than `room`: the tests that classes
-/// need which no kept test detects. The classes are given with the first test that detects each, or
-/// none. Under transition faults the test before each such test is added, too.
+/// Adds tests of a job to the kept tests, while they are fewer than `room`. It adds the tests that
+/// some class needs, among classes that no kept test detects. The classes are given with the first
+/// test that detects each, or none. Under transition faults it also adds the test before each such
+/// test.
 pub(crate) fn keep_tests(
     alloc: Global,
     job: &Job,

@@ -1,10 +1,10 @@
-//! A small test generator over the library's calls: random tests, of which only tests that detect
-//! new faults are kept.
+//! A small test generator that uses the library's calls: random tests, of which it only keeps tests
+//! that detect new faults.
 //!
-//! [`generate`] tries random tests in rounds, a block of 64 after another, and asks which of the
-//! classes that no kept test detects they detect (random test generation: Bushnell and Agrawal,
-//! Essentials of Electronic Testing, the chapter on combinational ATPG). It ends if all are
-//! detected, if 20 blocks in a row detect nothing new, or at the greatest number of tests.
+//! [`generate`] tries random tests in rounds, one block of 64 after another. It simulates the
+//! classes that no kept test detects. (Random test generation: Bushnell and Agrawal, Essentials of
+//! Electronic Testing, the chapter on combinational ATPG.) It ends if all classes are detected, if
+//! 20 blocks in a row detect nothing new, or at the greatest number of tests.
 #![tactic(auto)]
 
 mod arguments;
@@ -59,10 +59,10 @@ pub struct Generated {
 /// Makes tests for the circuit of a bench file.
 ///
 /// The coverage is the report of the returned tests by [`report::report_bytes`], from a run of its
-/// own over their file; tests that were tried and left out don't count. The tests are a compaction
+/// own over their file. Tests that were tried and left out don't count. The tests are a compaction
 /// of the best that were found ([`compaction::compact`]), so each is needed. If at least two tests
-/// are requested, some returned test detects a fault, unless there is no fault or the random tests
-/// that were tried, at least 20 blocks of them, detect none.
+/// are requested, some returned test detects a fault. This doesn't hold if there is no fault, or if
+/// the random tests that were tried, at least 20 blocks of them, detect none.
 ///
 /// It fails first for the bench file, then for the number of workers.
 pub fn generate<R: Threads + Wait>(
@@ -97,8 +97,8 @@ pub fn generate<R: Threads + Wait>(
     Ok(Generated { tests, coverage })
 }
 
-/// Returns the file of tests for the circuit of a bench file, each of which is needed, within the
-/// limit of pieces.
+/// Returns a file of tests for the circuit of a bench file, within the limit of pieces. Each test
+/// is needed.
 fn test_rows<R: Threads + Wait>(
     rt: &R,
     alloc: Global,

@@ -29,7 +29,7 @@ const QUIET_BLOCKS: u32 = 20;
 /// The number of blocks of a round. Each round makes room for its workers anew.
 const ROUND_BLOCKS: u32 = 20;
 
-/// Tries random tests on a job, and returns those that detect new faults.
+/// Tries random tests on a job, and returns the tests that detect new faults.
 pub(crate) fn search<R: Threads + Wait>(
     rt: &R,
     alloc: Global,
@@ -140,7 +140,7 @@ fn random_tests(
     ensures rest { OnOk result (numbers rng.new ≡ after_words (width * blocks) (numbers rng.old)) }
 {
     let words = random_words(alloc, width as usize * blocks as usize, rng)?;
-    // Whole blocks have no idle bits, so it can only fail for memory.
+    // Whole blocks have no idle bits, so this only fails if there is no memory.
     let Ok(tests) = Tests::from_words(alloc, width, BLOCK_SIZE * blocks, &words) else {
         return Err(AllocError);
     };
@@ -171,7 +171,7 @@ fn undetected(
     Ok(left)
 }
 
-/// Returns the classes of a list that stand beside no first test.
+/// Returns the classes of a list that have no first test beside them.
 fn without_first(
     alloc: Global,
     classes: &[u32],

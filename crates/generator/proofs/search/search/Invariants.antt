@@ -4,9 +4,9 @@ use Rattle.generator.specs.RandomTests.{after_rounds, numbers, seeded}
 use Rattle.generator.proofs.Searches.{IsSearching}
 use Rattle.generator.proofs.search.search.Given as goal
 
--- The job keeps its circuit and its classes, the classes that are left are among them, and the kept
--- tests have its width and are no more than there is room for. The numbers are the ones after the
--- rounds so far, and what was found so far is known.
+-- The job keeps its circuit and its classes, and the remaining classes are among them. The kept
+-- tests have its width, and there is room for them. The numbers are the ones after the rounds so
+-- far, and the results of the search so far are known.
 abbrev pub invariant-loop-round : goal.invariant-loop-round
 invariant-loop-round g l = record {
   circuit : l.job.circuit ≡ l.fn.job.circuit;
