@@ -1,7 +1,7 @@
 //! The condition of a fault on the test before the one that detects it. A stuck-at fault has none.
-//! For a transition fault that test must give the line the bit that the line is slow to leave
-//! (Waicukauski, Lindbloom, Rosen and Iyengar, Transition Fault Simulation). In a list of pairs it
-//! must also be the launch test of the pair.
+//! For a transition fault that test must give the line the bit that the line is slow to leave. In a
+//! list of pairs it must also be the launch test of the pair. (Waicukauski, Lindbloom, Rosen and
+//! Iyengar, Transition Fault Simulation.)
 
 ghost use Rattle.std.specs.Prelude.{◌≡◌, ◌↔◌, ◌+◌, ◌*◌, ◌<◌, All, Bool, Contains, List, ℕ, suc};
 ghost use Rattle.std.specs.Prelude.{Some};

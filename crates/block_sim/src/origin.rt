@@ -1,6 +1,6 @@
-//! The start of the simulation of a class. A job keeps the representatives, class by class, so a
-//! run reads them in the order of the list. With the lists that they come from, a run on 100,000
-//! gates in the order of its regions took three times as long for this step.
+//! The start of the simulation of a class. A job computes the representatives class by class, so it
+//! reads the fault list and the classes in their order. A run on 100,000 gates that read them in
+//! the order of its regions took three times as long for this step.
 
 ghost use Rattle.std.specs.Prelude.{◌≡◌, ◌<◌, ℕ, IfOk, length};
 ghost use Rattle.fault_model.specs.Collapse.{AreClassesOf};
@@ -26,7 +26,7 @@ pub struct Origin {
 
 /// A class of a list: its number, its representative and its stem, from [`crate::Job::listed`]. The
 /// stem is the number, from 0, of the signal that is the stem of its fanout-free region. A run over
-/// a list of classes keeps an entry for each of them, in the order of the list, and reads no other
+/// a list of classes keeps an entry for each of them, in the order of the list. It reads no other
 /// data of a class.
 #[derive(Clone, Copy)]
 pub struct ListedClass {

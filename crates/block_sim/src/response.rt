@@ -15,10 +15,10 @@ use bench_net::Circuit;
 use patterns::{PushFault, Tests};
 use std::alloc::{AllocError, Global};
 
-/// Returns the fault-free responses of a circuit: for each test one row of bits. A row has the bits
-/// of the OUTPUT lines, in order, and then the bits that the flip-flops capture at their data pins,
-/// in the order of the DFF lines. The rows are a list of tests. With the same inputs before them,
-/// the captured bits are the capture tests of launch-on-capture pairs. (Bushnell and Agrawal,
+/// Returns the fault-free responses of a circuit: for each test one row of bits. A row begins with
+/// the bits of the OUTPUT lines, in order. The bits that the flip-flops capture at their data pins
+/// follow, in the order of the DFF lines. The rows are a list of tests. With the same inputs before
+/// them, the captured bits are the capture tests of launch-on-capture pairs. (Bushnell and Agrawal,
 /// Essentials of Electronic Testing, chapter 12, on delay test.)
 ///
 /// Each gate is evaluated once for 128 tests. It takes a bit for each observer and test, and some

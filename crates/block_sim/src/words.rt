@@ -108,7 +108,7 @@ struct Folds {
 }
 
 /// Returns the folded words of a gate's pins. It reads the first pin and the last apart from the
-/// others, so the loop makes no pass for a gate of one or two pins, as most are. No branch decides
+/// others. So the loop makes no pass for a gate of one or two pins, as most are. No branch decides
 /// whether a gate has one pin or two.
 #[inline(always)]
 fn folds_of(

@@ -75,13 +75,13 @@ impl Workspace {
 /// for which test `64 * block + k` detects the representative of the class, else `Clear`. It takes
 /// no memory.
 ///
-/// All tests of the block are simulated at once, from the fault's line on and only in the part of
-/// the circuit whose words change (parallel-pattern single-fault propagation: Waicukauski,
-/// Eichelberger, Forlenza, Lindbloom and McCarthy, Fault Simulation for Structured VLSI). At most
-/// it evaluates, once each, the gates that the fault makes active: gates with a pin that sees,
-/// under some test of the block, another bit with the fault than without it. If the fault is
-/// excited under no test of the block, it evaluates none. A transition fault makes the same gates
-/// active as its line stuck at the fault's bit.
+/// All tests of the block are simulated at once, from the fault's line on. Only the part of the
+/// circuit whose words change is evaluated. (Parallel-pattern single-fault propagation:
+/// Waicukauski, Eichelberger, Forlenza, Lindbloom and McCarthy, Fault Simulation for Structured
+/// VLSI.) At most it evaluates, once each, the gates that the fault makes active: gates with a pin
+/// that sees, under some test of the block, another bit with the fault than without it. If the
+/// fault is excited under no test of the block, it evaluates none. A transition fault makes the
+/// same gates active as its line stuck at the fault's bit.
 ///
 /// Each test is followed to the end; [`first_hit`] has the same outcome and is faster if there are
 /// hits.
