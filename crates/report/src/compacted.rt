@@ -165,7 +165,7 @@ fn write_numbers<W: Out>(numbers: &[u32], out: &mut W) -> Result<(), ReportFault
     Ok(put_numbers(numbers, out)?)
 }
 
-/// Writes numbers. Its only error is that of the output.
+/// Writes numbers. It only fails if the output does.
 fn put_numbers<W: Out>(numbers: &[u32], out: &mut W) -> Result<(), OutFailed>
     ensures { Writes result (W.seen out.old) (W.seen out.new)
         (flat_map number_line numbers.now) }

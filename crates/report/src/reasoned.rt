@@ -28,8 +28,9 @@ use undetected::{Reason, reasons};
 use workers::Verdicts;
 
 /// Reads a circuit and tests for it, and writes the report of the faults that no test detects, each
-/// with the reason why none does. The report has a line for each of these faults, then the coverage
-/// line, with `classes` the coverage of the classes, and last the number of faults for each reason.
+/// with the reason why none does. The report has a line for each of these faults, and then the
+/// coverage line. With `classes` the coverage of the classes follows. Last comes the number of
+/// faults for each reason.
 ///
 /// The gate and the split are as in [`crate::simulate_text_watched`], and it fails as that function
 /// does.
@@ -85,9 +86,9 @@ fn report_reasons<R: Threads + Wait, G: Watch + Sync, W: Out>(
 }
 
 /// Writes the report of the undetected faults of a job with their reasons, as
-/// [`undetected::reasons`] returns them. The report has a line for each, then the coverage line,
-/// with `classes` the coverage of the classes, and last the number of faults for each reason. It
-/// takes no memory.
+/// [`undetected::reasons`] returns them. The report has a line for each, and then the coverage
+/// line. With `classes` the coverage of the classes follows. Last comes the number of faults for
+/// each reason. It takes no memory.
 ///
 /// # Errors
 ///

@@ -12,8 +12,8 @@ use patterns::write_tests;
 use std::alloc::Global;
 
 /// Reads a circuit and tests for it, and writes the fault-free responses, one row of bits for each
-/// test. A row has the bits of the OUTPUT lines, in order, and then the bits that the flip-flops
-/// capture, in the order of the DFF lines.
+/// test. A row begins with the bits of the OUTPUT lines, in order. The bits that the flip-flops
+/// capture follow, in the order of the DFF lines.
 ///
 /// It reads the bench file before the tests, and fails for each as [`crate::simulate_text_in`]
 /// does. There is no limit on pieces, because no fault is simulated. It writes nothing before all
