@@ -28,7 +28,7 @@ use std::thread::Threads;
 /// it starts.
 ///
 /// The status is 0 for success or help, 1 for an error of a file's contents, and 2 for an error of
-/// the command line. It is 3 if a file, the output, memory or a thread failed, and 4 if all was
+/// the command line. It is 3 if a file, the output, memory or a thread failed. It is 4 if all was
 /// written and the coverage is below a threshold.
 pub fn run_words<'a, R: Threads + Wait, S: Source, W: Out, E: Out + Send>(
     rt: &R,

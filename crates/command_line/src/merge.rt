@@ -199,7 +199,7 @@ fn write_classes<'a, W: Out>(
 /// Writes the table of a merged run of a bench file under a model.
 ///
 /// If the part file at `path` has another number of faults than the circuit, the error names the
-/// first line that only one of them has.
+/// first line that only one has.
 fn write_table<'a, W: Out>(
     alloc: Global,
     model: Model,
