@@ -1,10 +1,10 @@
 //! A small test generator that uses the library's calls: random tests, of which it only keeps tests
 //! that detect new faults.
 //!
-//! [`generate`] tries random tests in rounds, one block of 64 after another. It simulates the
-//! classes that no kept test detects. (Random test generation: Bushnell and Agrawal, Essentials of
-//! Electronic Testing, the chapter on combinational ATPG.) It ends if all classes are detected, if
-//! 20 blocks in a row detect nothing new, or at the greatest number of tests.
+//! [`generate`] tries random tests in rounds, one block of 64 after another, on the classes that no
+//! kept test detects. It ends if all classes are detected, if 20 blocks in a row detect nothing
+//! new, or at the greatest number of tests. (Bushnell and Agrawal, Essentials of Electronic
+//! Testing, the chapter on combinational ATPG, has random test generation.)
 #![tactic(auto)]
 
 mod arguments;
