@@ -11,7 +11,7 @@ use Rattle.fault_model.specs.Detection.{DetectsAt}
 use Rattle.patterns.specs.Least.{below}
 use Rattle.block_sim.specs.First.{IsFirst}
 
--- the elements at the places that are marked, in order
+-- the elements at the marked places, in order
 abbrev pub at_marks : {X : Type 0} → List Bool → List X → List X
 at_marks [] xs = []
 at_marks (mark ∷ marks) [] = []
@@ -62,10 +62,10 @@ PassesTwice m c tests t = (early : List Bool) × AreEarly m c tests early
     × (slice_get early t ≡ Some true)
     × IsLastOrBefore m c (at_marks early tests) (row_of early t)
 
--- Why test t of the list is kept as row k: under stuck-at faults it is the first of the list and
--- the last of the rows for some faults. Under transition faults it or the next is the first, and
--- of the tests for which that is so it or the next is the last; where the list is one of pairs
--- this is the second of its pair.
+-- The reason why test t of the list is kept as row k. Under stuck-at faults it is the first of the
+-- list and the last of the rows for some faults. Under transition faults it or the next test is the
+-- first; and of the tests with this property it or the next test is the last. In a list of pairs
+-- this next test is the second of its pair.
 abbrev pub IsNeeded : Model → List Statement → List Test → List Test → ℕ → ℕ → Type 0
 IsNeeded StuckAt c tests kept t k =
     IsFirstForSome StuckAt c tests t × IsLastForSome StuckAt c kept k
@@ -77,8 +77,8 @@ abbrev pub Covers : Model → List Statement → List Test → List Test → Typ
 Covers m c tests kept = (f : Fault) (t : ℕ) → Contains (faults m c) f → DetectsAt c tests f t
     → (k : ℕ) × DetectsAt c kept f k
 
--- The tests that are kept are marked, each by its place in the list: the rows are these, in order,
--- they detect each fault that the tests detect, and each test that is marked is needed as its row.
+-- The kept tests are marked, each by its place in the list. The rows are these tests, in order.
+-- They detect each fault that the tests detect, and each marked test is needed as its row.
 pub record IsCompaction (m : Model) (c : List Statement) (tests kept : List Test) : Type 0 where
   pub marks : List Bool
   pub count : length marks ≡ length tests
@@ -87,7 +87,7 @@ pub record IsCompaction (m : Model) (c : List Statement) (tests kept : List Test
   pub needed : (t : ℕ) → slice_get marks t ≡ Some true
       → IsNeeded m c tests kept t (row_of marks t)
 
--- with the number that each row has in the list, from 0: those of the places that are marked
+-- with the number that each row has in the list, from 0: the numbers of the marked places
 abbrev pub IsNumbered : Model → List Statement → List Test → List Test → List ℕ → Type 0
 IsNumbered m c tests kept numbers = (is : IsCompaction m c tests kept)
     × (numbers ≡ at_marks is.marks (below (length tests)))

@@ -1,4 +1,4 @@
--- Which tests of a job detect which classes, in words of 64 tests.
+-- The tests of a job that detect each class, in words of 64 tests.
 use Rattle.std.specs.Prelude.{◌≡◌, ℕ, ◌/◌, ◌%◌, All, Bool, List, [], Some, length, slice_get}
 use Rattle.std.specs.Prelude.{slice_index_or}
 use Rattle.std.specs.declared.alloc.Global.{Global}
@@ -8,7 +8,8 @@ use Rattle.block_sim.specs.First.{AreDetecting}
 use Rattle.block_sim.specs.Parts.{Parts}
 use Rattle.block_sim.specs.Words.{lane}
 
--- what contracts see of them: for each class the words of the blocks, and the number of tests
+-- the view that contracts have of detections: for each class the words of the blocks, and the
+-- number of tests
 pub record DetectionTable : Type 0 where
   pub words : List (List ℕ)
   pub tests : ℕ

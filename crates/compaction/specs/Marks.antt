@@ -1,4 +1,4 @@
--- What is known of the marks and of the rows between the two passes.
+-- The invariants of the marks and of the rows between the two passes.
 use Rattle.std.specs.Prelude.{◌≡◌, ◌+◌, ◌<◌, ◌||◌, ℕ, Bool, true, false, List, length, Contains}
 use Rattle.std.specs.Prelude.{None, Option, Some, slice_get, slice_index_or}
 use Rattle.bench_net.specs.Statement.{Statement}
@@ -14,8 +14,8 @@ use Rattle.block_sim.specs.Words.{lane}
 use Rattle.compaction.specs.Compaction.{Covers, IsFirstForSome, IsLastForSome, IsSublist}
 use Rattle.compaction.specs.Compaction.{at_marks}
 
--- the tests that are marked are the first of some faults, and among them is the first test of each
--- fault that a test detects
+-- the marked tests are the first of some faults, and among them is the first test of each fault
+-- that a test detects
 pub record AreFinding (m : Model) (c : List Statement) (tests : List Test)
     (marks : List Bool) : Type 0 where
   pub count : length marks ≡ length tests
@@ -23,8 +23,7 @@ pub record AreFinding (m : Model) (c : List Statement) (tests : List Test)
   pub found : (f : Fault) (t : ℕ) → Contains (faults m c) f → DetectsAt c tests f t
       → (s : ℕ) × IsFirst c tests f (Some s) × (slice_get marks s ≡ Some true)
 
--- the tests that are marked detect some fault, and each fault that a test detects is detected by
--- one of them
+-- the marked tests detect some fault, and one of them detects each fault that a test detects
 pub record AreDetecting (m : Model) (c : List Statement) (tests : List Test)
     (marks : List Bool) : Type 0 where
   pub count : length marks ≡ length tests
@@ -33,7 +32,7 @@ pub record AreDetecting (m : Model) (c : List Statement) (tests : List Test)
   pub found : (f : Fault) (t : ℕ) → Contains (faults m c) f → DetectsAt c tests f t
       → (s : ℕ) × DetectsAt c tests f s × (slice_get marks s ≡ Some true)
 
--- the same where each of them is the last of some fault
+-- the same, and each of them is the last of some fault
 pub record AreLasting (m : Model) (c : List Statement) (tests : List Test)
     (marks : List Bool) : Type 0 where
   pub count : length marks ≡ length tests
@@ -41,7 +40,7 @@ pub record AreLasting (m : Model) (c : List Statement) (tests : List Test)
   pub found : (f : Fault) (t : ℕ) → Contains (faults m c) f → DetectsAt c tests f t
       → (s : ℕ) × DetectsAt c tests f s × (slice_get marks s ≡ Some true)
 
--- the marks of tests with the one before each, from those of tests that find something
+-- the marks of the found tests, each with the test before it
 pub record AreWithBefore (found marks : List Bool) : Type 0 where
   pub count : length marks ≡ length found
   pub each : (t : ℕ) → t < length found → slice_index_or marks t false
@@ -60,13 +59,13 @@ IsLastLane word lanes None = (j : ℕ) → j < lanes → lane word j ≡ false
 IsLastLane word lanes (Some k) = (k < lanes) × (lane word k ≡ true)
     × ((j : ℕ) → k < j → j < lanes → lane word j ≡ false)
 
--- the last test that detects a fault, or none where no test does
+-- the last test that detects a fault, or none if no test does
 abbrev pub IsLast : List Statement → List Test → Fault → Option ℕ → Type 0
 IsLast c tests f None = (t : ℕ) → ¬ DetectsAt c tests f t
 IsLast c tests f (Some t) = DetectsAt c tests f t
     × ((later : ℕ) → t < later → ¬ DetectsAt c tests f later)
 
--- the same of the representative of a class
+-- the same for the representative of a class
 abbrev pub IsLastOfClass : Parts → ℕ → Option ℕ → Type 0
 IsLastOfClass job class last = (r : Fault)
     × (slice_get (representatives job.list.model job.circuit) class ≡ Some r)
@@ -87,7 +86,7 @@ pub record AreLast (c : List Statement) (tests kept : List Test) : Type 0 where
   pub covers : Covers StuckAt c tests kept
   pub last : (k : ℕ) (row : Test) → slice_get kept k ≡ Some row → IsLastForSome StuckAt c kept k
 
--- with the numbers that the rows have among those of the tests
+-- with the numbers of the rows, from the numbers of the tests
 abbrev pub AreLastOf : List Statement → List Test → List Test → List ℕ → List ℕ → Type 0
 AreLastOf c tests kept given numbers =
     (are : AreLast c tests kept) × (numbers ≡ at_marks are.rows.0 given)

@@ -3,7 +3,7 @@ use Rattle.std.specs.Prelude.{◌≡◌, ◌<◌, ◌≤◌, ◌&&◌, ℕ, Bool
 use Rattle.std.specs.Prelude.{slice_index_or}
 use Rattle.patterns.specs.Least.{below}
 
--- how many of the first classes a test detects that are not covered
+-- the number of uncovered classes, among the first ones, that a test detects
 abbrev pub news_at : (ℕ → ℕ → Bool) → List Bool → ℕ → ℕ → ℕ
 news_at detects covered classes t =
     count_by (λ class. detects class t && not (slice_index_or covered class false)) (below classes)

@@ -22,7 +22,7 @@ DetectsClasses m c tests detects = (class t : ℕ) (r : Fault)
     → slice_get (representatives m c) class ≡ Some r → t < length tests
     → Decides (detects class t) (DetectsAt c tests r t)
 
--- how many classes, of so many, a test detects that none of some tests detects
+-- the number of classes, among this many, that a test detects and none of some tests detects
 abbrev pub news : (ℕ → ℕ → Bool) → ℕ → List ℕ → ℕ → ℕ
 news detects classes before t =
     count_by (λ class. detects class t && not (list_any (detects class) before)) (below classes)
@@ -50,9 +50,9 @@ with_launches StuckAt order = order
 with_launches Transition order = order
 with_launches TransitionPairs order = flat_map (λ t. (t - 1) ∷ t ∷ []) order
 
--- The tests are those of a compaction of a list in steepest order, each with its number in the
--- list. In a list of pairs it is the pairs that are in this order. They detect each fault of the
--- model that the list detects.
+-- The tests are a compaction of a list in steepest order, each with its number in the list. In a
+-- list of pairs the pairs are in this order. They detect each fault of the model that the list
+-- detects.
 pub record IsSteepestCompaction (m : Model) (c : List Statement) (tests kept : List Test)
     (numbers : List ℕ) : Type 0 where
   pub between : List Test
@@ -66,8 +66,8 @@ pub record IsSteepestCompaction (m : Model) (c : List Statement) (tests kept : L
   pub numbered : numbers ≡ at_places 0 given (with_launches m order)
   pub covers : Covers m c tests kept
 
--- The tests are those of a compaction, in this order, each with its number in the list. In a list
--- where each test makes a pair with the one before it there is only the order of the list.
+-- The tests are a compaction, in this order, each with its number in the list. If each test of the
+-- list makes a pair with the test before it, the only order is the order of the list.
 abbrev pub IsOrdered : TestOrder → Model → List Statement → List Test → List Test → List ℕ → Type 0
 IsOrdered AsListed m c tests kept numbers = IsNumbered m c tests kept numbers
 IsOrdered Steepest StuckAt c tests kept numbers =

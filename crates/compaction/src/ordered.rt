@@ -26,9 +26,9 @@ use workers::RunFault;
 /// Returns the tests that [`compact_in_parts`] keeps, in an order, each with its number in the
 /// list.
 ///
-/// In steepest order a test that detects no class anew is left out. Under
-/// [`Model::TransitionPairs`] it is the pairs that are in this order. Under [`Model::Transition`],
-/// where a test makes a pair with the one before it, the order of the list stays.
+/// Steepest order leaves out a test that detects no class anew. Under [`Model::TransitionPairs`]
+/// the pairs are in this order. Under [`Model::Transition`] a test makes a pair with the test
+/// before it, so the tests stay in the order of the list.
 ///
 /// Steepest order takes 8 bytes for each class and block of the kept tests. It fails as
 /// [`compact_in_parts`] does.
@@ -87,7 +87,7 @@ fn compact_steepest<R: Threads + Wait>(
     Ok(kept_at(alloc, job.tests(), &numbers, &places)?)
 }
 
-/// Returns the places of the tests of an order, in a list of pairs each behind its launch test.
+/// Returns the places of the tests of an order; in a list of pairs each follows its launch test.
 fn places_of(alloc: Global, model: Model, order: &[u32]) -> Result<Vec<u32>, AllocError>
     ensures { IfOk result (λ places. places.items ≡ with_launches model order.now) }
 {
@@ -97,7 +97,7 @@ fn places_of(alloc: Global, model: Model, order: &[u32]) -> Result<Vec<u32>, All
     }
 }
 
-/// Returns each test of an order behind the one before it in the list.
+/// Returns each test of an order after the test before it in the list.
 fn pairs_of(alloc: Global, order: &[u32]) -> Result<Vec<u32>, AllocError>
     ensures { IfOk result (λ places. places.items
         ≡ with_launches model.TransitionPairs order.now) }

@@ -24,12 +24,12 @@ use workers::{RunFault, parts_for};
 /// Compacts a job's tests: returns some of them, in order, which detect each fault that a test of
 /// the job detects.
 ///
-/// The first pass keeps the tests that are the first to detect some fault. The second pass goes
-/// over these from the last to the first and keeps those that still detect a new fault:
-/// reverse-order fault simulation (Schulz, Trischler and Sarfert, SOCRATES: A Highly Efficient
-/// Automatic Test Pattern Generation System, 1988). Under transition faults a test that is kept in
-/// a pass keeps the test before it. So under [`Model::TransitionPairs`], where only the capture
-/// test detects, pairs are kept and left out whole.
+/// The first pass keeps the tests that are the first to detect some fault. The second pass visits
+/// these from the last to the first, and keeps each that still detects a new fault: reverse-order
+/// fault simulation (Schulz, Trischler and Sarfert, SOCRATES: A Highly Efficient Automatic Test
+/// Pattern Generation System, 1988). Under transition faults a test that a pass keeps also keeps
+/// the test before it. Under [`Model::TransitionPairs`] only the capture test detects a fault, so
+/// pairs are kept and left out whole.
 ///
 /// The job keeps its circuit, its faults and its classes. Its tests are others after the second
 /// pass. It fails as [`workers::run_open`] does.
@@ -63,7 +63,7 @@ pub fn compact<R: Threads + Wait>(
 /// Returns the tests that [`compact`] keeps, each with its number in the list. Each run is one in
 /// `parts` parts.
 ///
-/// It is refused as [`workers::run_in_parts`] is.
+/// It fails as [`workers::run_in_parts`] does.
 pub fn compact_in_parts<R: Threads + Wait>(
     rt: &R,
     alloc: Global,

@@ -11,10 +11,10 @@ ghost use Rattle.compaction.specs.Steepest.{IsSteepest};
 use crate::detections::Detections;
 use std::alloc::{AllocError, Global};
 
-/// Returns the numbers of tests in steepest order: each is the one that detects the most classes
-/// which none before it detects, the first of such tests. A test that would detect none is left
-/// out. Each class is counted once at each test and taken off once, so the time is that of two
-/// passes over all classes and tests.
+/// Returns the numbers of tests in steepest order: each is the test that detects the most classes
+/// that none before it detects, the first of such tests. It leaves out a test that would detect
+/// none. It counts each class once at each test and takes it off once. So its time is two passes
+/// over all classes and tests.
 pub fn steepest_order(alloc: Global, detections: &Detections) -> Result<Vec<u32>, AllocError>
     ensures { IfOk result (λ order. IsSteepest (detects_by detections.now)
         (length detections.now.words) detections.now.tests order.items) }
