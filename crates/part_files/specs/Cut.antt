@@ -1,4 +1,4 @@
--- Texts that are cut at a byte.
+-- Files that are cut at a byte.
 use Rattle.std.specs.Prelude.{◌≡◌, ◌≢◌, ℕ, List, [], ◌∷◌, ◌++◌}
 
 -- the byte is not in the text

@@ -1,4 +1,4 @@
--- Part texts that are put together.
+-- The merge of part files.
 use Rattle.std.specs.Prelude.{◌≡◌, ◌≢◌, ◌⊎◌, ◌<◌, ◌≤◌, ◌^◌, ℕ, ◌+◌, List, [], ◌∷◌, ◌++◌, map}
 use Rattle.std.specs.Prelude.{length, slice_get, slice_index_or as get_or, zip, flat_map}
 use Rattle.std.specs.Prelude.{Contains, Option}
@@ -28,7 +28,7 @@ IsJoined OtherPart b both = both ≡ b
 IsJoined (First first) OtherPart both = both ≡ First first
 IsJoined (First first) (First other) both = ⊥
 
--- the same of each fault
+-- the same for each fault
 pub record AreJoined (verdicts others both : List PartVerdict) : Type 0 where
   pub count : length both ≡ length verdicts
   pub each : (k : ℕ) (v : PartVerdict) → k < length both
@@ -39,13 +39,13 @@ abbrev pub HaveBoth : List PartVerdict → List PartVerdict → ℕ → Type 0
 HaveBoth verdicts others k = (get_or verdicts k OtherPart ≢ OtherPart)
     × (get_or others k OtherPart ≢ OtherPart)
 
--- lists of faults differ first at this place, where one of them may end
+-- the first place at which lists of faults differ; one of them may end there
 pub record DifferAt (faults others : List (List ℕ)) (k : ℕ) : Type 0 where
   pub same : (i : ℕ) (d : List ℕ) → i < k → get_or faults i d ≡ get_or others i d
   pub differ : slice_get faults k ≢ slice_get others k
 
--- what was put together so far: what all first lines say but for the part, the names of the faults,
--- the verdict on each, and which parts
+-- the state of a merge: the contents of all first lines without the part, the names of the faults,
+-- the verdict on each, and the merged parts
 pub record MergeState : Type 0 where
   pub head : PartHead
   pub faults : List (List ℕ)
@@ -85,9 +85,9 @@ IsOtherRun h k fault.OtherInputs = (h.bench ≢ k.bench) ⊎ (h.tests ≢ k.test
 IsOtherRun h k fault.OtherCount = h.parts ≢ k.parts
 IsOtherRun h k _ = ⊥
 
--- When one more text is refused: its fault stands in it, or in it and in what was put together. A
--- part is there again, and a fault differs, only in a text of the same run; and a fault only in one
--- of a part that is not there.
+-- The condition of each error of one more file. The error is in the file, or in the file and the
+-- state of the merge. A part can be there again, and a fault can differ, only in a file of the same
+-- run. A fault can differ only in a file of a part that is not there.
 abbrev pub IsMergeRefusal : MergeState → List ℕ → MergeFault → Type 0
 IsMergeRefusal old text (fault.Part f) = IsPartRefusal text f
 IsMergeRefusal old text (fault.Again number) = (h : PartHead) × (faults : List (List ℕ))
@@ -101,13 +101,13 @@ IsMergeRefusal old text fault.Memory = Unit {0}
 IsMergeRefusal old text f = (h : PartHead) × (faults : List (List ℕ))
     × (verdicts : List PartVerdict) × IsPart text h faults verdicts × IsOtherRun old.head h f
 
--- when the first text is refused
+-- the condition of each error of the first file
 abbrev pub IsFirstRefusal : List ℕ → MergeFault → Type 0
 IsFirstRefusal text (fault.Part f) = IsPartRefusal text f
 IsFirstRefusal text fault.Memory = Unit {0}
 IsFirstRefusal text f = ⊥
 
--- what was put together of all parts: the names of the faults, and the first test of each, or none
+-- the result of a merge of all parts: the names of the faults, and the first test of each, or none
 pub record MergedRun : Type 0 where
   pub faults : List (List ℕ)
   pub firsts : List (Option ℕ)
@@ -123,7 +123,7 @@ abbrev pub report_text : List (List ℕ) → List (Option ℕ) → Lines → Lis
 report_text names firsts lines = flat_map (wanted_name lines) (zip names firsts)
     ++ coverage_line (detected_count firsts) (length firsts)
 
--- so many parts are there, from part 0 on
+-- this many parts are there, from part 0 on
 abbrev pub HasParts : List ℕ → ℕ → Type 0
 HasParts seen count = (part : ℕ) → part < count → Contains seen part
 
@@ -133,19 +133,17 @@ pub record IsWholeRun (old : MergeState) (new : MergedRun) : Type 0 where
   pub faults : new.faults ≡ old.faults
   pub verdicts : old.verdicts ≡ map First new.firsts
 
--- When first tests are refused to verdicts: for the first fault of no part, which the line of a
--- part
--- text names, or for want of memory.
+-- The condition of each error of the step from verdicts to first tests: the first fault of no part,
+-- by its line in a part file; or refused memory.
 abbrev pub IsOpenRefusal : List PartVerdict → MergeFault → Type 0
 IsOpenRefusal verdicts (fault.NoPart line) = (firsts : List (Option ℕ)) × (rest : List PartVerdict)
     × (verdicts ≡ map First firsts ++ OtherPart ∷ rest) × (line ≡ length firsts + 2)
 IsOpenRefusal verdicts fault.Memory = Unit {0}
 IsOpenRefusal verdicts _ = ⊥
 
--- When what was put together is not that of a whole run: for the lowest part that isn't there, then
--- for the first fault that is of no part, and then for a number of faults that is none of a
--- circuit.
--- Want of memory may come in place of any other but the first.
+-- The condition of each error of the end of a merge: the lowest part that isn't there, then the
+-- first fault of no part, and then a number of faults that no circuit has. Refused memory is
+-- possible in place of each of them but the first.
 abbrev pub IsEndRefusal : MergeState → MergeFault → Type 0
 IsEndRefusal s (fault.Missing number) = (part : ℕ) × (number ≡ part + 1) × (part < s.head.parts)
     × HasParts s.seen part × (Contains s.seen part → ⊥)

@@ -1,4 +1,4 @@
--- What a part text says, and when a text is none.
+-- The contents of a part file, and the errors of a file that is none.
 use Rattle.std.specs.Prelude.{◌≡◌, ◌≢◌, ◌⊎◌, ◌<◌, ◌^◌, ℕ, ◌+◌, List, ◌∷◌, ◌++◌, map, zip, flat_map}
 use Rattle.std.specs.Prelude.{length, count_by, codes, Some, None}
 use Rattle.std.specs.List.{AllByRecursion}
@@ -19,7 +19,7 @@ pub record IsWord (word : List ℕ) : Type 0 where
   pub no_space : Lacks 32 word
   pub one_line : Lacks 10 word
 
--- what a first line can say
+-- the values of a first line
 pub record IsHead (h : PartHead) : Type 0 where
   pub below : h.part < h.parts
   pub few : h.parts < 2 ^ 32
@@ -39,7 +39,7 @@ IsVerdict (First (Some t)) = t < 2 ^ 32
 IsVerdict (First None) = Unit {0}
 IsVerdict OtherPart = Unit {0}
 
--- what the line of a fault can say
+-- the values of the line of a fault
 pub record IsLine (at : List ℕ × PartVerdict) : Type 0 where
   pub name : IsFaultName at.0
   pub verdict : IsVerdict at.1
@@ -49,14 +49,14 @@ pub record AreLines (faults : List (List ℕ)) (verdicts : List PartVerdict) : T
   pub same : length faults ≡ length verdicts
   pub each : AllByRecursion IsLine (zip faults verdicts)
 
--- the text is the part text of these values
+-- the bytes are the part file of these values
 pub record IsPart (text : List ℕ) (h : PartHead) (faults : List (List ℕ))
     (verdicts : List PartVerdict) : Type 0 where
   pub head : IsHead h
   pub lines : AreLines faults verdicts
   pub whole : text ≡ part_text h faults verdicts
 
--- the text begins as a part text of these values, with some more behind the lines of the faults
+-- the bytes begin as a part file of these values, with more bytes after the lines of the faults
 pub record IsBegun (text : List ℕ) (h : PartHead) (faults : List (List ℕ))
     (verdicts : List PartVerdict) (more : List ℕ) : Type 0 where
   pub head : IsHead h
@@ -71,7 +71,7 @@ end_of h verdicts = end_line h.part h.parts (count_by is_found verdicts) (count_
 abbrev pub IsNoFaultLine : List ℕ → Type 0
 IsNoFaultLine line = (at : List ℕ × PartVerdict) → IsLine at → line ++ codes "\n" ≢ verdict_line at
 
--- The first line, whole, is that of no part text.
+-- The first line, whole, is the first line of no part file.
 pub record IsBadHead (text : List ℕ) : Type 0 where
   pub line : List ℕ
   pub more : List ℕ
@@ -79,7 +79,8 @@ pub record IsBadHead (text : List ℕ) : Type 0 where
   pub one_line : Lacks 10 line
   pub bad : (h : PartHead) → IsHead h → line ++ codes "\n" ≢ head_line h
 
--- Behind so many lines of faults comes a whole line that is neither that of a fault nor the last.
+-- After this many lines of faults comes a whole line that is neither the line of a fault nor the
+-- last line.
 pub record IsBadLine (text : List ℕ) (count : ℕ) : Type 0 where
   pub head : PartHead
   pub faults : List (List ℕ)
@@ -92,7 +93,7 @@ pub record IsBadLine (text : List ℕ) (count : ℕ) : Type 0 where
   pub no_fault : IsNoFaultLine line
   pub no_end : line ++ codes "\n" ≢ end_of head verdicts
 
--- Behind so many lines of faults comes the last line, and more behind it.
+-- After this many lines of faults comes the last line, and more bytes after it.
 pub record HasMore (text : List ℕ) (count : ℕ) : Type 0 where
   pub head : PartHead
   pub faults : List (List ℕ)
@@ -102,7 +103,7 @@ pub record HasMore (text : List ℕ) (count : ℕ) : Type 0 where
   pub count_is : length faults ≡ count
   pub some : 0 < length more
 
--- The text ends before its last line does: within the first line, or behind some lines of faults.
+-- The file ends before its last line does: within the first line, or after some lines of faults.
 pub record IsCutLines (text : List ℕ) : Type 0 where
   pub head : PartHead
   pub faults : List (List ℕ)
@@ -111,8 +112,8 @@ pub record IsCutLines (text : List ℕ) : Type 0 where
   pub begun : IsBegun text head faults verdicts more
   pub one_line : Lacks 10 more
 
--- When a text is no part text. Lines count from 1; each before the line that is named is as it
--- should be.
+-- The condition of each error of a file that is no part file. Lines count from 1; each line before
+-- the one of the error is right.
 abbrev pub IsPartRefusal : List ℕ → PartFault → Type 0
 IsPartRefusal text (fault.NotAPart line) = ((line ≡ 1) × IsBadHead text)
     ⊎ ((count : ℕ) × (((line ≡ count + 2) × IsBadLine text count)
@@ -120,15 +121,15 @@ IsPartRefusal text (fault.NotAPart line) = ((line ≡ 1) × IsBadHead text)
 IsPartRefusal text fault.CutOff = Lacks 10 text ⊎ IsCutLines text
 IsPartRefusal text fault.Memory = Unit {0}
 
--- why a line of this number is not the end of a part text: it is another line, or more stands
--- behind it
+-- the reason why a line of this number is not the end of a part file: it is another line, or more
+-- bytes come after it
 abbrev pub IsEndFault : List ℕ → List ℕ → PartHead → List PartVerdict → ℕ → PartFault → Type 0
 IsEndFault line after h verdicts number f =
     ((f ≡ fault.NotAPart number) × (line ++ codes "\n" ≢ end_of h verdicts))
     ⊎ ((f ≡ fault.NotAPart (number + 1)) × (line ++ codes "\n" ≡ end_of h verdicts)
     × (0 < length after))
 
--- what a first line that was read says
+-- the values of a first line that was read
 abbrev pub head_in : PartHeader → PartHead
 head_in h = record {
   part = h.part;
@@ -139,7 +140,7 @@ head_in h = record {
   tests = h.tests.now;
 }
 
--- the texts that are pointed to
+-- the texts at these references
 abbrev pub texts_in : List (Bor (List ℕ)) → List (List ℕ)
 texts_in = map (λ text. text.now)
 

@@ -17,9 +17,8 @@ use Rattle.report.specs.EndToEnd.{IsTextFault}
 use Rattle.report.specs.Report.{first_text, fault_text}
 use Rattle.report.specs.RunIdentity.{model_name, sum_text}
 
--- What the first line of a part text says: the part, from 0, and of how many it is one; then, as
--- words, the model, the rule by which parts are made, and the sums of the bench text and of the
--- test text.
+-- The values of the first line of a part file: the part, from 0, and the number of parts; then, as
+-- words, the model, the rule of parts, and the sums of the bench file and of the test file.
 pub record PartHead : Type 0 where
   pub part : ℕ
   pub parts : ℕ
@@ -28,7 +27,7 @@ pub record PartHead : Type 0 where
   pub bench : List ℕ
   pub tests : List ℕ
 
--- which part it is of how many; parts count from 1 in the text
+-- the part and the number of parts; parts count from 1 in the file
 abbrev pub part_name : ℕ → ℕ → List ℕ
 part_name part parts = codes "part " ++ decimal (part + 1) ++ codes " of " ++ decimal parts
 
@@ -60,12 +59,12 @@ abbrev pub end_line : ℕ → ℕ → ℕ → ℕ → List ℕ
 end_line part parts found own = part_name part parts ++ codes ": " ++ decimal found
     ++ codes " of " ++ decimal own ++ codes "\n"
 
--- the part text of faults, given as texts, and of their verdicts
+-- the part file of faults, given as texts, and of their verdicts
 abbrev pub part_text : PartHead → List (List ℕ) → List PartVerdict → List ℕ
 part_text h faults verdicts = head_line h ++ (flat_map verdict_line (zip faults verdicts)
     ++ end_line h.part h.parts (count_by is_found verdicts) (count_by is_own verdicts))
 
--- the same of what the code holds
+-- the same values, from the form of the code
 abbrev pub said_by : Head → PartHead
 said_by h = record {
   part = h.part;
@@ -80,7 +79,7 @@ said_by h = record {
 abbrev pub rule_name : List ℕ
 rule_name = codes "region"
 
--- what the first line says of a part of the run of a bench text and a test text under a model
+-- the values of the first line for a part of the run of a bench file and a test file under a model
 abbrev pub head_of : Model → List ℕ → List ℕ → ℕ → ℕ → PartHead
 head_of m bench text part parts = record {
   part = part;
@@ -95,7 +94,7 @@ head_of m bench text part parts = record {
 abbrev pub part_line : List Statement → Fault × PartVerdict → List ℕ
 part_line c at = verdict_line (fault_text c at.0, at.1)
 
--- the part text of a circuit's faults and of their verdicts
+-- the part file of a circuit's faults and of their verdicts
 abbrev pub job_part_text : PartHead → Model → List Statement → List PartVerdict → List ℕ
 job_part_text h m c verdicts = part_text h (map (fault_text c) (faults m c)) verdicts
 
@@ -105,13 +104,13 @@ IsPartTextOfJob h job bytes = (verdicts : List PartVerdict)
     × ArePartVerdicts job h.parts h.part verdicts
     × (bytes ≡ job_part_text h job.list.model job.circuit verdicts)
 
--- the bytes are the text of a part of the run of a bench text and a test text under a model: each
+-- the bytes are the file of a part of the run of a bench file and a test file under a model: each
 -- fault of the part has the first test that detects it, or none
 abbrev pub IsPartTextOf : Model → List ℕ → List ℕ → ℕ → ℕ → List ℕ → Type 0
 IsPartTextOf m bench text part parts bytes = (job : Parts) × IsJobOf m bench text job
     × IsPartTextOfJob (head_of m bench text part parts) job bytes
 
--- when the text of one part of a run in so many parts is refused
+-- the condition of each error of the file of one part of a run in this many parts
 abbrev pub IsPartReportFault : Model → List ℕ → List ℕ → ℕ → ℕ → ℕ → SimFault → Type 0
 IsPartReportFault m bench text part parts workers f =
     IsTextFault m bench text workers (λ job. IsPartFault job parts part workers ⊤ no_stop) f

@@ -62,9 +62,9 @@ pub fn part_text_is_read()
         (map (fault_text job.circuit) (faults m job.circuit)) verdicts }
 {}
 
-/// States the report of a merge. Its first file is a part of a run, each other file a part of this
-/// run or of one that the sums distinguish from it. If the merge succeeds, its report is the report
-/// of the run's bench file and test file under its model.
+/// States the report of a merge. Its first file is a part of a run. Each other file is a part of
+/// this run, or of a run that the sums distinguish from it. If the merge succeeds, its report is
+/// the report of the run's bench file and test file under its model.
 pub fn merged_report()
     ensures { (run : PartedRun) (first : List ℕ) (others : List (List ℕ)) (merged : MergedRun)
         (lines : Lines) → IsSomePartOf run first → All (IsSomePartDistinguished run) others
@@ -75,8 +75,8 @@ pub fn merged_report()
     one_answer();
 }
 
-/// The report of such a merge with the coverage of the classes of the run's circuit is that of the
-/// run, too.
+/// States that the report of such a merge, with the coverage of the classes of the run's circuit,
+/// is also the report of the run.
 pub fn merged_class_report()
     ensures { (run : PartedRun) (first : List ℕ) (others : List (List ℕ)) (merged : MergedRun)
         (lines : Lines) (c : List Statement) (classes : Collapsed) → IsSomePartOf run first
@@ -89,8 +89,8 @@ pub fn merged_class_report()
     one_answer();
 }
 
-/// The first tests of such a merge are those of the faults of the run's circuit under the run's
-/// tests.
+/// States that the first tests of such a merge are the first tests of the faults of the run's
+/// circuit under the run's tests.
 pub fn merged_firsts()
     ensures { (run : PartedRun) (first : List ℕ) (others : List (List ℕ)) (merged : MergedRun)
         (c : List Statement) → IsSomePartOf run first → All (IsSomePartDistinguished run) others

@@ -80,7 +80,7 @@ impl<'a> Merge<'a> {
     }
 
     /// Ends the merge: returns each fault of the run with its first test. It fails for the lowest
-    /// missing part, then for the first fault that no part contains, and then for a number of
+    /// missing part, then for the first fault that no part contains. Last it fails for a number of
     /// faults that no circuit has.
     pub fn end(self, alloc: Global) -> Result<Merged<'a>, MergeFault>
         ensures merged { IfOk result (λ merged.

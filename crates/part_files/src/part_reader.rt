@@ -183,7 +183,7 @@ fn line_of(line: &[u8]) -> Option<(&[u8], PartVerdict)>
     }
 }
 
-/// Returns whether a line, given without its line feed, is the last line of a part text with this
+/// Returns whether a line, given without its line feed, is the last line of a part file with this
 /// first line and these verdicts.
 fn is_end(line: &[u8], header: &PartHeader<'_>, verdicts: &[PartVerdict]) -> bool
     ensures yes { result ≡ true
@@ -272,9 +272,9 @@ fn read_lines<'a>(
     Err(PartFault::CutOff)
 }
 
-/// Checks that a line of this number, given without its line feed, is the last line of a part file
-/// with this first line and these verdicts, and that no line follows it. It fails with the line
-/// that has the error.
+/// Checks that a line of this number, given without its line feed, is the last line of a part file.
+/// The file has this first line and these verdicts, and no line follows the last. It fails with the
+/// line that has the error.
 fn check_end(
     line: &[u8],
     after: &[u8],

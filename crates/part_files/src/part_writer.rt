@@ -27,11 +27,11 @@ use workers::{OpenGate, PartVerdict, part_of, run_part};
 /// The rule of parts, as a part file names it: by the stem of a class's region.
 const RULE: &str = "region";
 
-/// Reads a circuit and tests for it, runs one part of the fault classes, counted from 0, of this
-/// number of parts, and writes its part file. That has the part and its run, and each fault of the
-/// list with its first detecting test, with `none`, or with `-` if the fault is in another part,
-/// and then how many faults of the part are detected. It works as [`report::simulate_text_in`]
-/// does.
+/// Reads a circuit and tests for it, runs one part of the fault classes, and writes its part file.
+/// The part counts from 0, of this number of parts. The file has the part and its run, and a line
+/// for each fault of the list. The line has the first detecting test, `none`, or `-` if the fault
+/// is in another part. Last comes how many faults of the part are detected. It works as
+/// [`report::simulate_text_in`] does.
 ///
 /// It fails as [`report::simulate_text_in`] does, in the same order, except for the number of
 /// pieces. The whole has no limit: it fails with [`workers::RunFault::TooManyPieces`] if the part
@@ -60,8 +60,8 @@ pub fn part_text_in<R: Threads + Wait, W: Out>(
 }
 
 /// Reads a circuit and tests for it, and writes the part file as [`part_text_in`] does, with the
-/// same bytes. The gate learns when the run of the part begins and when it ends, and is asked
-/// before each piece of work. It only decides whether there is a part file.
+/// same bytes. It calls the gate when the run of the part begins and when it ends, and asks it
+/// before each piece of work. The gate decides whether there is a part file, but not its bytes.
 ///
 /// It fails as [`part_text_in`] does. If the gate stops workers and not all classes of the part are
 /// settled, it fails with [`workers::RunFault::Unfinished`].
@@ -122,8 +122,8 @@ fn count_classes(job: &Job, part: u32, parts: u32) -> u32
     count
 }
 
-/// Runs a part of a job by workers in threads of their own, and writes its part file. The gate
-/// learns when the run begins and when all is settled.
+/// Runs a part of a job by workers in threads of their own, and writes its part file. It calls the
+/// gate when the run begins and when all is settled.
 fn report_part<R: Threads + Wait, G: Watch + Sync, W: Out>(
     rt: &R,
     alloc: Global,
