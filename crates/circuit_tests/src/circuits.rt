@@ -13,10 +13,10 @@ enum Driver {
 }
 
 /// A bench file, and the results of its circuit's calls. First come the signals of the INPUT lines,
-/// the cells, the signals of the OUTPUT lines, the signals by level, the number of sources and the
-/// depth. Then come each signal's name, level and driver. Last come the pins of gates and the
-/// sinks, each with its signal. All numbers count from 0. A sink that is a pin is the number of the
-/// gate's signal and the place among its pins.
+/// the cells, and the signals of the OUTPUT lines. Then come the signals by level, the number of
+/// sources and the depth, and each signal's name, level and driver. Last come the pins of gates and
+/// the sinks, each with its signal. All numbers count from 0. A sink that is a pin is the number of
+/// the gate's signal and the place among its pins.
 struct Case {
     name: &'static str,
     text: &'static [u8],

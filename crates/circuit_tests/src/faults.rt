@@ -11,8 +11,8 @@ use std::alloc::{AllocError, Global};
 use worked_circuits::C17;
 
 /// A line by the names of its signals, with pins and outputs from 1. It is the stem of a signal, a
-/// pin of the gate that drives a signal, the data pin of the cell that drives a signal, or an
-/// output.
+/// pin of the gate that drives a signal, or an output. It can also be the data pin of the cell that
+/// drives a signal.
 #[derive(Clone, Copy)]
 enum Spot {
     Stem(&'static str),

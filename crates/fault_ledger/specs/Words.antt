@@ -1,4 +1,4 @@
--- The rule of the shared words: what is true of the words and of all that the seats have seen,
+-- The rule of the shared words: the invariant of the words and of all that the seats have seen,
 -- between any two steps.
 use Rattle.std.specs.Prelude.{◌≡◌, ℕ, zero, suc, ◌+◌, ◌*◌, ◌/◌, ◌%◌, ◌^◌, ◌<◌, ◌≤◌, ◌⊎◌, Bool, true}
 use Rattle.std.specs.Prelude.{false, ◌==◌, if◌then◌else◌, min, List, [], ◌∷◌, ◌++◌, length}

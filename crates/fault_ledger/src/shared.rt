@@ -31,7 +31,7 @@ const REMEMBERED_CLASSES: u32 = 65_536;
 ///
 /// The n-th claim over all workers, counted from 0, is for the piece of class `n % classes` and
 /// block `n / classes`. Each worker calls with its [`Seat`]. Each accepted claim, report and drop
-/// takes effect at one atomic step, so the calls of all workers are one legal history of the
+/// takes effect at one atomic step. So the calls of all workers are one legal history of the
 /// sequential ledger. No call takes a lock or tries a step again. Only [`SharedLedger::new`] and
 /// [`SharedLedger::close`] take memory.
 ///

@@ -1,8 +1,7 @@
 //! The words of a shared ledger, and the tokens that step on them.
 //!
-//! Word 0 is the cursor, which counts the claims that were tried. The pieces follow it, eight to a
-//! word: the field of piece p, counted from 0, is eight bits of word p / 8 + 1, from bit 8 * (p %
-//! 8) on.
+//! Word 0 is the cursor, which counts the claims that were tried. The pieces follow it, eight in
+//! each word: piece p, counted from 0, has eight bits of word p / 8 + 1, from bit 8 * (p % 8) on.
 //!
 //! ```text
 //! bit      63    56    48    40    32    24    16     8     0

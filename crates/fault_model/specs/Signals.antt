@@ -1,4 +1,4 @@
--- The signals that a fault list may be asked for.
+-- The signals to which a fault list may be restricted.
 use Rattle.std.specs.Prelude.{◌≡◌, ◌<◌, ℕ, List, length}
 use Rattle.bench_net.specs.Scan.{names}
 use Rattle.bench_net.specs.Statement.{Statement}

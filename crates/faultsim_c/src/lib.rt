@@ -1,9 +1,9 @@
-//! The library for C: a job behind a handle, and calls that keep `include/faultsim.h`.
+//! The library for C: jobs that C reaches by handles, and calls that keep `include/faultsim.h`.
 //!
 //! A handle is taken apart at the start of a call and put together at its end, so that the code
-//! between is safe. A call returns a status: 0 if it is done, 1 for a handle without a job, 2 if
-//! memory ran out, and 3 for a wrong file or wrong words. The status is 4 for a number or a length
-//! out of range, and 5 for a job that another handle shares.
+//! between is safe. A call returns a status: 0 if it is done, 1 for a handle without a job, and 2
+//! if memory ran out. The status is 3 for an error of a file or of words, and 4 for a number or a
+//! length out of range. It is 5 for a job that another handle shares.
 #![tactic(auto)]
 
 ghost use Rattle.std.specs.Prelude.{◌≡◌, ◌≢◌, ◌↔◌, ◌⊎◌, ◌<◌, ◌≤◌, All, IfNone, IfSome};

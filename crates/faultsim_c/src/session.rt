@@ -227,8 +227,8 @@ impl Session {
 /// Replaces a job's tests, unless another session shares the job.
 ///
 /// The contract of `Arc::get_mut` doesn't fix when it returns none. If it returned none for a job
-/// of only one session, this call would report that memory ran out, and not that another session
-/// shares the job.
+/// of only one session, this call would report that memory ran out. It would not report that
+/// another session shares the job.
 fn replace_tests(
     alloc: Global,
     alone: bool,

@@ -18,8 +18,8 @@ use std::alloc::{AllocError, Global};
 
 /// Returns the launch-on-capture pairs of tests for a circuit, two tests for each: the test itself,
 /// and its capture test. The capture test has the same bits at the primary inputs, which are held.
-/// In the scan cells it has the bits that the flip-flops capture under the test (Bushnell and
-/// Agrawal, Essentials of Electronic Testing, chapter 12, on delay test). The result is a list of
+/// In the scan cells it has the bits that the flip-flops capture under the test. (Bushnell and
+/// Agrawal, Essentials of Electronic Testing, chapter 12, on delay test.) The result is a list of
 /// pairs for [`fault_model::Model::TransitionPairs`].
 ///
 /// # Errors

@@ -107,8 +107,8 @@ fn first_wrong(
 }
 
 /// Returns whether a runner that has run lists has the verdicts on all faults. Class 1 has the
-/// fault G2 sa1, class 7 the fault G7 sa1, and class 19 the faults G10 sa0, pin 2 of G22 sa0 and
-/// G22 sa1. The second pieces of the eight classes that ones detect are skipped.
+/// fault G2 sa1, and class 7 the fault G7 sa1. Class 19 has the faults G10 sa0, pin 2 of G22 sa0
+/// and G22 sa1. The second pieces of the eight classes that ones detect are skipped.
 fn has_verdicts(runner: &mut ListRunner, alloc: Global, job: &Job) -> Result<bool, AllocError>
     requires { ServesLists runner.old job.now }
 {
@@ -123,7 +123,7 @@ fn has_verdicts(runner: &mut ListRunner, alloc: Global, job: &Job) -> Result<boo
 }
 
 /// Returns whether a runner goes on after a gate stopped a run. The last class of the list in which
-/// one part runs all classes is 21, so all others have passed block 0, and class 0 waits for block
+/// one part runs all classes is 21. So all others have passed block 0, and class 0 waits for block
 /// 1.
 fn goes_on<R: Threads + Wait>(rt: &R, alloc: Global, job: &Job) -> Result<bool, AllocError> {
     let gate = ShutFor {

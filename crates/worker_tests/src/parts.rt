@@ -109,10 +109,10 @@ fn is_in_parts<R: Threads + Wait>(
     Ok(true)
 }
 
-/// The number of the stem of each class of C17, by the class's number. The representatives are G1
-/// sa1, G2 sa1, G3 sa0 and sa1, pin 2 of G10 sa1, pin 1 of G11 sa1, G6 sa1, G7 sa1, G10 sa1, G11
-/// sa0 and sa1, pin 2 of G16 sa1, pin 1 of G19 sa1, G16 sa0 and sa1, pin 2 of G22 sa1, pin 1 of G23
-/// sa1, G19 sa1, G22 sa0 and sa1, and G23 sa0 and sa1.
+/// The number of the stem of each class of C17, by the class's number. The representatives are, in
+/// order: G1 sa1, G2 sa1, G3 sa0 and sa1, pin 2 of G10 sa1, pin 1 of G11 sa1; G6 sa1, G7 sa1, G10
+/// sa1, G11 sa0 and sa1, pin 2 of G16 sa1, pin 1 of G19 sa1; G16 sa0 and sa1, pin 2 of G22 sa1, pin
+/// 1 of G23 sa1, G19 sa1; G22 sa0 and sa1, G23 sa0 and sa1.
 static C17_CLASS_STEMS: [u32; 22] = [
     9, 7, 2, 2, 9, 6, 6, 10, 9, 6, 6, 7, 10, 7, 7, 9, 10, 10, 9, 9, 10, 10,
 ];
@@ -130,8 +130,8 @@ fn are_by_stem(job: &Job) -> bool {
     job.classes().count() as usize == C17_CLASS_STEMS.len()
 }
 
-/// The gate that is shut for one piece, which is the last of its part for each number of parts, so
-/// that all others are settled. Its class is the class of G23 sa1, the last of the region that is
+/// The gate that is shut for one piece, which is the last of its part for each number of parts. So
+/// all others are settled. Its class is the class of G23 sa1, the last of the region that is
 /// visited last: G22 and its fan-in go before G23.
 static LAST: ShutFor = ShutFor {
     class: 21,

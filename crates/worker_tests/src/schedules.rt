@@ -19,8 +19,8 @@ fn skipped_by(
     Ok(has_firsts(&verdicts, firsts).then_some(verdicts.skipped()))
 }
 
-/// Moves of four workers by which block 1 of the buffer is reported before block 0, moves by which
-/// it is dropped, and the number of skipped pieces.
+/// Moves of four workers with the number of skipped pieces: moves by which block 1 of the buffer is
+/// reported before block 0, and moves by which it is dropped.
 static ORDERS: [(&[u32], u64); 2] = [(&[0, 1, 2, 3, 2, 3, 1, 0], 0), (&[], 2)];
 
 /// Returns whether a job skips these numbers of pieces.
