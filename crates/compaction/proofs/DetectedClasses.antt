@@ -1,4 +1,4 @@
--- Which tests detect which classes, by the words of each class.
+-- The tests that detect each class, by the words of the class.
 use Rattle.std.proofs.Common.{◌≡◌, ◌+◌, ◌*◌, ◌/◌, ◌%◌, ◌<◌, ◌∙◌, ℕ, List, [], ap, arith}
 use Rattle.std.proofs.Common.{get_or, length, map, subst, sym}
 use Rattle.std.specs.Prelude.{Option, Some, slice_get, unwrap_or}

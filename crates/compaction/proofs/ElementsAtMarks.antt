@@ -7,7 +7,7 @@ use Rattle.std.proofs.lemmas.Bool.{cases_lt}
 use Rattle.std.specs.Prelude.{Some, None, slice_get}
 use Rattle.compaction.specs.Compaction.{IsSublist, at_marks}
 
--- how many places are marked
+-- the number of marked places
 abbrev pub ones : List Bool → ℕ
 ones [] = 0
 ones (true ∷ marks) = suc (ones marks)
@@ -33,7 +33,7 @@ marked_at (false ∷ marks) (y ∷ xs) zero x m e = let bad : Some false ≡ Som
 marked_at (true ∷ marks) (y ∷ xs) (suc t) x m e = marked_at marks xs t x m e
 marked_at (false ∷ marks) (y ∷ xs) (suc t) x m e = marked_at marks xs t x m e
 
--- where an element at a marked place comes from
+-- the place from which an element at a marked place comes
 pub record ComesFrom {X : Type 0} (marks : List Bool) (xs : List X) (k : ℕ) (x : X) : Type 0 where
   pub place : ℕ
   pub mark : slice_get marks place ≡ Some true
@@ -108,7 +108,7 @@ marked_below (false ∷ marks) [] (suc t) = omega arith
 marked_below (true ∷ marks) (x ∷ xs) (suc t) = let h = marked_below marks xs t in omega (arith, h)
 marked_below (false ∷ marks) (x ∷ xs) (suc t) = let h = marked_below marks xs t in omega (arith, h)
 
--- where there are no elements, none is marked
+-- if there are no elements, none is marked
 no_elements : {X : Type 0} (marks : List Bool) → at_marks {X = X} marks [] ≡ []
 no_elements [] = refl
 no_elements (true ∷ marks) = refl
@@ -151,7 +151,7 @@ marked_none marks xs t m e = ap (λ n. at_marks (take n marks) xs) (add-one t)
 
 -- ---- some of some
 
--- the marks of the elements that marks leave of those that other marks leave
+-- the marks of the elements that remain after one list of marks and then another
 abbrev pub both_marks : List Bool → List Bool → List Bool
 both_marks [] inner = []
 both_marks (false ∷ marks) inner = false ∷ both_marks marks inner
@@ -169,7 +169,7 @@ both_marked (true ∷ marks) [] (suc t) e = both_marked marks [] t e
 both_marked (true ∷ marks) (mark ∷ inner) zero e = refl
 both_marked (true ∷ marks) (mark ∷ inner) (suc t) e = both_marked marks inner t e
 
--- and what they leave of those is marked
+-- and each of the elements that remain is marked
 pub both_inner : (marks inner : List Bool) (t : ℕ)
     → slice_get (both_marks marks inner) t ≡ Some true
     → slice_get inner (ones (take t marks)) ≡ Some true

@@ -1,4 +1,4 @@
--- What the tests that are kept detect, and why each is.
+-- The faults that the kept tests detect, and the reason why each test is kept.
 use Rattle.std.proofs.Common.{◌≡◌, ◌<◌, ◌≤◌, ◌+◌, ◌-◌, ◌*◌, ◌∙◌, ℕ, zero, suc, Bool, true, false}
 use Rattle.std.proofs.Common.{List, ◌∷◌, [], length, ap, refl, sym, subst, arith, add-one, inl, inr}
 use Rattle.std.proofs.Common.{◌⊎◌, get_or, take}
@@ -130,8 +130,8 @@ covers_stuck c tests marks are f t listed detects =
           (marked_at marks tests s.0 own.0 s.2 own.1) own.2,
     )
 
--- the second pass: turned round, the list has the first of some faults where it has the last of
--- them
+-- the second pass: a test is the last of some faults in a list if it is the first of them in the
+-- reversed list
 pub are_last : (c : List Statement) (tests reversed : List Test) (found marks : List Bool)
     → length reversed ≡ length tests → ReversedBelow tests reversed (length tests)
     → AreFinding StuckAt c reversed found
@@ -282,7 +282,7 @@ the_one_before found marks are t e =
     (get_or found (t + 1) false) (ap (λ i. get_or found i false) (add-one t)
     ∙ get_or_from_slice_get found (suc t) true false e))
 
--- what is initialized by a test of the list is initialized by the same row
+-- a fault that a test of the list initializes is initialized by the same row
 initialized_same : (c : List Statement) (tests : List Test) (marks : List Bool) (i : ℕ)
     (l : Line) (b : Bool) → slice_get marks i ≡ Some true → IsInitialized c tests l b (suc i)
     → IsInitialized c (at_marks marks tests) l b (suc (ones (take i marks)))
@@ -305,7 +305,7 @@ pub record LooksBackSame (m : Model) (c : List Statement) (tests : List Test)
       → LooksBack c tests m l b (suc i)
       → LooksBack c (at_marks marks tests) m l b (suc (ones (take i marks)))
 
--- the rows detect what the tests do
+-- the rows detect the faults that the tests detect
 covers_before : (m : Model) (c : List Statement) (tests : List Test) (found marks : List Bool)
     → AreDetecting m c tests found → AreWithBefore found marks
     → LooksBackSame m c tests found marks → Covers m c tests (at_marks marks tests)
@@ -378,7 +378,7 @@ first_is_marked m c tests found t are first = go (cases_lt t s.0) (cases_lt s.0 
         let same : s.0 ≡ t = omega (arith, le, ge) in
         subst (λ k. slice_get found k ≡ Some true) same s.2
 
--- the marks of the first pass are those that the definition names
+-- the marks of the first pass are the marks of the definition
 early_marks : (m : Model) (c : List Statement) (tests : List Test) (found marks : List Bool)
     → AreFinding m c tests found → AreWithBefore found marks → AreEarly m c tests marks
 early_marks m c tests found marks are before = (
@@ -418,7 +418,7 @@ lasting_detects m c tests last are = record {
   found = are.found;
 }
 
--- ---- transition faults of a list, where each test but the first is the second of a pair
+-- ---- transition faults of a list in which each test but the first is the second of a pair
 
 looks_back_transition : (c : List Statement) (tests : List Test) (found marks : List Bool)
     → AreWithBefore found marks → LooksBackSame Transition c tests found marks
@@ -623,19 +623,19 @@ pairs_numbered m c tests rows kept found marks given numbers either are before i
         go j (inl h) = inl (pairs.2.last j h)
         go j (inr h) = inr (pairs.2.last (j + 1) h)
 
--- an answer of one kind is one of another
+-- a result of one kind is a result of another
 pub ok_as : {T E : Type 0} (A B : T → Type 0) (r : Result T E) → ((x : T) → A x → B x) → IfOk r A
     → IfOk r B
 ok_as A B (Ok x) into h = into x h
 ok_as A B (Err e) into h = h
 
--- and answers of two kinds are one of a third
+-- and results of two kinds are results of a third
 pub both_as : {T E : Type 0} (A B C : T → Type 0) (r : Result T E) → ((x : T) → A x → B x → C x)
     → IfOk r A → IfOk r B → IfOk r C
 both_as A B C (Ok x) into a b = into x a b
 both_as A B C (Err e) into a b = b
 
--- ---- refusals
+-- ---- errors
 
 -- fewer tests don't make more pieces
 pub fewer_pieces : (classes few many : ℕ) → few ≤ many
@@ -643,7 +643,8 @@ pub fewer_pieces : (classes few many : ℕ) → few ≤ many
 fewer_pieces classes few many le =
     mul-le classes (blocks few) classes (blocks many) (omega arith) (omega (arith, le))
 
--- a run in parts under tests that are no more is refused as one under the job's own
+-- the errors of a run in parts under tests that are no more are errors of a run under the job's own
+-- tests
 pub refused_alike : (job : Parts) (tests : TestList) (parts workers : ℕ) (f : RunFault)
     → length tests.tests ≤ length job.tests.tests
     → IsPartsFault (with_tests job tests) parts workers ⊤ no_stop f

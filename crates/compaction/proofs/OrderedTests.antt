@@ -1,4 +1,4 @@
--- What tests in steepest order detect.
+-- The faults that tests in steepest order detect.
 use Rattle.std.proofs.Common.{◌≡◌, ◌+◌, ◌-◌, ◌*◌, ◌/◌, ◌<◌, ◌≤◌, ◌∙◌, ◌∷◌, [], ℕ, zero, suc, Bool}
 use Rattle.std.proofs.Common.{List, ap, arith, eqb, false, get_or, inl, inr, length, refl, subst}
 use Rattle.std.proofs.Common.{sym, take, true}
@@ -48,7 +48,7 @@ class_of job f b listed =
     let class = within_place job.classes.class_of at.0 (omega (arith, low, b.classes.count)) in
     (class.0, b.classes.class at.0 f class.0 at.1 class.1)
 
--- a fault is detected where the representative of its class is
+-- a fault is detected if the representative of its class is
 pub as_class : (job : Parts) (f : Fault) (class : ℕ) (tests : List Test) (t : ℕ)
     → BelongTogether job → (of : IsClassOf job.list.model job.circuit f class)
     → DetectsAt job.circuit tests f t → DetectsAt job.circuit tests of.0 t
@@ -65,7 +65,7 @@ as_fault job f class tests t b of =
 
 -- ---- the rows of an order
 
--- a test of the order that detects a class, where some test does
+-- a test of the order that detects a class, if some test does
 in_order : (p : ℕ → Bool) (order : List ℕ) → list_any p order ≡ true
     → (k : ℕ) × (t : ℕ) × (slice_get order k ≡ Some t) × (p t ≡ true)
 in_order p order e =
@@ -101,7 +101,7 @@ capture_at (x ∷ order) (suc k) t e =
     subst (λ i. slice_get (flat_map (λ t. (t - 1) ∷ t ∷ []) (x ∷ order)) i ≡ Some t) two
     (capture_at order k t e)
 
--- what the tests of an order detect, and their rows too
+-- the faults that the tests of an order detect, and their rows too
 pub placed_detects : (m : Model) (c : List Statement) (tests : List Test) (order : List ℕ)
     (k t : ℕ) (f : Fault) → m ≢ Transition → f.model ≡ m → slice_get order k ≡ Some t
     → DetectsAt c tests f t
@@ -145,7 +145,7 @@ placed_detects TransitionPairs c tests order k t f other model at d =
           ),
         )
 
--- the tests in steepest order detect what all detect
+-- the tests in steepest order detect the faults that all tests detect
 pub order_covers : (job : Parts) (detects : ℕ → ℕ → Bool) (order : List ℕ) → BelongTogether job
     → job.list.model ≢ Transition
     → DetectsClasses job.list.model job.circuit job.tests.tests detects
@@ -169,7 +169,7 @@ order_covers job detects order b other decides steepest = λ f t listed d.
     placed_detects m c tests order found.0 found.1 f other (listed_model m c f listed) found.2
     (as_fault job f class tests found.1 b of.1 there)
 
--- ---- how many tests an order has
+-- ---- the number of tests of an order
 
 -- each test of an order comes once: it has news, and none after itself
 apart : (detects : ℕ → ℕ → Bool) (classes tests : ℕ) (order : List ℕ)
@@ -280,7 +280,7 @@ few_places TransitionPairs c tests detects order decides is =
     let two = twice_long order in
     omega (arith, few, two)
 
--- ---- its places are those of tests
+-- ---- its places are places of tests
 
 order_within : (order : List ℕ) (n : ℕ) → ((k s : ℕ) → slice_get order k ≡ Some s → s < n)
     → (m : Model) (k s : ℕ) → slice_get (with_launches m order) k ≡ Some s → s < n

@@ -16,7 +16,7 @@ pushed_get {X} (z ∷ xs) x y (suc i) e = go (pushed_get xs x y i e)
     go (inl h) = inl h
     go (inr h) = inr (ap suc h.0, h.1)
 
--- what holds of each element at its place holds of one more
+-- a property of each element at its place holds for one element more
 pub push_each : {X : Type 0} (P : ℕ → X → Type 0) (xs : List X) (x : X)
     → ((i : ℕ) (y : X) → slice_get xs i ≡ Some y → P i y) → P (length xs) x
     → (i : ℕ) (y : X) → slice_get (xs ++ x ∷ []) i ≡ Some y → P i y
@@ -26,7 +26,7 @@ push_each {X} P xs x each own i y e = go (pushed_get xs x y i e)
     go (inl h) = each i y h
     go (inr h) = subst (λ k. P k y) (sym h.0) (subst (P (length xs)) h.1 own)
 
--- what is left of a vector whose slice was written over
+-- the vector after its slice was overwritten
 pub written_over : {X : Type 0} (n : ℕ) (new old : List X) → n ≡ length new
     → take n (new ++ old) ≡ new
 written_over n new old e = ap (λ k. take k (new ++ old)) e ∙ take-append_seam new old

@@ -1,4 +1,4 @@
--- Lists that are turned round.
+-- Reversed lists.
 use Rattle.std.proofs.Common.{◌≡◌, ◌-◌, ◌∙◌, ℕ, List, length, ap, sym, arith, get_or}
 use Rattle.std.specs.Prelude.{Some, slice_get}
 use Rattle.std.specs.List.{ReversedBelow}

@@ -39,7 +39,7 @@ counted_same p q a (suc n) same =
     let y = sum_by-cons (λ x. cond (q x) 1 0) a (from_up (a + 1) n) in
     omega (arith, x, y, here, rest)
 
--- where some are counted, there is one
+-- if some are counted, there is one
 counted_some : (p : ℕ → Bool) (a n : ℕ) → 0 < count_by p (from_up a n)
     → (j : ℕ) × (j < n) × (p (a + j) ≡ true)
 counted_some p a zero some = absurd (omega (arith, some))
@@ -61,7 +61,7 @@ counted_some p a (suc n) some = go (p a) refl (counted_some p (a + 1) n)
         let low = rest.1 in
         (suc rest.0, omega (arith, low), ap p next ∙ rest.2)
 
--- where none is counted, each fails the test
+-- if none is counted, each fails the test
 counted_none : (p : ℕ → Bool) (a n : ℕ) → count_by p (from_up a n) ≡ 0 → (j : ℕ) → j < n
     → p (a + j) ≡ false
 counted_none p a zero none j lt = absurd (omega (arith, lt))
@@ -95,7 +95,7 @@ counted_few p n =
     length_up a zero = refl
     length_up a (suc n) = ap suc (length_up (a + 1) n)
 
--- ---- what is counted of the classes that are not covered
+-- ---- the count over the classes that are not covered
 
 pub news_more : (detects : ℕ → ℕ → Bool) (covered : List Bool) (class t : ℕ)
     → news_at detects covered (class + 1) t ≡ news_at detects covered class t
@@ -108,7 +108,7 @@ abbrev pub Covered : (ℕ → ℕ → Bool) → ℕ → List ℕ → List Bool �
 Covered detects classes order covered = (class : ℕ) → class < classes
     → get_or covered class false ≡ list_any (detects class) order
 
--- then the news are those of the order
+-- then the news are the news of the order
 pub news_of_order : (detects : ℕ → ℕ → Bool) (classes : ℕ) (order : List ℕ) (covered : List Bool)
     (t : ℕ) → Covered detects classes order covered
     → news_at detects covered classes t ≡ news detects classes order t
@@ -145,7 +145,7 @@ covered_more detects classes order old new t is each = λ class lt.
     each class lt ∙ (ap (λ b. b || detects class t) (is class lt)
     ∙ sym (any_more (detects class) order t))
 
--- what holds of each test of an order and of those before it
+-- a property of each test of an order and of the tests before it
 abbrev pub Each : (List ℕ → ℕ → Type 0) → List ℕ → Type 0
 Each P order = (k s : ℕ) → slice_get order k ≡ Some s → P (take k order) s
 
@@ -221,7 +221,7 @@ covers_so true true e h = refl
 covers_so true false e h = let bad : true ≡ false = e in cc
 covers_so false b e h = let bad : false ≡ true = h in cc
 
--- where no test has news
+-- if no test has news
 pub all_by_none : (detects : ℕ → ℕ → Bool) (classes tests : ℕ) (order numbers : List ℕ)
     (covered : List Bool) → Covered detects classes order covered
     → AreNews detects covered classes tests numbers
@@ -237,7 +237,7 @@ all_by_none detects classes tests order numbers covered is are none class t lt l
     covers_so (detects class t) (list_any (detects class) order)
     (ap p (sym (zero_up class)) ∙ fails) d
 
--- where as many classes are covered as there are
+-- if as many classes are covered as there are
 all_true : (xs : List Bool) (k : ℕ) → length xs ≤ count_by (λ b. b) xs → k < length xs
     → get_or xs k false ≡ true
 all_true [] k all lt = absurd (omega (arith, lt))
