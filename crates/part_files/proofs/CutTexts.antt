@@ -1,4 +1,4 @@
--- Texts that are cut at a byte: one that is there once is cut in one way.
+-- Files that are cut at a byte: if the byte is there once, there is one way to cut.
 use Rattle.std.proofs.Common.{◌≡◌, ◌≢◌, ◌<◌, ◌≤◌, ◌+◌, ℕ, suc, List, [], ◌∷◌, ◌++◌, length, take}
 use Rattle.std.proofs.Common.{drop, get_or, refl, sym, add-one, arith, subst, length-drop}
 use Rattle.std.proofs.Common.{length-take}
@@ -6,7 +6,7 @@ use Rattle.std.proofs.Math.Seq.{split_at}
 use Rattle.std.proofs.lemmas.List.{get_or-take, get_or-drop}
 use Rattle.part_files.specs.Cut.{IsCutFirst, IsCutLast, Lacks}
 
--- what lacks a byte at each place lacks it
+-- a text without a byte at each place lacks the byte
 pub lacks_from : (byte : ℕ) (text : List ℕ) → ((k : ℕ) → k < length text → get_or text k 0 ≢ byte)
     → Lacks byte text
 lacks_from byte [] each = tt
@@ -28,7 +28,7 @@ pub lacks_right : (byte : ℕ) (xs ys : List ℕ) → Lacks byte (xs ++ ys) → 
 lacks_right byte [] ys p = p
 lacks_right byte (x ∷ xs) ys p = lacks_right byte xs ys p.1
 
--- what is cut at a byte has it
+-- a text that is cut at a byte has the byte
 pub lacks_not : (byte : ℕ) (xs ys : List ℕ) → Lacks byte (xs ++ byte ∷ ys) → ⊥
 lacks_not byte [] ys p = p.0 refl
 lacks_not byte (x ∷ xs) ys p = lacks_not byte xs ys p.1

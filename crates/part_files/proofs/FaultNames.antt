@@ -1,4 +1,4 @@
--- The names of a circuit's faults can stand in a part text.
+-- The names of a circuit's faults can stand in a part file.
 use Rattle.std.proofs.Common.{◌≡◌, ◌≢◌, ◌+◌, ℕ, Bool, true, false, List, [], ◌∷◌, ◌++◌, refl, ap}
 use Rattle.std.proofs.Common.{subst, inl, inr, ◌⊎◌, IsTrue, Option, Some, None, arith, lit<, map}
 use Rattle.std.specs.Prelude.{codes, decimal, slice_get, unwrap_or}
@@ -102,7 +102,7 @@ cell_lacks bench c i accepted = go (slice_get (map (λ qd. qd.0) (cells c)) i) r
         name_lacks bench c q accepted
         (cell_is_named c q (at_place (map (λ qd. qd.0) (cells c)) i q e))
 
--- the name of a line, and what is wrong with it
+-- the name of a line, and its defect
 line_lacks : (bench : List ℕ) (c : List Statement) (l : Line) → IsAccepted bench c
     → Lacks 10 (line_text c l)
 unfolding lacks_test
@@ -132,7 +132,7 @@ defect_lacks Transition true = lacks_literal 10 (codes " stf") refl
 defect_lacks TransitionPairs false = lacks_literal 10 (codes " str") refl
 defect_lacks TransitionPairs true = lacks_literal 10 (codes " stf") refl
 
--- no line begins as the last line of a part text does
+-- no line begins as the last line of a part file does
 first_same : (a b : ℕ) (xs ys : List ℕ) → a ∷ xs ≡ b ∷ ys → a ≡ b
 first_same a b xs ys e = cc
 
@@ -147,7 +147,7 @@ no_part c (line.Pin gate pin) more rest e =
 no_part c (line.Data i) more rest e = let bad = first_same 100 112 _ _ e in omega (arith, bad)
 no_part c (line.Out output) more rest e = let bad = first_same 111 112 _ _ e in omega (arith, bad)
 
--- so each fault has a name for a part text
+-- so each fault has a name for a part file
 pub fault_named : (bench : List ℕ) (c : List Statement) (f : Fault) → IsAccepted bench c
     → IsFaultName (fault_text c f)
 fault_named bench c f accepted = record {

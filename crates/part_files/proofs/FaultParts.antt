@@ -1,4 +1,4 @@
--- Which part of a run a fault is of, and what the verdicts of parts say of that.
+-- The part of a run to which a fault belongs, and what the verdicts of parts state about it.
 use Rattle.std.proofs.Common.{◌≡◌, ◌<◌, ◌%◌, ◌⊎◌, inl, inr, ℕ, List, [], ◌∷◌, ◌++◌, refl, sym, ap}
 use Rattle.std.proofs.Common.{◌∙◌, subst, Some, arith}
 use Rattle.std.specs.Prelude.{Contains, slice_get}
@@ -21,7 +21,7 @@ use Rattle.workers.specs.declared.parts.PartVerdict.TheVariants.{First, OtherPar
 use Rattle.workers.specs.Part.{ArePartVerdicts, IsPartVerdict}
 use Rattle.part_files.specs.Merging.{IsJoined}
 
--- a fault is of a part: that of the stem of its class
+-- a fault belongs to a part: the part of the stem of its class
 pub record IsInPart (m : Model) (c : List Statement) (parts part : ℕ) (f : Fault) : Type 0 where
   pub class : ℕ
   pub of : IsClassOf m c f class
@@ -36,7 +36,7 @@ one_class m c f k j has a b =
     let own = has m f a.1 in
     own.2 k a ∙ sym (own.2 j b)
 
--- and is of one part alone
+-- and belongs to only one part
 pub one_part_of : (m : Model) (c : List Statement) (parts part other : ℕ) (f : Fault)
     → HasClasses c → IsInPart m c parts part f → IsInPart m c parts other f → part ≡ other
 one_part_of m c parts part other f has a b =
@@ -59,7 +59,7 @@ some_part_of m c parts f has well some at =
       record { class = own.0; of = own.1; stem = stem.0; stem_is = stem.2; part_is = refl },
     )
 
--- what the verdict of a part says of that
+-- the statement of a part's verdict about it
 abbrev pub TellsPart : Model → List Statement → ℕ → ℕ → Fault → PartVerdict → Type 0
 TellsPart m c parts part f (First first) = IsInPart m c parts part f
 TellsPart m c parts part f OtherPart = IsInPart m c parts part f → ⊥
@@ -92,7 +92,7 @@ part_told job parts part verdicts has together are k f v ef ev =
     from_class job parts part at.0 f v has (together.classes.class k f at.0 ef at.1)
     (are.each k at.0 f v ef at.1 ev)
 
--- what the verdict from several parts says
+-- the statement of the verdict from several parts
 abbrev pub TellsSeen : Model → List Statement → ℕ → List ℕ → Fault → PartVerdict → Type 0
 TellsSeen m c parts seen f (First first) =
     (part : ℕ) × Contains seen part × IsInPart m c parts part f

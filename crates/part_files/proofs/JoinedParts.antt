@@ -1,4 +1,4 @@
--- Lemmas on part texts that are put together.
+-- Lemmas on the merge of part files.
 use Rattle.std.proofs.Common.{◌≡◌, ◌≢◌, ◌<◌, ◌≤◌, ◌+◌, ◌⊎◌, ℕ, zero, suc, min, List, [], ◌∷◌, ◌++◌}
 use Rattle.std.proofs.Common.{take, length, get_or, sym, ap, ◌∙◌, inl, inr, arith, below_more}
 use Rattle.std.proofs.Common.{eq-eqb, eqb, true, false, Contains, Some, None}
@@ -46,7 +46,7 @@ slice_get_none [] k e = omega arith
 slice_get_none (x ∷ xs) zero e = let bad : Some x ≡ None = e in cc
 slice_get_none (x ∷ xs) (suc k) e = omega (arith, slice_get_none xs k e)
 
--- names that are the same at each place are the same
+-- names that are equal at each place are equal
 pub names_all : (fs os : List (Bor (List ℕ))) (n : ℕ) → length fs ≡ length os → length fs ≤ n
     → ((i : ℕ) (d : List ℕ) → i < n → get_or (texts_in fs) i d ≡ get_or (texts_in os) i d)
     → texts_in fs ≡ texts_in os
@@ -54,7 +54,7 @@ names_all fs os n same all each =
     ext_get_or [] (texts_in fs) (texts_in os) (length-map fs _ ∙ (same ∙ sym (length-map os _)))
     (λ i h. each i [] (omega (arith, h, all, length-map fs (λ (t : Bor (List ℕ)). t.now))))
 
--- where one list ends and the other doesn't, they differ
+-- if one list ends and the other doesn't, they differ
 pub names_end : (fs os : List (Bor (List ℕ))) (n k : ℕ) → k ≤ n
     → ((i : ℕ) (d : List ℕ) → i < n → get_or (texts_in fs) i d ≡ get_or (texts_in os) i d)
     → length fs ≢ length os → k ≡ min (length fs) (length os)

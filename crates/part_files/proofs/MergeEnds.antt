@@ -15,7 +15,7 @@ use Rattle.part_files.specs.Merging.{HasParts, IsEndRefusal, IsOpenRefusal, Merg
 use Rattle.part_files.specs.PartReading.{texts_in}
 use Rattle.report.proofs.Public.{zipped_by}
 
--- the first fault that is of no part, behind so many first tests
+-- the first fault that belongs to no part, after this many first tests
 pub open_fault : (vs : List PartVerdict) (firsts : List (Option ℕ)) (n : ℕ) (z : PartVerdict)
     → n < length vs → map First firsts ≡ take n vs → get_or vs n z ≡ OtherPart
     → (fs : List (Option ℕ)) × (rest : List PartVerdict) × (vs ≡ map First fs ++ OtherPart ∷ rest)
@@ -53,7 +53,7 @@ name_at fs firsts n z y h k =
     ∙ ap (λ t. Some t) (get_or-map (λ (t : Bor (List ℕ)). t.now) fs n z z.now h) in
     zipped_by (texts_in fs) firsts n _ _ (z.now, y) name (slice_get-get_or firsts n y k)
 
--- where all parts are there, verdicts that are refused for an open fault are no end
+-- if all parts are there, verdicts with an open fault are no end
 pub open_refused : (s : MergeState) (f : MergeFault) → HasParts s.seen s.head.parts
     → IsOpenRefusal s.verdicts f → IsEndRefusal s f
 open_refused s (fault.Part f) parts refused = absurd refused

@@ -1,4 +1,4 @@
--- A merge of the texts of all parts of a run is refused for want of memory alone.
+-- The only error of a merge of the files of all parts of a run is refused memory.
 use Rattle.std.proofs.Common.{◌≡◌, ◌≢◌, ◌<◌, ◌^◌, ◌+◌, ◌*◌, ◌⊎◌, inl, inr, ℕ, zero, suc, List, []}
 use Rattle.std.proofs.Common.{◌∷◌, ◌++◌, length, get_or, refl, sym, ap, ◌∙◌, subst, Option, Some}
 use Rattle.std.proofs.Common.{arith, lit<, map}
@@ -35,8 +35,8 @@ use Rattle.part_files.proofs.FaultParts.{seen_one, some_part_of}
 use Rattle.part_files.proofs.MergedReport.{OneCircuit, head_in_run, read_as, told}
 use Rattle.part_files.proofs.PartRefusals.{no_refusal}
 
--- What was put together so far: the first line is that of the run, the names are those of the
--- circuit's faults, and a verdict is open where the fault is of no part that is there.
+-- The state of the merge so far: the first line is the line of the run, the names are the names of
+-- the circuit's faults, and a verdict is open if the fault belongs to no part that is there.
 record IsWhole (run : PartedRun) (c : List Statement) (s : MergeState) : Type 0 where
   pub part : ℕ
   pub head : s.head ≡ head_in_run run part
@@ -45,7 +45,7 @@ record IsWhole (run : PartedRun) (c : List Statement) (s : MergeState) : Type 0 
   pub each : (k : ℕ) (f : Fault) (v : PartVerdict) → slice_get (faults run.model c) k ≡ Some f
       → slice_get s.verdicts k ≡ Some v → TellsSeen run.model c run.parts s.seen f v
 
--- what is known of the circuit
+-- the facts about the circuit
 record IsKnown (run : PartedRun) (c : List Statement) : Type 0 where
   pub one : OneCircuit
   pub accepted : IsAccepted run.bench c
@@ -56,7 +56,7 @@ same_circuit : (run : PartedRun) (part : ℕ) (bytes : List ℕ) (c : List State
 same_circuit run part bytes c known of =
     known.one run.bench of.text.0.circuit c of.text.1.0 known.accepted
 
--- the verdicts in a text of a part tell the part
+-- the verdicts in a file of a part belong to the part
 text_told : (run : PartedRun) (part : ℕ) (bytes : List ℕ) (c : List Statement) → IsKnown run c
     → (of : IsPartOf run part bytes) → TellPart run.model c run.parts part of.text.2.0
 text_told run part bytes c known of =
@@ -66,7 +66,7 @@ text_told run part bytes c known of =
     (subst (λ m. TellPart m of.text.0.circuit run.parts part of.text.2.0) of.text.1.3
     (part_told of.text.0 run.parts part of.text.2.0 has of.text.1.2 of.text.2.1))
 
--- what is read of a text of a part, told of the circuit
+-- the values of a file of a part, in terms of the circuit
 record IsRead (run : PartedRun) (part : ℕ) (c : List Statement) (h : PartHead)
     (names : List (List ℕ)) (verdicts : List PartVerdict) : Type 0 where
   pub head : h ≡ head_in_run run part
@@ -161,7 +161,7 @@ own_place (OtherPart ∷ xs) zero other = absurd (other refl)
 own_place (First first ∷ xs) zero other = (first, refl)
 own_place (x ∷ xs) (suc k) other = own_place xs k other
 
--- a text of a part is refused to its reader for want of memory alone
+-- the only error of reading a file of a part is refused memory
 read_refused : (run : PartedRun) (part : ℕ) (bytes : List ℕ) (f : PartFault)
     → IsPartOf run part bytes → IsPartRefusal bytes f
     → IsForMemory (fault.Part f)
@@ -188,7 +188,7 @@ no_difference run part c old h names verdicts k known read was fresh (inr both) 
     fresh (subst (Contains old.seen)
     (one_part_of run.model c run.parts before.0 part at.0 known.classes before.2 now) before.1)
 
--- a text of a part that isn't there is refused for want of memory alone
+-- the only error of a file of a part that isn't there is refused memory
 more_refused : (run : PartedRun) (part : ℕ) (bytes : List ℕ) (c : List Statement)
     (old : MergeState) (f : MergeFault) → IsKnown run c
     → IsPartOf run part bytes → IsWhole run c old → (Contains old.seen part → ⊥)
@@ -233,7 +233,7 @@ open_place : (firsts : List (Option ℕ)) (rest : List PartVerdict)
 open_place [] rest = refl
 open_place (x ∷ firsts) rest = open_place firsts rest
 
--- what was put together of all parts is refused for want of memory alone
+-- the only error of the end of a merge of all parts is refused memory
 end_refused : (run : PartedRun) (c : List Statement) (s : MergeState) (f : MergeFault)
     → IsKnown run c → IsCircuit c → 0 < run.parts → 0 < length (faults run.model c)
     → IsWhole run c s → HasParts s.seen run.parts → IsEndRefusal s f → IsForMemory f
@@ -269,7 +269,7 @@ end_refused run c s fault.OtherRule known is some any was all r = absurd r.1
 end_refused run c s fault.OtherInputs known is some any was all r = absurd r.1
 end_refused run c s fault.OtherCount known is some any was all r = absurd r.1
 
--- which parts are there, and which are to come: none is both, and all are one of them
+-- the parts that are there, and the parts that are to come: none is both, and all are one of them
 record AreToCome (run : PartedRun) (seen numbers : List ℕ) (texts : List (List ℕ)) : Type 0 where
   pub each : AllZip (IsPartOf run) numbers texts
   pub once : Distinct numbers
@@ -300,7 +300,7 @@ one_less run seen part numbers text texts come = record {
         inl (Contains-append_right seen (part ∷ []) other (contained (part ∷ []) other (inl e)))
     all other (inr (inr later)) = inr later
 
--- so no refusal comes behind the first text
+-- so no error comes after the first file
 behind_refused : (run : PartedRun) (c : List Statement) (numbers : List ℕ)
     (texts : List (List ℕ)) (old : MergeState) (f : MergeFault)
     → IsKnown run c → IsCircuit c → 0 < run.parts

@@ -1,4 +1,4 @@
--- The report of a merge of part texts is that of the texts that the parts are of.
+-- The report of a merge of part files is the report of the files that the parts come from.
 use Rattle.std.proofs.Common.{◌≡◌, ◌<◌, ℕ, suc, List, [], ◌∷◌, All, length, get_or, refl, sym, ap}
 use Rattle.std.proofs.Common.{◌∙◌, ◌++◌, subst, Option, Some, false, true, arith, map, append-nil}
 use Rattle.std.specs.Prelude.{codes, option_map, slice_get}
@@ -71,7 +71,7 @@ pub told : (run : PartedRun) (part : ℕ) (bytes : List ℕ) → (of : IsPartOf 
 told run part bytes of =
     part_is run.parts part run.model run.bench run.tests bytes of.below of.few of.text
 
--- a text that says what another one does was read as what was written
+-- a file with the values of another one was read as it was written
 pub read_as : (run : PartedRun) (part : ℕ) (bytes : List ℕ) (h : PartHead) (names : List (List ℕ))
     (verdicts : List PartVerdict) → (of : IsPartOf run part bytes) → IsPart bytes h names verdicts
     → (h ≡ head_in_run run part)
@@ -82,8 +82,9 @@ read_as run part bytes h names verdicts of is =
     (map (fault_text of.text.0.circuit) (faults run.model of.text.0.circuit)) verdicts of.text.2.0
     is (told run part bytes of)
 
--- What was put together is true of a circuit and of tests: the first line is that of the run, the
--- names are those of the circuit's faults, and each first test is the first that detects its fault.
+-- The state of a merge is true of a circuit and of tests: the first line is the line of the run,
+-- the names are the names of the circuit's faults, and each first test is the first that detects
+-- its fault.
 record IsSound (run : PartedRun) (c : List Statement) (tests : List Test)
     (s : MergeState) : Type 0 where
   pub part : ℕ
@@ -93,7 +94,7 @@ record IsSound (run : PartedRun) (c : List Statement) (tests : List Test)
   pub each : (k : ℕ) (f : Fault) (first : Option ℕ) → slice_get (faults run.model c) k ≡ Some f
       → slice_get s.verdicts k ≡ Some (First first) → IsFirst c tests f first
 
--- so is what the first text says
+-- so are the values of the first file
 sound_first : (run : PartedRun) (bytes : List ℕ) (s : MergeState) → (of : IsSomePartOf run bytes)
     → IsFirstMerged bytes s → IsSound run of.1.text.0.circuit of.1.text.0.tests.tests s
 sound_first run bytes s of is =
@@ -111,7 +112,8 @@ sound_first run bytes s of is =
           k f first ef (ap (λ (l : List PartVerdict). slice_get l k) (sym same.2) ∙ ev);
     }
 
--- the first tests of a part, told of the circuit and the tests of the bench text and the test text
+-- the first tests of a part, in terms of the circuit and the tests of the bench file and the test
+-- file
 part_firsts : (m : Model) (bench text : List ℕ) (job : Parts) (parts part : ℕ)
     (verdicts : List PartVerdict) (c : List Statement) (tests : List Test) → job.circuit ≡ c
     → job.tests.tests ≡ tests → IsJobOf m bench text job → ArePartVerdicts job parts part verdicts
@@ -123,8 +125,8 @@ part_firsts m bench text job parts part verdicts c tests circuit same_tests is a
     (first_of_part job parts part verdicts m bench text is are k f first
     (ap (λ x. slice_get (faults m x) k) circuit ∙ ef) ev))
 
--- a job of a run that the sums tell from another, and that begins with the other's first line, is
--- one of the other
+-- a job of a run that the sums distinguish from another, and that begins with the other's first
+-- line, is a job of the other
 pub job_of_run : (run other : PartedRun) (part to : ℕ) (old head : PartHead) (job : Parts)
     → IsDistinguished run other → old ≡ head_in_run run to → head ≡ head_in_run other part
     → AreOfOneRun old head → IsJobOf other.model other.bench other.tests job
@@ -150,7 +152,7 @@ job_of_run run other part to old head job apart is was same of =
         ap (λ (h : PartHead). h.tests) (sym was) ∙ sym same.tests
         ∙ ap (λ (h : PartHead). h.tests) is
 
--- what one more text says
+-- the values of one more file
 sound_more : (run : PartedRun) (bytes : List ℕ) (c : List Statement) (tests : List Test)
     (old new : MergeState) → OneCircuit → IsAccepted run.bench c
     → ((job : Parts) → IsJobOf run.model run.bench run.tests job → job.tests.tests ≡ tests)
@@ -200,7 +202,7 @@ sound_more run bytes c tests old new one accepted alike (other, apart, (part, of
         was.each k f first ef (ea ∙ ap Some (sym both))
     joined k f first ef (First g) (First h) ea eb both = absurd both
 
--- and what more say
+-- and the values of more files
 sound_all : (run : PartedRun) (c : List Statement) (tests : List Test) (others : List (List ℕ))
     (old new : MergeState) → OneCircuit → IsAccepted run.bench c
     → ((job : Parts) → IsJobOf run.model run.bench run.tests job → job.tests.tests ≡ tests)
@@ -293,7 +295,7 @@ class_report_of_merge one run first others merged lines c classes of all is acce
       ap (λ l. l ++ class_coverage_line classes merged.firsts) whole.3,
     )
 
--- its first tests are those of the circuit that the run's bench text is read as
+-- its first tests are the first tests of the circuit of the run's bench file
 pub firsts_of_merge : OneCircuit → (run : PartedRun) (first : List ℕ) (others : List (List ℕ))
     (merged : MergedRun) (c : List Statement) → IsSomePartOf run first
     → All (IsSomePartDistinguished run) others → IsMergeOf first others merged

@@ -1,4 +1,4 @@
--- A part text is read in one way.
+-- A part file is read in one way.
 use Rattle.std.proofs.Common.{◌≡◌, ◌≢◌, ◌+◌, ◌==◌, ℕ, Bool, true, false, List, [], ◌∷◌, ◌++◌}
 use Rattle.std.proofs.Common.{length, refl, sym, ap, inl, inr, ◌∙◌, append_assoc, append-nil, arith}
 use Rattle.std.proofs.Common.{subst, lit<}
@@ -18,7 +18,7 @@ use Rattle.part_files.proofs.PartHeads.{head_body, head_line_is, of_on, same_num
 use Rattle.part_files.proofs.PartHeads.{small_parts, words_in_head}
 use Rattle.part_files.proofs.PartLines.{lacks_verdict, line_body, verdict_line_is}
 
--- what a text that is written out lacks can be computed
+-- the bytes that a literal text lacks can be computed
 unfoldable pub lacks_test : ℕ → List ℕ → Bool
 lacks_test byte [] = true
 lacks_test byte (x ∷ xs) = if x == byte then false else lacks_test byte xs
@@ -59,7 +59,7 @@ head_lacks h ok =
     (lacks_literal 10 (codes "part ") refl)
     (lacks_decimal 10 (h.part + 1) (lit< tt)) blank parts
 
--- words are those of one first line
+-- words belong to one first line
 pub words_once : (w v : WordTexts) → (Lacks 32 w.model × Lacks 32 w.rule × Lacks 32 w.bench)
     → (Lacks 32 v.model × Lacks 32 v.rule × Lacks 32 v.bench)
     → words_text w ≡ words_text v → (w.model ≡ v.model) × (w.rule ≡ v.rule) × (w.bench ≡ v.bench)
@@ -194,8 +194,8 @@ first_five : (a b c d f a' b' c' d' f' : ℕ) (xs ys name : List ℕ)
     → a ∷ b ∷ c ∷ d ∷ f ∷ name ≡ a' ∷ b' ∷ c' ∷ d' ∷ f' ∷ name
 first_five a b c d f a' b' c' d' f' xs ys name e = cc
 
--- what stands before a space and doesn't begin as the last line does is the last line's first word,
--- or the texts differ
+-- bytes before a space that don't begin as the last line does are the last line's first word, or
+-- the texts differ
 before_space : (name rest more : List ℕ) → name ++ 32 ∷ rest ≡ codes "part " ++ more
     → ((t : List ℕ) → name ≢ codes "part " ++ t) → rest ≡ more
 before_space [] rest more e front = absurd (differs 32 112 _ _ refl e)
@@ -250,7 +250,7 @@ lines_once (x ∷ ps) (y ∷ qs) part parts a b c d rest more p q e =
     ++ more))) in
     rw (one.0, lines_once ps qs part parts a b c d rest more p.1 q.1 one.1) refl
 
--- lists that are zipped alike are alike
+-- equal zipped lists have equal parts
 pub zip_once : {X Y : Type 0} (xs us : List X) (ys vs : List Y) → length xs ≡ length ys
     → length us ≡ length vs → zip xs ys ≡ zip us vs → (xs ≡ us) × (ys ≡ vs)
 zip_once [] [] [] [] p q e = (refl, refl)
@@ -270,7 +270,7 @@ zip_once {X} {Y} (x ∷ xs) (u ∷ us) (y ∷ ys) (v ∷ vs) p q e =
     (cons_tail at to (zip xs ys) (zip us vs) e) in
     (rw (one, rest.0) refl, rw (two, rest.1) refl)
 
--- a part text is that of one first line, one list of faults and one of verdicts
+-- a part file has one first line, one list of faults and one list of verdicts
 pub one_part : (text : List ℕ) (h k : PartHead) (faults others : List (List ℕ))
     (verdicts more : List PartVerdict)
     → IsPart text h faults verdicts → IsPart text k others more → (h ≡ k) × (faults ≡ others)

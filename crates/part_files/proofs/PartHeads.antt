@@ -1,4 +1,4 @@
--- The first line of a part text.
+-- The first line of a part file.
 use Rattle.std.proofs.Common.{◌≡◌, ◌≢◌, ◌<◌, ◌^◌, ◌+◌, ℕ, List, ◌∷◌, ◌++◌, refl, sym, ap, ◌∙◌}
 use Rattle.std.proofs.Common.{append_assoc, arith, lit<}
 use Rattle.std.specs.Prelude.{codes, decimal}

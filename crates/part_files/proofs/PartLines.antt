@@ -1,4 +1,4 @@
--- The lines of faults in a part text, and its last line.
+-- The lines of faults in a part file, and its last line.
 use Rattle.std.proofs.Common.{◌≡◌, ◌≢◌, ◌<◌, ◌+◌, ℕ, List, [], ◌∷◌, ◌++◌, refl, sym, ap, ◌∙◌}
 use Rattle.std.proofs.Common.{append_assoc, append-nil, arith, subst, lit<}
 use Rattle.std.specs.Prelude.{codes, decimal, Some, None}

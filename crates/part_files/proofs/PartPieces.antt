@@ -1,4 +1,4 @@
--- The pieces of a part text make the text.
+-- The pieces of a part file make the file.
 use Rattle.std.proofs.Common.{◌≡◌, ◌+◌, ◌∙◌, ℕ, List, [], ◌∷◌, ◌++◌, append_assoc, map, refl, ap}
 use Rattle.std.specs.Prelude.{Option, codes, decimal, zip}
 use Rattle.std.specs.List.{flat_map}
@@ -26,7 +26,7 @@ pub is_verdict_line : (c : List Statement) (f : Fault) (verdict : PartVerdict) (
     → fault_text c f ++ (codes " " ++ said ++ codes "\n") ≡ part_line c (f, verdict)
 is_verdict_line c f verdict said is = rw is refl
 
--- the lines of a circuit's faults are those of their texts
+-- the lines of a circuit's faults are the lines of their texts
 pub lines_of_texts : (c : List Statement) (fs : List Fault) (verdicts : List PartVerdict)
     → flat_map (part_line c) (zip fs verdicts) ≡ flat_map verdict_line
     (zip (map (fault_text c) fs) verdicts)
@@ -35,7 +35,7 @@ lines_of_texts c (f ∷ fs) [] = refl
 lines_of_texts c (f ∷ fs) (v ∷ verdicts) =
     ap (λ l. part_line c (f, v) ++ l) (lines_of_texts c fs verdicts)
 
--- the same, where they are those of a model
+-- the same, if they are faults of a model
 pub lines_of_model : (m : Model) (c : List Statement) (fs : List Fault)
     (verdicts : List PartVerdict) → fs ≡ faults m c
     → flat_map (part_line c) (zip fs verdicts) ≡ flat_map verdict_line
@@ -44,7 +44,7 @@ lines_of_model m c fs verdicts list =
     lines_of_texts c fs verdicts ∙ ap
     (λ l. flat_map verdict_line (zip (map (fault_text c) l) verdicts)) list
 
--- the same of the lines of a report
+-- the same for the lines of a report
 names_of_texts : (c : List Statement) (lines : Lines) (fs : List Fault) (firsts : List (Option ℕ))
     → flat_map (wanted_name lines) (zip (map (fault_text c) fs) firsts)
     ≡ flat_map (wanted_line lines c) (zip fs firsts)
@@ -53,7 +53,7 @@ names_of_texts c lines (f ∷ fs) [] = refl
 names_of_texts c lines (f ∷ fs) (first ∷ firsts) = ap (λ l. wanted_line lines c (f, first)
     ++ l) (names_of_texts c lines fs firsts)
 
--- the report of the names of a circuit's faults is that of the circuit
+-- the report of the names of a circuit's faults is the report of the circuit
 pub report_of_texts : (m : Model) (c : List Statement) (firsts : List (Option ℕ)) (lines : Lines)
     → report_text (map (fault_text c) (faults m c)) firsts lines ≡ report m c firsts lines
 report_of_texts m c firsts lines = rw (names_of_texts c lines (faults m c) firsts) refl

@@ -1,4 +1,4 @@
--- A part text read line by line.
+-- A part file read line by line.
 use Rattle.std.proofs.Common.{◌≡◌, ◌≢◌, ◌<◌, ◌≤◌, ◌+◌, ◌==◌, ℕ, zero, suc, true, false, List, []}
 use Rattle.std.proofs.Common.{◌∷◌, ◌++◌, length, refl, sym, ap, ◌∙◌, append_assoc, append-nil}
 use Rattle.std.proofs.Common.{arith, subst, length-append, inl, inr}
@@ -32,7 +32,7 @@ pub joined : (line after text : List ℕ) → line ++ codes "\n" ≡ text → li
 joined line after text e = let assoc : (line ++ codes "\n") ++ after ≡ line ++ 10 ∷ after =
     append_assoc line (codes "\n") after in sym assoc ∙ ap (λ l. l ++ after) e
 
--- behind the first line
+-- after the first line
 pub begun_none : (text : List ℕ) (h : PartHead) (rest : List ℕ) → IsHead h
     → text ≡ head_line h ++ rest → IsBegun text h [] [] rest
 begun_none text h rest ok e = record {
@@ -70,7 +70,7 @@ begun_more text h faults verdicts rest line after name v begun cut ok e =
           ∙ (sym assoc ∙ ap (λ l. l ++ after) (sym grown)));
     }
 
--- behind the last line
+-- after the last line
 pub begun_end : (text : List ℕ) (h : PartHead) (faults : List (List ℕ))
     (verdicts : List PartVerdict) (rest line after : List ℕ)
     → IsBegun text h faults verdicts rest → rest ≡ line ++ 10 ∷ after
@@ -109,7 +109,7 @@ has_more text h faults verdicts after begun some = record {
   some = some;
 }
 
--- a line that is none of a part text
+-- a line that is no line of a part file
 pub bad_line : (text : List ℕ) (h : PartHead) (faults : List (List ℕ)) (verdicts : List PartVerdict)
     (rest line after : List ℕ)
     → IsBegun text h faults verdicts rest → IsCutFirst 10 rest line after → IsNoFaultLine line
@@ -150,7 +150,8 @@ bad_head text line more cut bad = record {
   bad = bad;
 }
 
--- What a loop over the lines knows: the lines so far and the rest, and the number of the next line.
+-- The invariant of a loop over the lines: the lines so far and the rest, and the number of the next
+-- line.
 pub record Reading (text : List ℕ) (h : PartHead) (faults : List (List ℕ))
     (verdicts : List PartVerdict) (rest : List ℕ) (number : ℕ) : Type 0 where
   pub begun : IsBegun text h faults verdicts rest

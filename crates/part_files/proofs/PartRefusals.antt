@@ -1,4 +1,4 @@
--- A part text is refused for want of memory alone.
+-- The only error of reading a part file is refused memory.
 use Rattle.std.proofs.Common.{◌≡◌, ◌+◌, ℕ, List, [], ◌∷◌, ◌++◌, length, refl, sym, ap, ◌∙◌, inl}
 use Rattle.std.proofs.Common.{inr, append_assoc, append-nil, length-append, arith, subst, lit<}
 use Rattle.std.specs.Prelude.{codes, decimal, zip, flat_map, count_by, Result, Ok, Err, IfOk, IfErr}
@@ -47,7 +47,7 @@ end_lacks part parts found own =
 same_cons : {X : Type 0} {x y : X} {xs ys : List X} → x ≡ y → xs ≡ ys → x ∷ xs ≡ y ∷ ys
 same_cons e f = rw (e, f) refl
 
--- behind some lines of faults come the others
+-- after some lines of faults come the others
 pub rest_of : (ps qs : List (List ℕ × PartVerdict)) (part parts a b : ℕ) (r : List ℕ)
     → AllByRecursion IsLine ps → AllByRecursion IsLine qs
     → flat_map verdict_line ps ++ end_line part parts a b ≡ flat_map verdict_line qs ++ r
@@ -89,7 +89,7 @@ split_end : (part parts a b : ℕ) (rest : List ℕ) → end_line part parts a b
 split_end part parts a b rest = ap (λ l. l ++ rest) (sym (end_line_is part parts a b))
     ∙ append_assoc (end_body part parts a b) (codes "\n") rest
 
--- what a beginning of the same text has: the same first line, and some of the lines
+-- a beginning of the same file: the same first line, and some of the lines
 record Shared (h k : PartHead) (ps qs : List (List ℕ × PartVerdict)) (last r : List ℕ) : Type 0
   where
     pub head : h ≡ k
@@ -200,7 +200,7 @@ no_refusal text h faults verdicts CutOff p r = elim r [
 ]
 no_refusal text h faults verdicts Memory p r = refl
 
--- so what is read of a part text is what it says
+-- so the values that are read of a part file are its values
 pub read_exactly : (text : List ℕ) (h : PartHead) (faults : List (List ℕ))
     (verdicts : List PartVerdict) (r : Result Read PartFault)
     → IfOk r (λ part. IsPart text (head_in part.header) (texts_in part.faults.items)

@@ -1,4 +1,4 @@
--- The words of a part text's first line.
+-- The words of a part file's first line.
 use Rattle.std.proofs.Common.{◌≡◌, ◌≢◌, ◌<◌, ◌^◌, ◌+◌, ◌/◌, ◌%◌, ◌==◌, ℕ, zero, suc, Bool, true}
 use Rattle.std.proofs.Common.{false, List, [], ◌∷◌, ◌++◌, refl, sym, ap, ◌∙◌, arith, subst, lit<}
 use Rattle.std.specs.Prelude.{codes, decimal, Option, Some, None, MatchOption, if◌then◌else◌}
@@ -15,7 +15,7 @@ use Rattle.part_files.specs.Cut.{IsCutFirst, Lacks}
 use Rattle.part_files.specs.PartReading.{AreWords, WordTexts, words_text}
 use Rattle.part_files.proofs.CutTexts.{cut_once, lacks_left, lacks_right, lacks_not}
 
--- a number of any size has digits alone
+-- a number of any size has only digits
 glyph_is : (d : ℕ) → d < 10 → digit_glyph false d ≡ 48 + d
 glyph_is d h = grind (arith, nat_tests)
 
@@ -78,7 +78,7 @@ field_lacks byte name word rest text lacks e =
     let behind = lacks_right byte name (word ++ 32 ∷ rest) (subst (λ t. Lacks byte t) e lacks) in
     (lacks_left byte word _ behind, (lacks_right byte word (32 ∷ rest) behind).1)
 
--- what is read of a field behind its name
+-- the text that is read of a field after its name
 pub field_read : (name text rest : List ℕ) → text ≡ name ++ rest
     → (r : Option (Bor (List ℕ) × Bor (List ℕ)))
     → MatchOption r (Lacks 32 rest) (λ cut. IsCutFirst 32 rest cut.0.now cut.1.now)
@@ -96,7 +96,7 @@ rule_on w = codes "rule " ++ (w.rule
 abbrev pub bench_on : WordTexts → List ℕ
 bench_on w = codes "bench " ++ (w.bench ++ 32 ∷ (codes "tests " ++ w.tests))
 
--- the words that were read are those that the line has
+-- the words that were read are the words of the line
 pub after_model : (w : WordTexts) (text model rest : List ℕ) → AreWords w → text ≡ words_text w
     → Lacks 32 model
     → text ≡ codes "model " ++ (model ++ 32 ∷ rest) → rest ≡ rule_on w

@@ -1,4 +1,4 @@
--- What is written as the text of a part is a part text.
+-- The text that is written for a part is a part file.
 use Rattle.std.proofs.Common.{◌≡◌, ◌≢◌, ◌<◌, ◌^◌, ◌/◌, ◌%◌, ℕ, zero, suc, List, [], ◌∷◌, length}
 use Rattle.std.proofs.Common.{refl, sym, ap, ◌∙◌, Option, Some, None, arith, map, true}
 use Rattle.std.specs.Prelude.{codes, slice_get, slice_index, zip}
@@ -52,7 +52,7 @@ sum_is_word text = record {
       (lacks_literal 10 lower_digits refl);
 }
 
--- so are the name of a model and that of the rule
+-- so are the name of a model and the name of the rule
 literal_word : (word : List ℕ) → lacks_test 32 word ≡ true → lacks_test 10 word ≡ true → IsWord word
 literal_word word space line =
     record { no_space = lacks_literal 32 word space; one_line = lacks_literal 10 word line }
@@ -118,7 +118,7 @@ all_lines c (f ∷ fs) (v ∷ verdicts) named small = (
   all_lines c fs verdicts named (λ k x e. small (suc k) x e),
 )
 
--- the text of a part of a run is a part text
+-- the file of a part of a run is a part file
 pub part_is : (parts part : ℕ) (m : Model) (bench text bytes : List ℕ) → part < parts
     → parts < 2 ^ 32 → (of : IsPartTextOf m bench text part parts bytes)
     → IsPart bytes (head_of m bench text part parts)
