@@ -1,4 +1,4 @@
-//! Which tests of a job detect which classes.
+//! The tests of a job that detect each class.
 
 ghost use Rattle.std.specs.Prelude.{◌≡◌, ◌<◌, ◌/◌, ◌%◌, IfOk, length, slice_index_or};
 ghost use Rattle.block_sim.specs.Parts.{HasRoom};
@@ -11,7 +11,7 @@ use patterns::BLOCK_SIZE;
 use std::alloc::{AllocError, Global};
 use std::marker::Model;
 
-/// Which tests of a job detect which classes: for each class a word for each block of tests.
+/// The tests of a job that detect each class: for each class a word for each block of tests.
 #[derive(Drop)]
 pub struct Detections {
     rows: Vec<Vec<u64>>,

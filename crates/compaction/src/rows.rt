@@ -22,7 +22,7 @@ pub fn all_numbers(alloc: Global, tests: u32) -> Result<Vec<u32>, AllocError>
     Ok(numbers)
 }
 
-/// The tests of a list that are marked, in order, each with the number that the list has for it.
+/// Returns the marked tests of a list, in order, each with the number that the list has for it.
 pub fn kept_tests(
     alloc: Global,
     tests: &Tests,
@@ -41,7 +41,7 @@ pub fn kept_tests(
     Ok(Kept { tests, numbers })
 }
 
-/// The numbers that are marked, in order.
+/// Returns the marked numbers, in order.
 fn marked_numbers(alloc: Global, numbers: &[u32], marks: &[bool]) -> Result<Vec<u32>, AllocError>
     requires { length marks.now ≡ length numbers.now }
     ensures { IfOk result (λ kept. kept.items ≡ at_marks marks.now numbers.now) }
@@ -55,7 +55,7 @@ fn marked_numbers(alloc: Global, numbers: &[u32], marks: &[bool]) -> Result<Vec<
     Ok(kept)
 }
 
-/// The tests of a list that are marked, in order.
+/// Returns the marked tests of a list, in order.
 fn marked_tests(alloc: Global, tests: &Tests, marks: &[bool]) -> Result<Tests, AllocError>
     requires { length marks.now ≡ length tests.now.tests }
     ensures rows { IfOk result (λ kept. kept.tests ≡ at_marks marks.now tests.now.tests) }
