@@ -27,14 +27,14 @@ impl<'a> Merged<'a> {
         Merged { faults, firsts }
     }
 
-    /// The number of faults that a test detects.
+    /// Returns the number of faults that a test detects.
     pub fn detected(&self) -> u32
         ensures { result ≡ detected_count (run_of self.now).firsts }
     {
         self.firsts.iter().filter(|first| first.is_some()).count() as u32
     }
 
-    /// The number of faults, before collapsing.
+    /// Returns the number of uncollapsed faults.
     pub fn total(&self) -> u32
         ensures { result ≡ length (run_of self.now).firsts }
     {
