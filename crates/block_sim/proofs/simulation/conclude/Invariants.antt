@@ -5,7 +5,7 @@ use Rattle.block_sim.specs.Ways.{known_ways}
 use Rattle.block_sim.specs.declared.simulation.Memo.TheVariants.{Nothing}
 use Rattle.block_sim.proofs.simulation.conclude.Given as goal
 
--- memos are true but for those of classes that are still to come
+-- memos are true, except for classes that are still to come
 abbrev pub invariant-loop-one : goal.invariant-loop-one
 invariant-loop-one l = record {
   count : length l.memos ≡ length l.job.classes.representative;
