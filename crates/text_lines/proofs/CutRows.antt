@@ -116,9 +116,9 @@ at_end first text place past =
     ∙ ap (λ front. rows_from first front ++ []) (sym whole)
     ∙ ap (λ rest. rows_from first (take place text) ++ rows_from line rest) (sym none)
 
-behind_line_feed : (first : ℕ) (text : List ℕ) (at : ℕ) → at + 1 < length text
+after_line_feed : (first : ℕ) (text : List ℕ) (at : ℕ) → at + 1 < length text
     → get_or text at 0 ≡ 10 → Cut first text (at + 1)
-behind_line_feed first text at within feed =
+after_line_feed first text at within feed =
     let front = take at text in
     let rest = drop (at + 1) text in
     let short : at < length text = omega arith in
@@ -151,8 +151,8 @@ rows_from-cut first text (suc at) start =
     let more : at + 1 < length text = omega arith in
     let last : at ≡ suc at - 1 = omega arith in
     let feed : get_or text at 0 ≡ 10 =
-    ap (λ k. get_or text k 0) last ∙ start.behind (omega arith) within in
-    subst (Cut first text) (add-one at) (behind_line_feed first text at more feed))
+    ap (λ k. get_or text k 0) last ∙ start.after_feed (omega arith) within in
+    subst (Cut first text) (add-one at) (after_line_feed first text at more feed))
     (λ (past : length text ≤ suc at). at_end first text (suc at) past)
     (cases_lt (suc at) (length text))
 
@@ -163,8 +163,8 @@ IsLineStart-in_front text place end low within start =
     let len : length (take end text) ≡ end = length-take-le end text within in
     record {
       within = omega arith;
-      behind = λ some more. get_or-take end text (place - 1) 0 (omega arith)
-          ∙ start.behind some (omega arith);
+      after_feed = λ some more. get_or-take end text (place - 1) 0 (omega arith)
+          ∙ start.after_feed some (omega arith);
     }
 
 -- ---- the contents of rows, whatever the numbers of their lines
@@ -224,7 +224,8 @@ module _ (text rest : List ℕ) (place : ℕ) (some : 0 < place) (within : place
   no_start earlier later inside differs start =
       let at : place - 1 + (earlier - place) ≡ earlier - 1 = omega arith in
       let feed : get_or rest (earlier - place) 0 ≡ 10 =
-      read (earlier - place) ∙ ap (λ k. get_or text k 0) at ∙ start.behind (omega arith) inside in
+      read (earlier - place) ∙ ap (λ k. get_or text k 0) at
+      ∙ start.after_feed (omega arith) inside in
       let is_feed : (get_or rest (earlier - place) 0 == 10) ≡ true = ap (λ b. b == 10) feed in
       let clash : true ≡ false = sym is_feed ∙ differs in cc
 
@@ -236,7 +237,7 @@ module _ (text rest : List ℕ) (place : ℕ) (some : 0 < place) (within : place
       record {
         is = record {
           within = omega (arith, len);
-          behind = λ _ _. sym (ap (λ k. get_or text k 0) last) ∙ sym (read at) ∙ feed;
+          after_feed = λ _ _. sym (ap (λ k. get_or text k 0) last) ∙ sym (read at) ∙ feed;
         };
         later = omega arith;
         first = λ earlier low high. no_start earlier low (omega (arith, len))
@@ -248,7 +249,7 @@ module _ (text rest : List ℕ) (place : ℕ) (some : 0 < place) (within : place
   IsLineStartFrom-end before = record {
     is = record {
       within = omega arith;
-      behind = λ _ (past : length text < length text). absurd (omega arith);
+      after_feed = λ _ (past : length text < length text). absurd (omega arith);
     };
     later = within;
     first = λ earlier low high. no_start earlier low high

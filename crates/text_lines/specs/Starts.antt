@@ -4,7 +4,7 @@ use Rattle.std.specs.Prelude.{◌≡◌, ℕ, ◌-◌, ◌<◌, ◌≤◌, List,
 -- a line of the text begins at this place, or the text ends there
 pub record IsLineStart (text : List ℕ) (place : ℕ) : Type 0 where
   pub within : place ≤ length text
-  pub behind : 0 < place → place < length text → slice_index text (place - 1) ≡ 10
+  pub after_feed : 0 < place → place < length text → slice_index text (place - 1) ≡ 10
 
 -- the first such place from this one on
 pub record IsLineStartFrom (text : List ℕ) (place start : ℕ) : Type 0 where
