@@ -23,9 +23,9 @@ abbrev pub mark_of : ℕ → Token
 mark_of b = if b == 40 then Open else if b == 41 then Close else if b == 44 then Comma else Equals
 
 -- the word that was read so far, if it has a byte, and then the tokens after it
-abbrev pub behind_word : List ℕ → Option (List Token) → Option (List Token)
-behind_word [] tokens = tokens
-behind_word (b ∷ w) tokens = option_map (λ ts. Word (b ∷ w) ∷ ts) tokens
+abbrev pub with_word : List ℕ → Option (List Token) → Option (List Token)
+with_word [] tokens = tokens
+with_word (b ∷ w) tokens = option_map (λ ts. Word (b ∷ w) ∷ ts) tokens
 
 -- the tokens from a byte on that no word has, given the tokens after it
 abbrev pub from_byte : ℕ → Option (List Token) → Option (List Token)
@@ -37,15 +37,15 @@ from_byte b tokens =
 
 -- the tokens of a line after the word that was read so far, or None if the line has a byte that
 -- isn't allowed
-abbrev pub tokens_behind : List ℕ → List ℕ → Option (List Token)
-tokens_behind w [] = behind_word w (Some [])
-tokens_behind w (b ∷ line) = elim (is_word_byte b) [
-  | true ↦ tokens_behind (w ++ b ∷ []) line
-  | false ↦ behind_word w (from_byte b (tokens_behind [] line))
+abbrev pub tokens_after : List ℕ → List ℕ → Option (List Token)
+tokens_after w [] = with_word w (Some [])
+tokens_after w (b ∷ line) = elim (is_word_byte b) [
+  | true ↦ tokens_after (w ++ b ∷ []) line
+  | false ↦ with_word w (from_byte b (tokens_after [] line))
 ]
 
 abbrev pub tokens_of : List ℕ → Option (List Token)
-tokens_of line = tokens_behind [] line
+tokens_of line = tokens_after [] line
 
 abbrev pub kinds : List Kind
 kinds = And ∷ Nand ∷ Or ∷ Nor ∷ Xor ∷ Xnor ∷ Not ∷ Buff ∷ []
