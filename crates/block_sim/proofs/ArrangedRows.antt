@@ -1,5 +1,5 @@
--- The facts about a signal in the rows of a circuit are true of the signal in the circuit whose
--- statements stand in another order, with each number moved.
+-- Rows of a circuit whose statements stand in another order. The facts about a signal in the rows
+-- of the first circuit hold for the moved signal.
 use Rattle.std.proofs.Common.{ℕ, sym, ◌∙◌, ap, subst, List, map}
 use Rattle.std.specs.Prelude.{All, Contains, option_map}
 use Rattle.std.proofs.lemmas.List.Elements.{All-map}

@@ -59,8 +59,9 @@ pub map_alike : {X Y : Type 0} (f g : X → Y) (xs : List X) → ((x : X) → Am
 map_alike f g [] same = refl
 map_alike f g (x ∷ xs) same = rw (same x (inl refl), map_alike f g xs (λ y a. same y (inr a))) refl
 
--- Two solutions agree on the names that have a property if each such name either has one bit in
--- both, or is on no fault's line and its gate reads names that have the property.
+-- Two solutions agree on the names that have a property, if each such name meets one of two
+-- conditions. It has one bit in both solutions; or it is on no fault's line, and its gate reads
+-- names that have the property.
 module _ (c : List Statement) (t : Test) (f g : Option Fault) (v w : Name
     → Bool) (well : IsWellFormed c) (p : Solves c t f v) (q : Solves c t g w) (P : Name
     → Type 0) where

@@ -19,8 +19,8 @@ use Rattle.patterns.specs.Tests.{blocks, size_of}
 use Rattle.patterns.specs.Least.{Table, from_up, first_hit, least}
 use Rattle.block_sim.specs.First.{IsFirst, IsOutcome, IsTrueOutcome, IsTrueTable, LeastIsFirst}
 
--- the tests that detect a fault are the tests that detect the representative of its class, so an
--- outcome of the representative on a block is an outcome of the fault
+-- the same tests detect a fault and the representative of its class; so an outcome of one on a
+-- block is an outcome of the other
 outcome_too : (c : List Statement) (tests : List Test) (f r : Fault) (block : ℕ) (o : Outcome)
     → ((t : ℕ) → DetectsAt c tests f t → DetectsAt c tests r t)
     → ((t : ℕ) → DetectsAt c tests r t → DetectsAt c tests f t) → IsOutcome c tests r block o

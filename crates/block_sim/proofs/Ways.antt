@@ -1,5 +1,5 @@
--- The way to the stem of a region gets shorter gate by gate, and each class that becomes known adds
--- its own way to the sum.
+-- The way to the stem of a region gets shorter gate by gate. Each class that becomes known adds its
+-- own way to the sum.
 use Rattle.std.proofs.Common.{◌≡◌, ◌+◌, ◌*◌, ◌/◌, ◌<◌, ◌≤◌, ◌⊎◌, inl, inr, ℕ, zero, suc, refl, sym}
 use Rattle.std.proofs.Common.{◌∙◌, ap, subst, true, false, Bool, List, [], ◌∷◌, length, set, arith}
 use Rattle.std.specs.Prelude.{Some, None, if◌then◌else◌, slice_index_or}

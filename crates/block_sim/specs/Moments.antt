@@ -58,9 +58,9 @@ Spreads c good lanes case m = IsPropagating c case.tests case.group case.fault g
 abbrev pub left : (c : List Statement) → Case c → Moment → List ℕ → ℕ
 left c case m gates = pending_gates (λ s. s) m.at m.level gates
 
--- From one moment to a later one: the invariant of each case stays true. If a list has each gate
--- that reads a signal that differs, then at most as many gates were evaluated as stopped being
--- pending in the list.
+-- From one moment to a later one: the invariant of each case stays true. Take a list with each gate
+-- that reads a signal that differs. At most as many gates were evaluated as stopped being pending
+-- in the list.
 pub record Leads (c : List Statement) (good : List ℕ) (lanes : ℕ) (m n : Moment) : Type 0 where
   pub spreading : (case : Case c) → Spreads c good lanes case m → Spreads c good lanes case n
   pub counted : (case : Case c) (gates : List ℕ) → Spreads c good lanes case m

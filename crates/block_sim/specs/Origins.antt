@@ -24,8 +24,8 @@ pub record IsStuckOf (c : List Statement) (f : Fault) (stuck : Stuck) : Type 0 w
   pub listed : Contains (faults f.model c) f
   pub is : stuck_fault stuck ≡ f
 
--- In a circuit with the same statements in another order the simulation of the fault starts from
--- the moved fault, and from the signal that its line carries in that circuit.
+-- The start of the simulation of a fault in a circuit with the same statements in another order:
+-- the moved fault, and the signal that its line carries there.
 pub record Starts (c d : List Statement) (f : Fault) (origin : Origin) : Type 0 where
   pub listed : Contains (faults f.model c) f
   pub moved : stuck_fault origin.fault ≡ moved_fault c d f

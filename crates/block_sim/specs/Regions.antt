@@ -39,8 +39,8 @@ lone_reader c s = only_gate (readers c (line.Stem s))
 abbrev pub PinLaw : List Statement → Type 0
 PinLaw c = (s g : ℕ) → lone_reader c s ≡ Some g → IsReadBy c g s
 
--- A signal is a stem if its fanout is not one pin of one gate: if no pin or several pins read it,
--- be they of one gate, or if it is observed, at an output or a cell's data pin.
+-- A signal is a stem if its fanout is not one pin of one gate. So no pin or several pins read it,
+-- be they of one gate; or it is observed, at an output or a cell's data pin.
 abbrev pub IsStem : List Statement → ℕ → Type 0
 IsStem c s = lone_reader c s ≡ None
 
@@ -155,8 +155,8 @@ start_of (line.Stem s) = Some s
 start_of (line.Pin gate pin) = Some gate
 start_of _ = None
 
--- one step: if only one gate reads a signal, the complemented signal is detected exactly if the
--- gate passes the change on and the complemented gate is detected
+-- one step, for a signal that only one gate reads: the complemented signal is detected exactly if
+-- the gate passes the change on and the complemented gate is detected
 abbrev pub StepLaw : List Statement → Type 0
 StepLaw c = (t : Test) (s g : ℕ) → IsReadBy c g s
     → DetectsFlip c t s ↔ (Passes c t s g × DetectsFlip c t g)
@@ -183,7 +183,7 @@ ObserverLaw c = (m : Model) (f : Fault) (t : Test) → Contains (faults m c) f
     → start_of f.line ≡ None → Detects c t f ↔ HasBit c t f.line (not f.stuck)
 
 -- In the lanes of a mask, each lane of the word that is 1 has a test that detects the complemented
--- signal, and no lane of the mask below the least of them has one.
+-- signal. Take the least of these lanes: no lane of the mask below it has such a test.
 pub record TellsFirstFlips (c : List Statement) (tests : List Test) (group mask s word : ℕ) :
     Type 0 where
   pub found : (k : ℕ) → k < 128 → lane mask k ≡ true → lane word k ≡ true

@@ -22,8 +22,8 @@ pub record HasSameReaders (c d : List Statement) : Type 0 where
   pub live : (s : ℕ) → IsLive c s ↔ IsLive d (place c d s)
   pub lone : (s : ℕ) → lone_reader d (place c d s) ≡ option_map (place c d) (lone_reader c s)
 
--- a signal's region has the same stem, as has the region of a fault of the list, and the way to the
--- stem has the same number of gates
+-- the region of a signal has the same stem, and so has the region of a fault of the list; the way
+-- to the stem has the same number of gates
 pub record HasSameStems (c d : List Statement) : Type 0 where
   pub of_signal : (r s : ℕ) → IsStemOf c r s ↔ IsStemOf d (place c d r) (place c d s)
   pub of_line : (m : Model) (f : Fault) (r : ℕ) → Contains (faults m c) f

@@ -17,8 +17,8 @@ use Rattle.block_sim.specs.Regions.{DetectsFlip, lone_reader}
 use Rattle.block_sim.specs.BlockSpans.{IsInSpan, group_of}
 use Rattle.block_sim.specs.Words.{lane, test_of, AreWords}
 
--- In the lanes of a mask a test detects a complemented signal exactly if the word has a 1 and the
--- test detects the complemented stem.
+-- For each lane of a mask: the test detects the complemented signal exactly if the word has a 1 and
+-- the test detects the complemented stem.
 abbrev pub CarriesFlip : List Statement → List Test → ℕ → ℕ → ℕ → ℕ → ℕ → Type 0
 CarriesFlip c tests group mask s stem word = (k : ℕ) → k < 128 → lane mask k ≡ true
     → DetectsFlip c (test_of tests group k) s

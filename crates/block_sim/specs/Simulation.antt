@@ -80,8 +80,8 @@ IsApproach job class span (Known word) = TellsFirstIn job span class word
 IsApproach job class span (Stem at) =
     (at.signal < length (names job.circuit)) × HasArrived job span at.signal class at.lanes
 
--- the view that contracts have of a simulation: the number of signals that it has room for, the
--- evaluations that it has counted, the memo of each class, and the number of classes that it can
+-- the view that contracts have of a simulation: the number of signals that it has room for and the
+-- evaluations that it has counted; the memo of each class, and the number of classes that it can
 -- follow at once
 pub record Simulated : Type 0 where
   pub signals : ℕ

@@ -45,8 +45,8 @@ pub record HasWords (c : List Statement) (words : List ℕ) : Type 0 where
   pub count : length words ≡ length (names c)
 
 -- The equation of one signal on words. In each lane a source has the bit of the lane's test. A
--- gate's signal has the bit that its kind gives for the bits of its pins in that lane, except for a
--- fault on its stem.
+-- gate's signal has the bit that its kind gives for the bits of its pins in that lane. A fault on
+-- its stem is an exception.
 pub record IsSignalWord (c : List Statement) (tests : List Test) (group : ℕ) (f : Option Fault)
     (words : List ℕ) (s word : ℕ) : Type 0 where
   pub source : (i : ℕ) (n : Name) (k : ℕ) → k < 128 → name_of c s ≡ Some n

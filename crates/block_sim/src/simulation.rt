@@ -161,7 +161,7 @@ impl Simulation {
     /// It follows classes of the region, including this one, that have no memo on the block before
     /// the call and have one after it. From the third block on it simulates two blocks at once. At
     /// most it evaluates the gates on the ways of these classes to the stem, and once each the
-    /// gates that the complemented stem makes active. A gate is active if one of its pins then sees
+    /// gates that the complemented stem activates. A gate is active if one of its pins then sees
     /// another bit under some test of the simulated blocks. If the class has a memo on the block,
     /// it evaluates none.
     pub fn outcome(&mut self, job: &Job, class: u32, block: u32) -> Outcome

@@ -127,9 +127,9 @@ pub fn first_hit(job: &Job, workspace: &mut Workspace, class: u32, block: u32) -
     least_lane(block_word(lanes, block))
 }
 
-/// Returns the tests of a block that detect a class: bit k, from the least, is 1 exactly if test
-/// `64 * block + k` detects the representative of the class, and 0 past the last test. It takes no
-/// memory.
+/// Returns the tests of a block that detect a class. Bit k, from the least, is 1 exactly if test
+/// `64 * block + k` detects the representative of the class. It is 0 past the last test. The call
+/// takes no memory.
 ///
 /// Each test is followed to the end, within the same bound as [`simulate`]. A transition fault is
 /// detected with the test before, so a bit stands for a pair of tests: for lane 0 with the last
