@@ -1,5 +1,6 @@
--- Lemmas on the errors of text calls, on texts of a job as texts of its files, on the lines of
--- pairs, on names of cells, and on counts of classes. Proofs of the crates above cite only these.
+-- Lemmas on the errors of text calls, on texts of a job as texts of its files, and on the lines of
+-- pairs. Lemmas on names of cells, and on counts of classes. Proofs of the crates above cite only
+-- these.
 pub use Rattle.report.proofs.CellNames.{cell_is_named}
 pub use Rattle.report.proofs.ClassFirsts.{counted_class, uncounted_class}
 pub use Rattle.report.proofs.HistogramTexts.{counted_fault, counted_refused}

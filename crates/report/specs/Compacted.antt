@@ -38,8 +38,8 @@ kept_text Numbers kept numbers = flat_map number_line numbers
 abbrev pub count_of : List Test → List Test → KeptCount
 count_of tests kept = record { kept = length kept; all = length tests }
 
--- the bytes are the rows or the numbers of a compaction of a test file for a bench file, under a
--- model and in an order, and the count has the numbers of kept and of all tests
+-- the bytes are the rows or numbers of a compaction of a test file for a bench file, under a model
+-- and in an order; the count has the numbers of kept tests and of all tests
 abbrev pub IsKeptText : Model → List ℕ → List ℕ → KeptLayout → KeptCount → List ℕ → Type 0
 IsKeptText m bench text layout count bytes = (c : List Statement) × (tests : TestList)
     × (kept : List Test) × (numbers : List ℕ) × IsAccepted bench c

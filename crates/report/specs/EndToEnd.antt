@@ -135,9 +135,9 @@ IsWatchedFault m bench text split.Fitting workers passing stops f =
 abbrev pub HasSomeMoves : List ℕ → ℕ → Type 0
 HasSomeMoves order workers = (moves : List ℕ) × HasMoves order workers moves
 
--- The condition of each error of the report of a schedule: the errors of the bench file and of the
--- test file, then of the order file, then of the job, and then of a run of moves that are all moves
--- of workers of the run.
+-- The condition of each error of the report of a schedule. First come the errors of the bench file
+-- and of the test file, then of the order file, then of the job. Last come the errors of a run of
+-- moves that are all moves of workers of the run.
 abbrev pub IsScheduleTextFault : Model → List ℕ → List ℕ → List ℕ → ℕ → SimFault → Type 0
 IsScheduleTextFault m bench text order workers (fault.Order f) =
     (c : List Statement) × (tests : TestList)

@@ -37,8 +37,8 @@ pub struct CurvePoint {
 }
 
 /// Reads a circuit and tests for it, and writes the curve of the faults of a model. The curve has a
-/// line `TEST DETECTED P.PP` for each test that is the first to detect some fault, in order, and
-/// then the coverage line. It works as [`crate::simulate_text_in`] does.
+/// line `TEST DETECTED P.PP` for each test that is the first to detect some fault, in order. The
+/// coverage line follows. The function works as [`crate::simulate_text_in`] does.
 ///
 /// It fails as [`crate::simulate_text_in`] does, in the same order.
 pub fn curve_text_in<R: Threads + Wait, W: Out>(
