@@ -44,7 +44,7 @@ pub record IsFirstWanted (marks : List Bool) (pairs : Bool) (t : ℕ) : Type 0 w
 
 -- The wanted tests of a list are kept after the old ones, as far as there is room: all old tests
 -- stay, and no test is new if none is wanted. If there is no old test, and room for two, the first
--- wanted test comes first, and the test after it in the list comes second, if it is wanted.
+-- wanted test comes first. The test after it in the list comes second, if it is wanted.
 pub record AreKept (tests : List (List Bool)) (marks : List Bool) (pairs : Bool) (room : ℕ)
     (old new : List (List Bool)) : Type 0 where
   pub stay : (k : ℕ) (test : List Bool) → slice_get old k ≡ Some test

@@ -24,7 +24,7 @@ use Rattle.tables.specs.declared.table.Format.TheVariants.{Csv, Json}
 use Rattle.tables.specs.Rows.{RowCells, row_cells}
 
 -- The last column, from the run or the classes: its name, its value for each fault in the order of
--- the list, the choice of the faults that have a row, and the sums as a JSON object.
+-- the list, and the choice of the faults that have a row. The sums are a JSON object.
 pub record LastColumn : Type 0 where
   pub name : List ℕ
   pub values : List (Option ℕ)
