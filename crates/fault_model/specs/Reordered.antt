@@ -65,7 +65,7 @@ moved_sink c d (sink.Data cell) = sink.Data cell
 moved_sink c d (sink.Out output) = sink.Out output
 
 -- Each name has the same sinks, maybe in another order. A line that only a gate's pin reads in one
--- list is such a line in the other, and a fault of one list is a fault of the other.
+-- list is such a line in the other. A fault of one list is a fault of the other.
 pub record HasSameSinks (c d : List Statement) : Type 0 where
   pub count : (n : Name) → length (sinks d n) ≡ length (sinks c n)
   pub to : (n : Name) (k : Sink) → Contains (sinks c n) k → Contains (sinks d n) (moved_sink c d k)
