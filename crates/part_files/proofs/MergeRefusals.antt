@@ -35,8 +35,8 @@ use Rattle.part_files.proofs.FaultParts.{seen_one, some_part_of}
 use Rattle.part_files.proofs.MergedReport.{OneCircuit, head_in_run, read_as, told}
 use Rattle.part_files.proofs.PartRefusals.{no_refusal}
 
--- The state of the merge so far: the first line is the line of the run, the names are the names of
--- the circuit's faults, and a verdict is open if the fault belongs to no part that is there.
+-- The state of the merge so far: the first line is the line of the run, and the names are the names
+-- of the circuit's faults. A verdict is open if the fault belongs to no part that is there.
 record IsWhole (run : PartedRun) (c : List Statement) (s : MergeState) : Type 0 where
   pub part : ℕ
   pub head : s.head ≡ head_in_run run part

@@ -82,8 +82,8 @@ read_as run part bytes h names verdicts of is =
     (map (fault_text of.text.0.circuit) (faults run.model of.text.0.circuit)) verdicts of.text.2.0
     is (told run part bytes of)
 
--- The state of a merge is true of a circuit and of tests: the first line is the line of the run,
--- the names are the names of the circuit's faults, and each first test is the first that detects
+-- The state of a merge is true of a circuit and of tests. The first line is the line of the run,
+-- and the names are the names of the circuit's faults. Each first test is the first that detects
 -- its fault.
 record IsSound (run : PartedRun) (c : List Statement) (tests : List Test)
     (s : MergeState) : Type 0 where
