@@ -40,9 +40,9 @@ shown_cells v first [] = refl
 shown_cells v first (qd ∷ qds) = ap (λ bits. v qd.1 ∷ bits) (shown_cells v (first + 1) qds)
 
 -- the observers after the outputs show the bits that the cells capture
-shown_behind : (c : List Statement) (v : Name → Bool)
+shown_by_cells : (c : List Statement) (v : Name → Bool)
     → drop (length (outputs c)) (map (shows None v) (observers c)) ≡ captured c v
-shown_behind c v =
+shown_by_cells c v =
     let outs = map (shows None v) (at_outputs (enumerate_from 0 (outputs c))) in
     let rest = map (shows None v) (at_cells (enumerate_from 0 (cells c))) in
     ap (drop (length (outputs c))) (map-append (shows None v)
@@ -178,5 +178,5 @@ are_launch_pairs c tests pairs shown held from held_is from_is answers rows = re
       ∙ (ap (λ k. take k test ++ drop from (map (shows None v) (observers c))) held_is
       ∙ (ap (λ k. take (length (inputs c)) test ++ drop k (map (shows None v) (observers c)))
       from_is
-      ∙ ap (λ x. take (length (inputs c)) test ++ x) (shown_behind c v)))));
+      ∙ ap (λ x. take (length (inputs c)) test ++ x) (shown_by_cells c v)))));
 }
