@@ -41,6 +41,17 @@ pub struct CurvePoint {
 /// coverage line follows. The function works as [`crate::simulate_text_in`] does.
 ///
 /// It fails as [`crate::simulate_text_in`] does, in the same order.
+///
+/// # Examples
+///
+/// `z = AND(a, b)` with the tests `00`, `01`, `01` and `11` gives
+///
+/// ```text
+/// 0 1 16.66
+/// 1 2 33.33
+/// 3 5 83.33
+/// 5 of 6 (83.33%)
+/// ```
 pub fn curve_text_in<R: Threads + Wait, W: Out>(
     rt: &R,
     alloc: Global,

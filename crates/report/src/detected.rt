@@ -29,6 +29,20 @@ use workers::{MAX_WORKERS, RunFault};
 /// detect. The count of a fault ends at `most`.
 ///
 /// It fails as [`crate::simulate_text_in`] does, in the same order.
+///
+/// # Examples
+///
+/// `z = AND(a, b)` with the tests `00`, `01`, `10` and `11`, a `most` of 3 and `list` gives
+///
+/// ```text
+/// stem a sa0 1
+/// stem a sa1 1
+/// stem b sa0 1
+/// stem b sa1 1
+/// stem z sa0 1
+/// stem z sa1 3
+/// 1 of 6 (16.66%)
+/// ```
 pub fn detections_text_in<R: Threads + Wait, W: Out>(
     rt: &R,
     alloc: Global,

@@ -31,6 +31,19 @@ use workers::RunFault;
 ///
 /// It fails as [`crate::detections_text_in`] does with [`Split::Whole`], and else as
 /// [`crate::detections_text_of_any_size`] does.
+///
+/// # Examples
+///
+/// `z = AND(a, b)` with the tests `00`, `01`, `10` and `11` and a `most` of 3 gives, without a line
+/// for each fault,
+///
+/// ```text
+/// 1 of 6 (16.66%)
+/// 0 0
+/// 1 5
+/// 2 0
+/// 3 1
+/// ```
 pub fn histogram_text_in<R: Threads + Wait, W: Out>(
     rt: &R,
     alloc: Global,

@@ -34,6 +34,18 @@ use workers::Verdicts;
 ///
 /// The gate and the split are as in [`crate::simulate_text_watched`], and it fails as that function
 /// does.
+///
+/// # Examples
+///
+/// `z = AND(a, b)` with the tests `00`, `01` and `10` gives
+///
+/// ```text
+/// stem a sa0 none not observed
+/// stem b sa0 none not observed
+/// stem z sa0 none not activated
+/// 3 of 6 (50.00%)
+/// 0 no path, 1 not activated, 2 not observed
+/// ```
 pub fn reasons_text_watched<R: Threads + Wait, G: Watch + Sync, W: Out>(
     rt: &R,
     alloc: Global,
