@@ -31,6 +31,17 @@ use std::thread::Threads;
 /// # Errors
 ///
 /// The errors of `report::curve_text_watched`, which also describes the split and the gate.
+///
+/// # Examples
+///
+/// `z = AND(a, b)` with the tests `00`, `01`, `01` and `11` gives, as comma-separated values,
+///
+/// ```text
+/// test,new,detected,percent
+/// 0,1,1,16.66
+/// 1,1,2,33.33
+/// 3,3,5,83.33
+/// ```
 pub fn curve_table_watched<R: Threads + Wait, G: Watch + Sync, W: Out>(
     rt: &R,
     alloc: Global,

@@ -30,6 +30,19 @@ use std::thread::Threads;
 /// # Errors
 ///
 /// The errors of `report::histogram_text_in`.
+///
+/// # Examples
+///
+/// `z = AND(a, b)` with the tests `00`, `01`, `10` and `11` and a `most` of 3 gives, as
+/// comma-separated values,
+///
+/// ```text
+/// detections,faults
+/// 0,0
+/// 1,5
+/// 2,0
+/// 3,1
+/// ```
 pub fn histogram_table_in<R: Threads + Wait, W: Out>(
     rt: &R,
     alloc: Global,

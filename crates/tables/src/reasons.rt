@@ -30,6 +30,15 @@ use workers::Verdicts;
 /// # Errors
 ///
 /// The errors of [`crate::run_table_watched`], which also describes the split and the gate.
+///
+/// # Examples
+///
+/// `z = AND(a, b)` with the tests `00`, `01` and `11` gives, as comma-separated values,
+///
+/// ```text
+/// kind,name,pin,defect,first,net,reason
+/// stem,b,,sa1,,b,not observed
+/// ```
 pub fn reasons_table_watched<R: Threads + Wait, G: Watch + Sync, W: Out>(
     rt: &R,
     alloc: Global,
