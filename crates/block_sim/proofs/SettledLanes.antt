@@ -36,7 +36,7 @@ settled_on extent lanes kept narrow seen more before out k lt in_lanes left = go
     go false e = settled_more extent seen more k (before k lt in_lanes e)
 
 -- ---- one followed class
--- the class is followed in the lane, and one of its lanes up to this one was seen
+-- if the class is followed in the lane, one of its lanes up to this one was seen
 abbrev pub HasHit : Followed → ℕ → ℕ → Type 0
 HasHit one seen k = lane one.lanes k ≡ true
     → (j : ℕ) × (j ≤ k) × (lane one.lanes j ≡ true) × (lane seen j ≡ true)

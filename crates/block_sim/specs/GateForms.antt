@@ -5,7 +5,7 @@ use Rattle.bench_net.specs.declared.Kind.{Kind}
 use Rattle.fault_model.specs.Solution.{is_odd, value}
 use Rattle.block_sim.specs.declared.gate_form.GateForm.{GateForm}
 
--- a bit, inverted if the first bit is 1
+-- a bit, inverted if the first bit is true
 abbrev pub inverted_if : Bool → Bool → Bool
 inverted_if turn b = if turn then not b else b
 

@@ -77,8 +77,8 @@ abbrev pub HaveHits : List Followed → ℕ → ℕ → Type 0
 HaveHits followed seen k = (one : Followed) → Contains followed one → lane one.lanes k ≡ true
     → (j : ℕ) × (j ≤ k) × (lane one.lanes j ≡ true) × (lane seen j ≡ true)
 
--- If only first hits are requested, a lane is settled when each class in it has a hit. If the whole
--- group is requested, no lane is settled.
+-- If only first hits are requested, a lane is settled if each class that is followed in it has a
+-- hit, in this lane or a lower one. If the whole group is requested, no lane is settled.
 abbrev pub IsSettled : Extent → ℕ → ℕ → Type 0
 IsSettled WholeBlock seen k = ⊥
 IsSettled (FirstHits followed) seen k = HaveHits followed.now seen k
@@ -89,7 +89,7 @@ LeavesSettled extent lanes kept seen = (k : ℕ) → k < 128 → lane lanes k �
     → lane kept k ≡ false → IsSettled extent seen k
 
 -- The first change by faults on a stem or a pin: in each requested lane the start has its bit under
--- the lane's fault, and the equations of all other signals are those without a fault.
+-- the lane's fault. No other equation contains the fault.
 pub record IsFirstChange (c : List Statement) (tests : List Test) (group : ℕ) (f : ℕ → Fault)
     (good : List ℕ) (lanes : ℕ) (delta : List ℕ) (start diff : ℕ) : Type 0 where
   pub words : AreWords c tests group None good

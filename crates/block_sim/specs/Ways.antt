@@ -49,7 +49,7 @@ SomeWayLaw m c = (class : ℕ) → class < length (representatives m c)
 abbrev pub OneWayLaw : Model → List Statement → Type 0
 OneWayLaw m c = (class n k : ℕ) → IsWayOfClass m c class n → IsWayOfClass m c class k → n ≡ k
 
--- these are the numbers for the classes of a job
+-- the function has this number for each class of a job
 abbrev pub AreWays : Parts → (ℕ → ℕ) → Type 0
 AreWays job way = (class : ℕ) → class < length job.classes.representative
     → IsWayOfClass job.list.model job.circuit class (way class)
