@@ -21,7 +21,7 @@ abbrev pub is_found_by : ℕ → Option ℕ → Bool
 is_found_by t None = false
 is_found_by t (Some first) = nat_le first t
 
--- the count of a fault with this first test at a test
+-- 1 if a fault with this first test is counted at a test, else 0
 abbrev pub counts_at : ℕ → Option ℕ → ℕ
 counts_at t first = if is_first t first then 1 else 0
 

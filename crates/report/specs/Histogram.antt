@@ -15,8 +15,7 @@ use Rattle.job_loading.specs.declared.split.Split.TheVariants as split
 use Rattle.report.specs.Detected.{IsCountFault, detection_report}
 use Rattle.report.specs.EndToEnd.{IsReportFault, IsTextFault}
 
--- the count of a fault with this count among the faults with count n, and the number of faults with
--- the count n
+-- 1 if this count is n, else 0; and the number of faults with the count n
 abbrev pub one_with : ℕ → ℕ → ℕ
 one_with n count = if count == n then 1 else 0
 
