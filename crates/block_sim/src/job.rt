@@ -448,7 +448,8 @@ impl Job {
     }
 
     /// Returns the last block that is simulated together with a block. From the third block on this
-    /// is the other block of its group of two, if that comes after it.
+    /// is the other block of its group of two, if that comes after it. Otherwise it is the block
+    /// itself.
     pub fn last_together(&self, block: u32) -> u32
         requires { block < blocks (length self.now.tests.tests) }
         ensures last { result ≡ (span_of (length self.now.tests.tests) block).last }
