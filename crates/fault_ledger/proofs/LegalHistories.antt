@@ -191,11 +191,12 @@ hit_kept s h e p hit =
     hit
 
 -- a skipped piece comes after a hit of its class
-pub skipped_behind : (s : Shape) (p : ℕ) (h : History) → IsLegal s h → entry p h ≡ state.Skipped
+pub skipped_after_hit : (s : Shape) (p : ℕ) (h : History) → IsLegal s h → entry p h ≡ state.Skipped
     → has_earlier_hit s h p ≡ true
-skipped_behind s p [] l e = absurd (cc)
-skipped_behind s p (Event.Claim w ∷ h) l e = skipped_behind s p h l.1 e
-skipped_behind s p (Event.Report w o ∷ h) l e = go (holds w p h) o e (skipped_behind s p h l.1)
+skipped_after_hit s p [] l e = absurd (cc)
+skipped_after_hit s p (Event.Claim w ∷ h) l e = skipped_after_hit s p h l.1 e
+skipped_after_hit s p (Event.Report w o ∷ h) l e =
+    go (holds w p h) o e (skipped_after_hit s p h l.1)
   where
     go : (b : Bool) (x : Outcome) → (if b then state_of x else entry p h) ≡ state.Skipped
         → (entry p h ≡ state.Skipped → has_earlier_hit s h p ≡ true)
@@ -203,7 +204,7 @@ skipped_behind s p (Event.Report w o ∷ h) l e = go (holds w p h) o e (skipped_
     go true outcome.Clear e i = absurd (cc)
     go true (outcome.Hit j) e i = absurd (cc)
     go false x e i = hit_kept s h (Event.Report w o) p (i e)
-skipped_behind s p (Event.Drop w ∷ h) l e = go (holds w p h) refl e (skipped_behind s p h l.1)
+skipped_after_hit s p (Event.Drop w ∷ h) l e = go (holds w p h) refl e (skipped_after_hit s p h l.1)
   where
     go : (b : Bool) → holds w p h ≡ b → (if b then state.Skipped else entry p h) ≡ state.Skipped
         → (entry p h ≡ state.Skipped → has_earlier_hit s h p ≡ true)
@@ -217,7 +218,7 @@ skipped_behind s p (Event.Drop w ∷ h) l e = go (holds w p h) refl e (skipped_b
 -- so it is never the first of its class that isn't clear
 pub never_first : (s : Shape) (h : History) → IsLegal s h → SkippedIsNeverFirst s h
 never_first s h l class block below_classes below_blocks e =
-    let hit = skipped_behind s (piece_at s class block) h l e in
+    let hit = skipped_after_hit s (piece_at s class block) h l e in
     let r = any-below (λ b. is_hit (entry (piece_at s (class_of s (piece_at s class block)) b) h))
     (block_of s (piece_at s class block)) hit in
     let c = class_of-at s class block below_classes in
