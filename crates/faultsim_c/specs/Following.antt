@@ -7,9 +7,9 @@ abbrev pub last_of : List (List Bool) → List (List Bool)
 last_of tests = drop (length tests - 1) tests
 
 -- the last of the old tests, and then the new ones
-abbrev pub behind_last : List (List Bool) → List (List Bool) → List (List Bool)
-behind_last old new = last_of old ++ new
+abbrev pub after_last : List (List Bool) → List (List Bool) → List (List Bool)
+after_last old new = last_of old ++ new
 
 -- tests of the same width
 abbrev pub following : TestList → TestList → TestList
-following old new = record { width = new.width; tests = behind_last old.tests new.tests }
+following old new = record { width = new.width; tests = after_last old.tests new.tests }

@@ -3,7 +3,7 @@
 ghost use Rattle.std.specs.Prelude.{◌≡◌, ◌+◌, ◌<◌, ◌≤◌, ◌++◌, ◌∷◌, [], IfErr, IfOk, OnOk, length};
 ghost use Rattle.std.specs.Prelude.{slice_index_or};
 ghost use Rattle.patterns.specs.Tests.{IsTestList, max_tests};
-ghost use Rattle.faultsim_c.specs.Following.{behind_last, last_of};
+ghost use Rattle.faultsim_c.specs.Following.{after_last, last_of};
 ghost use Rattle.faultsim_c.specs.Statuses.{IsNextRefusal};
 
 use crate::status::Refusal;
@@ -11,9 +11,9 @@ use patterns::{MAX_TESTS, PushFault, Tests, WordsFault};
 use std::alloc::{AllocError, Global};
 
 /// Returns the last test of `old`, if there is one, and the tests of `new` after it.
-pub(crate) fn behind_last(alloc: Global, old: &Tests, new: &Tests) -> Result<Tests, Refusal>
+pub(crate) fn after_last(alloc: Global, old: &Tests, new: &Tests) -> Result<Tests, Refusal>
     requires { old.now.width ≡ new.now.width }
-    ensures tests { IfOk result (λ tests. tests.tests ≡ behind_last old.now.tests new.now.tests) }
+    ensures tests { IfOk result (λ tests. tests.tests ≡ after_last old.now.tests new.now.tests) }
     ensures list { IfOk result (λ tests. IsTestList tests) }
     ensures width { IfOk result (λ tests. tests.width ≡ new.now.width) }
     ensures refused { IfErr result (IsNextRefusal old.now.tests (length new.now.tests)) }

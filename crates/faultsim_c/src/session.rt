@@ -17,7 +17,7 @@ ghost use Rattle.faultsim_c.specs.Statuses.{IsBenchReply, IsTestsReply, IsTextsR
 ghost use Rattle.faultsim_c.specs.Statuses.{IsNextReply, IsWordsReply};
 ghost use Rattle.faultsim_c.specs.Following.{following};
 
-use crate::following::behind_last;
+use crate::following::after_last;
 use crate::status::Refusal;
 use bench_net::{Circuit, read_bench};
 use block_sim::{Job, Workspace, detecting};
@@ -146,7 +146,7 @@ impl Session {
         ensures kept { IfErr result (λ _. self.new ≡ self.old) }
     {
         let new = Tests::from_words(alloc, self.job.circuit().sources(), count, words)?;
-        let tests = behind_last(alloc, self.job.tests(), &new)?;
+        let tests = after_last(alloc, self.job.tests(), &new)?;
         self.set_tests(alloc, alone, tests)
     }
 
