@@ -4,7 +4,7 @@ use Rattle.std.proofs.Common.{refl, sym, ◌∙◌, ap, subst, List, [], ◌∷�
 use Rattle.std.proofs.Common.{All, take, drop, length-drop, Option, Some, None}
 use Rattle.std.specs.Prelude.{Contains, bit_and, slice_get, slice_range}
 use Rattle.std.specs.List.{sum_by}
-use Rattle.std.proofs.lemmas.Bool.{cases_eq}
+use Rattle.std.proofs.lemmas.Bool.{cases_eq, cases_lt}
 use Rattle.std.proofs.lemmas.List.{length-set, length-take-le}
 use Rattle.std.proofs.lemmas.List.Sums.{sum_by-append}
 use Rattle.std.proofs.lemmas.Option.{get_or_from_slice_get, slice_get-get_or, slice_get_within}
@@ -18,10 +18,11 @@ use Rattle.block_sim.specs.declared.origin.ListedClass.{ListedClass}
 use Rattle.block_sim.specs.declared.block_span.BlockSpan.{BlockSpan}
 use Rattle.block_sim.specs.declared.propagation.Followed.{Followed}
 use Rattle.block_sim.specs.First.{TellsFirst}
+use Rattle.block_sim.specs.OpenPlaces.{AreSettled}
 use Rattle.block_sim.specs.Origins.{IsListed}
 use Rattle.block_sim.specs.Parts.{Parts}
 use Rattle.block_sim.specs.RegionHits.{AreConcluded, AreFollowedAt, HasFirst, HaveFirsts}
-use Rattle.block_sim.specs.RegionHits.{HaveFirstsBut, IsFirstIn}
+use Rattle.block_sim.specs.RegionHits.{HaveFirstsBut, HaveStem, IsFirstIn, IsOpenAt}
 use Rattle.block_sim.specs.Regions.{TellsFirstFlips}
 use Rattle.block_sim.specs.RegionHits.{IsFirstOn, IsFollowedAt, IsFoundOrFollowed}
 use Rattle.block_sim.specs.RegionHits.{IsTestOf, open_between, open_classes}
@@ -495,3 +496,87 @@ pub listed_at : (job : Parts) (rows : List ListedClass) (i : ℕ) (row : ListedC
 listed_at job rows i row all e =
     subst (IsListed job) (get_or_from_slice_get rows i row row e)
     (all i row (slice_get_within rows i row e))
+
+-- ---- over places whose classes are settled
+pub settled_from : (firsts : List (Option ℕ)) (p q test : ℕ) → slice_get firsts p ≡ Some (Some test)
+    → AreSettled firsts (p + 1) q → AreSettled firsts p q
+settled_from firsts p q test here after k le lt = go (cases_eq k p)
+  where
+    go : (k ≡ p) ⊎ (k ≢ p) → (t : ℕ) × (slice_get firsts k ≡ Some (Some t))
+    go (inl same) = (test, ap (slice_get firsts) same ∙ here)
+    go (inr ne) = after k (omega (arith, le, ne)) lt
+
+module _ (rows : List ListedClass) (firsts : List (Option ℕ)) (from p q : ℕ) (up : p ≤ q)
+    (settled : AreSettled firsts p q) where
+  not_open : (k : ℕ) (row : ListedClass) → p ≤ k → k < q → IsOpenAt rows firsts k row → ⊥
+  not_open k row le lt idle =
+      let known = settled k le lt in
+      let bad : Some None ≡ Some (Some known.0) = sym idle.unknown ∙ known.1 in
+      cc
+
+  pub stems_over : (stem : ℕ) → HaveStem rows firsts from p stem → HaveStem rows firsts from q stem
+  stems_over stem before k row le lt idle = go (cases_lt k p)
+    where
+      go : (k < p) ⊎ (p ≤ k) → row.stem ≡ stem
+      go (inl low) = before k row le low idle
+      go (inr high) = absurd (not_open k row high lt idle)
+
+  pub found_over : (job : Parts) (span : BlockSpan) (followed : List Followed)
+      (hits : List (Option ℕ))
+      → HaveFirstsBut job span rows firsts followed from p hits
+      → HaveFirstsBut job span rows firsts followed from q hits
+  found_over job span followed hits before k row le lt idle = go (cases_lt k p)
+    where
+      go : (k < p) ⊎ (p ≤ k) → HasFirst job span row hits k ⊎ IsFollowedAt followed k
+      go (inl low) = before k row le low idle
+      go (inr high) = absurd (not_open k row high lt idle)
+
+  pub at_over : (followed : List Followed) → AreFollowedAt rows from p followed
+      → AreFollowedAt rows from q followed
+  at_over followed before one there = let b = before one there in let low = b.1 in
+      (b.0, omega (arith, low, up), b.2, b.3, b.4)
+
+  pub others_over : (hits first : List (Option ℕ))
+      → ((place : ℕ) → (place < from) ⊎ (p ≤ place) → slice_get hits place ≡ slice_get first place)
+      → (place : ℕ) → (place < from) ⊎ (q ≤ place)
+      → slice_get hits place ≡ slice_get first place
+  others_over hits first before place (inl lt) = before place (inl lt)
+  others_over hits first before place (inr le) = before place (inr (omega (arith, le, up)))
+
+open_same : (way : ℕ → ℕ) (rows : List ListedClass) (firsts : List (Option ℕ)) (from p more : ℕ)
+    → length firsts ≡ length rows → from ≤ p → p + more ≤ length rows
+    → AreSettled firsts p (p + more)
+    → open_between rows firsts from (p + more) ≡ open_between rows firsts from p
+open_same way rows firsts from p zero long le within settled =
+    let same : p + 0 ≡ p = omega arith in ap (open_between rows firsts from) same
+open_same way rows firsts from p (suc more) long le within settled =
+    let all : (p + 1) + more ≡ p + suc more = omega arith in
+    let here = settled p (omega arith) (omega arith) in
+    let row = some_at rows p (omega (arith, within)) in
+    ap (open_between rows firsts from) (sym all)
+    ∙ (open_same way rows firsts from (p + 1) more long (omega (arith, le))
+    (omega (arith, within)) (λ k low lt. settled k (omega (arith, low)) (omega (arith, lt)))
+    ∙ ways_same way rows firsts from p row.0 long le row.1 here.0 here.1)
+
+pub ways_over : (way : ℕ → ℕ) (rows : List ListedClass) (firsts : List (Option ℕ)) (from p q : ℕ)
+    → length firsts ≡ length rows → from ≤ p → p ≤ q → q ≤ length rows → AreSettled firsts p q
+    → sum_by way (open_between rows firsts from q) ≡ sum_by way (open_between rows firsts from p)
+ways_over way rows firsts from p q long le up within settled =
+    let same : p + (q - p) ≡ q = omega (arith, up) in
+    ap (sum_by way) (ap (open_between rows firsts from) (sym same)
+    ∙ open_same way rows firsts from p (q - p) long le (omega (arith, same, within))
+    (subst (AreSettled firsts p) (sym same) settled))
+
+-- one row more of the stem
+pub stems_more : (rows : List ListedClass) (firsts : List (Option ℕ)) (from p stem : ℕ)
+    (row : ListedClass)
+    → slice_get rows p ≡ Some row → row.stem ≡ stem → HaveStem rows firsts from p stem
+    → HaveStem rows firsts from (p + 1) stem
+stems_more rows firsts from p stem row is of before k other le lt idle = go (cases_eq k p)
+  where
+    go : (k ≡ p) ⊎ (k ≢ p) → other.stem ≡ stem
+    go (inl same) =
+        let both : Some other ≡ Some row = sym idle.row_is ∙ (ap (slice_get rows) same ∙ is) in
+        let one : other ≡ row = cc in
+        ap (λ (r : ListedClass). r.stem) one ∙ of
+    go (inr ne) = before k other le (omega (arith, lt, ne)) idle

@@ -92,19 +92,22 @@ AreFollowedAt rows from to followed = (one : Followed) → Contains followed one
     → (from ≤ one.place) × (one.place < to)
     × (row : ListedClass) × (slice_get rows one.place ≡ Some row) × (row.class ≡ one.class)
 
--- the rows from one place up to another have this stem
-abbrev pub HaveStem : List ListedClass → ℕ → ℕ → ℕ → Type 0
-HaveStem rows from to stem = (place : ℕ) (row : ListedClass) → from ≤ place → place < to
-    → slice_get rows place ≡ Some row → row.stem ≡ stem
+-- the open rows from one place up to another have this stem
+abbrev pub HaveStem : List ListedClass → List (Option ℕ) → ℕ → ℕ → ℕ → Type 0
+HaveStem rows firsts from to stem = (place : ℕ) (row : ListedClass) → from ≤ place → place < to
+    → IsOpenAt rows firsts place row → row.stem ≡ stem
 
--- the rows from one place up to another are the first of them and all behind it that have its stem
-pub record IsEndOfRegion (rows : List ListedClass) (from to : ℕ) : Type 0 where
+-- The open rows from one place up to another have the stem of the first row, and behind them comes
+-- an open row of another stem, or none.
+pub record IsEndOfRegion (rows : List ListedClass) (firsts : List (Option ℕ)) (from to : ℕ) :
+    Type 0 where
   pub some : from < to
   pub within : to ≤ length rows
   pub same : (first : ListedClass) → slice_get rows from ≡ Some first
-      → HaveStem rows from to first.stem
+      → HaveStem rows firsts from to first.stem
   pub whole : (first row : ListedClass) → slice_get rows from ≡ Some first
-      → slice_get rows to ≡ Some row → row.stem ≢ first.stem
+      → slice_get rows to ≡ Some row
+      → IsOpenAt rows firsts to row × (row.stem ≢ first.stem)
 
 -- the classes of rows whose first test isn't known
 abbrev pub open_classes : List ListedClass → List (Option ℕ) → List ℕ

@@ -7,14 +7,16 @@ ghost use Rattle.std.specs.List.{sum_by};
 ghost use Rattle.bench_net.specs.Scan.{names};
 ghost use Rattle.patterns.specs.Tests.{blocks};
 ghost use Rattle.block_sim.specs.PropagationState.{HasRoomFor, IsAsLarge, IsClear};
+ghost use Rattle.block_sim.specs.OpenPlaces.{AreNextOpen};
 ghost use Rattle.block_sim.specs.Origins.{IsListed};
 ghost use Rattle.block_sim.specs.RegionHits.{AreConcluded, AreFollowedAt, HaveFirsts};
-ghost use Rattle.block_sim.specs.RegionHits.{HaveFirstsBut, HaveStem, IsEndOfRegion, IsFollowedAt};
+ghost use Rattle.block_sim.specs.RegionHits.{HaveFirstsBut, IsEndOfRegion, IsFollowedAt, IsOpenAt};
 ghost use Rattle.block_sim.specs.RegionHits.{IsFoundOrFollowed, IsTestOf, ServesRegions};
 ghost use Rattle.block_sim.specs.RegionHits.{open_between};
 ghost use Rattle.block_sim.specs.Sensitized.{HasBegun, IsSameRegion, IsViewOf};
 ghost use Rattle.block_sim.specs.Simulation.{AreFollowed, IsApproach};
 ghost use Rattle.block_sim.specs.BlockSpans.{IsSpan, group_of, span_of};
+ghost use Rattle.block_sim.specs.Regions.{TellsFirstFlips};
 ghost use Rattle.block_sim.specs.Ways.{AreWays, HasActiveByFlip, IsWayOfClass};
 
 use crate::block_span::BlockSpan;
@@ -101,17 +103,20 @@ impl RegionSimulation {
 
     /// Simulates the region whose classes are in a list from a place on: finds the first test that
     /// detects each of its open classes, on a block and the blocks that are simulated with it
-    /// ([`Job::last_together`]). A class is open if no first test of it is known yet. Returns the
-    /// place after the last class of the region. It takes no memory.
+    /// ([`Job::last_together`]). A class is open if no first test of it is known yet. `next` has
+    /// for each place a later one, such that no place between the two has an open class. Returns
+    /// the next place with an open class of another region, or the end of the list. It takes no
+    /// memory.
     ///
-    /// At most it evaluates the gates on the ways of the open classes to the stem, and once each
-    /// the gates that the complemented stem makes active: gates with a pin that then sees another
-    /// bit, under some test of these blocks.
+    /// At most it evaluates the gates on the ways of the open classes to their stems, and once each
+    /// the gates that one of the complemented stems makes active: gates with a pin that then sees
+    /// another bit, under some test of these blocks.
     pub fn simulate_region(
         &mut self,
         job: &Job,
         block: u32,
         rows: &[ListedClass],
+        next: &[usize],
         from: usize,
         firsts: &[Option<u32>],
     ) -> usize
@@ -120,8 +125,10 @@ impl RegionSimulation {
         requires rows { All (IsListed job.now) rows.now }
         requires few { length rows.now ≤ length job.now.classes.representative }
         requires firsts { length firsts.now ≡ length rows.now }
+        requires next { AreNextOpen firsts.now next.now }
         requires from { from < length rows.now }
-        ensures end { IsEndOfRegion rows.now from result }
+        ensures low { from < result }
+        ensures within { result ≤ length rows.now }
         ensures found { HaveFirsts job.now (span_of (length job.now.tests.tests) block) rows.now
             firsts.now from result self.new.hits }
         ensures others { (place : ℕ) → (place < from) ⊎ (result ≤ place)
@@ -129,17 +136,17 @@ impl RegionSimulation {
         ensures known { (place test : ℕ) → slice_get firsts.now place ≡ Some (Some test)
             → slice_get self.new.hits place ≡ slice_get self.old.hits place }
         ensures serves { ServesRegions self.new job.now }
-        ensures counted { (way : ℕ → ℕ) (first : ListedClass) (gates : List ℕ) → AreWays job.now way
-            → slice_get rows.now from ≡ Some first
+        ensures counted { (way : ℕ → ℕ) (gates : List ℕ) → AreWays job.now way
+            → ((place : ℕ) (row : ListedClass) → from ≤ place → place < result
+            → IsOpenAt rows.now firsts.now place row
             → HasActiveByFlip job.now.circuit job.now.tests.tests
-            (span_of (length job.now.tests.tests) block) first.stem gates
+            (span_of (length job.now.tests.tests) block) row.stem gates)
             → self.new.evaluations ≤ self.old.evaluations
             + sum_by way (open_between rows.now firsts.now from result) + length gates }
         ensures grown { self.old.evaluations ≤ self.new.evaluations }
     {
         let span = BlockSpan::from(job.tests(), block);
         let stem = row_at(rows, from).stem;
-        let end = end_of_region(rows, from);
         let view = view_of(job, span);
         self.followed.clear();
         let region = &mut self.region;
@@ -147,11 +154,11 @@ impl RegionSimulation {
         let followed = &mut self.followed;
         let hits = self.hits.as_mut_slice();
         region.begin(view, view.circuit.place_of(stem));
-        follow_region(
-            job, view, span, rows, from, end, firsts, region, changes, followed, hits,
+        let end = follow_region(
+            job, view, span, rows, next, from, firsts, region, changes, followed, hits,
         );
         let all = followed.as_slice();
-        let seen = flip_stem(job, span, stem, all, changes);
+        let seen = flip_reached(job, span, stem, all, changes);
         conclude(span, seen, all, hits);
         end
     }
@@ -165,19 +172,45 @@ fn row_at(rows: &[ListedClass], place: usize) -> ListedClass
     rows[place]
 }
 
-/// Returns the place after the last class of a region, the first of which is at this place.
-fn end_of_region(rows: &[ListedClass], from: usize) -> usize
-    requires { from < length rows.now }
-    ensures { IsEndOfRegion rows.now from result }
+/// Returns the next place whose class may be open.
+#[inline(always)]
+fn next_open(next: &[usize], place: usize) -> usize
+    requires { place < length next.now }
+    ensures { slice_get next.now place ≡ Some result }
 {
-    let stem = row_at(rows, from).stem;
-    for place in from + 1..rows.len() {
-        let row = row_at(rows, place);
-        if row.stem != stem {
-            return place;
-        }
+    next[place]
+}
+
+/// Complements the stem of a region, if one of its classes reached it. Returns the lanes in which
+/// that is observed.
+fn flip_reached(
+    job: &Job,
+    span: BlockSpan,
+    stem: u32,
+    followed: &[Followed],
+    changes: &mut PropagationState,
+) -> u128
+    requires span { IsSpan (length job.now.tests.tests) span }
+    requires room { HasRoomFor job.now.circuit changes.old }
+    requires clear { IsClear changes.old }
+    requires stem { stem < length (names job.now.circuit) }
+    requires followed { AreFollowed job.now span stem followed.now }
+    ensures detection { (one : Followed) → Contains followed.now one
+        → TellsFirstFlips job.now.circuit job.now.tests.tests (group_of span) one.lanes stem
+        result }
+    ensures counted { (gates : List ℕ)
+        → ((one : Followed) → Contains followed.now one
+        → HasActiveByFlip job.now.circuit job.now.tests.tests span stem gates)
+        → changes.new.evaluations ≤ changes.old.evaluations + length gates }
+    ensures grown { changes.old.evaluations ≤ changes.new.evaluations }
+    ensures room { IsAsLarge changes.old changes.new }
+    ensures clear { IsClear changes.new }
+{
+    if followed.is_empty() {
+        0
+    } else {
+        flip_stem(job, span, stem, followed, changes)
     }
-    rows.len()
 }
 
 /// Returns the circuit as the job's simulation reads it, with the words of a span's group and the
@@ -194,41 +227,43 @@ fn view_of(job: &Job, span: BlockSpan) -> BlockView<'_>
     }
 }
 
-/// Follows the open classes of a region, from one place up to another.
+/// Follows the open classes of a region, from a place on. Returns the first place with an open
+/// class of another region, or the end of the list.
 fn follow_region(
     job: &Job,
     view: BlockView<'_>,
     span: BlockSpan,
     rows: &[ListedClass],
+    next: &[usize],
     from: usize,
-    to: usize,
     firsts: &[Option<u32>],
     region: &mut Sensitized,
     changes: &mut PropagationState,
     followed: &mut Vec<Followed>,
     hits: &mut [Option<u32>],
-)
+) -> usize
     requires span { IsSpan (length job.now.tests.tests) span }
     requires low { span.first < 2 ^ 20 }
     requires room { HasRoomFor job.now.circuit changes.old }
     requires clear { IsClear changes.old }
     requires rows { All (IsListed job.now) rows.now }
     requires firsts { length firsts.now ≡ length rows.now }
-    requires order { from ≤ to }
-    requires within { to ≤ length rows.now }
+    requires next { AreNextOpen firsts.now next.now }
+    requires within { from < length rows.now }
     requires places { length rows.now ≤ length hits.old }
     requires capacity { length rows.now ≤ vec_capacity followed.old }
     requires none { followed.old.items ≡ [] }
     requires len { vec_len followed.old ≡ 0 }
     requires view { IsViewOf job.now span view }
-    requires begun { (stem : ℕ) × HaveStem rows.now from to stem
-        × HasBegun job.now view stem region.old }
-    ensures found { HaveFirstsBut job.now span rows.now firsts.now followed.new.items from to
+    requires begun { (first : ListedClass) × (slice_get rows.now from ≡ Some first)
+        × HasBegun job.now view first.stem region.old }
+    ensures end { IsEndOfRegion rows.now firsts.now from result }
+    ensures found { HaveFirstsBut job.now span rows.now firsts.now followed.new.items from result
         hits.new }
-    ensures at { AreFollowedAt rows.now from to followed.new.items }
-    ensures followed { (stem : ℕ) → HaveStem rows.now from to stem
-        → AreFollowed job.now span stem followed.new.items }
-    ensures others { (place : ℕ) → (place < from) ⊎ (to ≤ place)
+    ensures at { AreFollowedAt rows.now from result followed.new.items }
+    ensures followed { (first : ListedClass) → slice_get rows.now from ≡ Some first
+        → AreFollowed job.now span first.stem followed.new.items }
+    ensures others { (place : ℕ) → (place < from) ⊎ (result ≤ place)
         → slice_get hits.new place ≡ slice_get hits.old place }
     ensures known { (place test : ℕ) → slice_get firsts.now place ≡ Some (Some test)
         → slice_get hits.new place ≡ slice_get hits.old place }
@@ -239,19 +274,29 @@ fn follow_region(
     ensures capacity { vec_capacity followed.new ≡ vec_capacity followed.old }
     ensures counted { (way : ℕ → ℕ) → AreWays job.now way
         → changes.new.evaluations ≤ changes.old.evaluations
-        + sum_by way (open_between rows.now firsts.now from to) }
+        + sum_by way (open_between rows.now firsts.now from result) }
     ensures grown { changes.old.evaluations ≤ changes.new.evaluations }
     ensures room { IsAsLarge changes.old changes.new }
     ensures clear { IsClear changes.new }
 {
-    for place in from..to {
+    let stem = row_at(rows, from).stem;
+    let mut place = from;
+    while place < rows.len() {
         match first_at(firsts, place) {
-            Some(_test) => continue,
+            Some(_test) => {
+                place = next_open(next, place);
+                continue;
+            }
             None => {}
         }
         let row = row_at(rows, place);
+        if row.stem != stem {
+            return place;
+        }
         follow_row(job, view, span, row, place, region, changes, followed, hits);
+        place = next_open(next, place);
     }
+    place
 }
 
 /// Returns the first test that is known for the class at a place.

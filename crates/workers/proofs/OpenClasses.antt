@@ -10,7 +10,7 @@ use Rattle.block_sim.specs.Parts.{BelongTogether, Parts}
 use Rattle.block_sim.specs.RegionHits.{HasFirst}
 use Rattle.workers.specs.declared.stretch_run.BlockSweep.{BlockSweep}
 use Rattle.workers.specs.StretchRuns.{AreFoundUpTo, ArePassed}
-use Rattle.workers.specs.OpenClasses.{AreNextOpen, AreSettled}
+use Rattle.block_sim.specs.OpenPlaces.{AreNextOpen, AreSettled}
 use Rattle.workers.specs.Stops.{Stops}
 use Rattle.workers.specs.BlockSweeps.{HaveFirstsFrom, HaveFirstsAfter, between}
 use Rattle.workers.proofs.StretchRuns.{found_known}

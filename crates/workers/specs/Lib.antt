@@ -9,6 +9,5 @@ pub mod Work
 pub mod StretchRuns
 pub mod Refused
 pub mod BlockSweeps
-pub mod OpenClasses
 pub mod Stretches
 pub mod ListRunners

@@ -9,7 +9,7 @@ ghost use Rattle.block_sim.specs.Parts.{BelongTogether, Parts};
 ghost use Rattle.block_sim.specs.RegionHits.{IsFirstOn, ServesRegions};
 ghost use Rattle.workers.specs.StretchRuns.{AreEarlier, AreFoundUpTo, ArePassed, HasEnded};
 ghost use Rattle.workers.specs.StretchRuns.{IsLowerOf, IsLowest, IsOpenIn, IsStopAt};
-ghost use Rattle.workers.specs.OpenClasses.{AreNextOpen};
+ghost use Rattle.block_sim.specs.OpenPlaces.{AreNextOpen};
 ghost use Rattle.workers.specs.BlockSweeps.{HaveFirstsFrom, HaveFirstsAfter, AreRowsOf};
 ghost use Rattle.workers.specs.BlockSweeps.{IsBlockSweep, IsWhole, between, classes_of};
 
@@ -181,7 +181,7 @@ fn run_block<G: Gate>(
             let block = sweep.block;
             return Some(Stop { place, block });
         }
-        found = region_from(job, rows, sweep, place, found, simulation, firsts);
+        found = region_from(job, rows, next, sweep, place, found, simulation, firsts);
         let outcome = outcome_on(simulation.hit_at(place), sweep.block);
         before = place;
         place = next_open(next, before);
@@ -198,6 +198,7 @@ fn run_block<G: Gate>(
 fn region_from(
     job: &Job,
     rows: &[ListedClass],
+    next: &[usize],
     sweep: BlockSweep,
     place: usize,
     found: usize,
@@ -208,6 +209,7 @@ fn region_from(
     requires few { length rows.now ≤ length job.now.classes.representative }
     requires block { sweep.block < blocks (length job.now.tests.tests) }
     requires firsts { length firsts.now ≡ length rows.now }
+    requires next { AreNextOpen firsts.now next.now }
     requires place { place < length rows.now }
     requires whole { IsWhole job.now rows.now sweep found }
     requires serves { ServesRegions simulation.old job.now }
@@ -226,7 +228,7 @@ fn region_from(
     if place < found {
         return found;
     }
-    simulation.simulate_region(job, sweep.block, rows, place, firsts)
+    simulation.simulate_region(job, sweep.block, rows, next, place, firsts)
 }
 
 /// Returns the outcome on a block of a class that this test detects first, from the block on.

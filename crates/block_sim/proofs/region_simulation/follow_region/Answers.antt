@@ -1,28 +1,39 @@
-use Rattle.std.proofs.Common.{◌≡◌, ◌<◌, ◌≤◌, ◌∙◌, ap, arith, length, refl, sym, subst, inl, inr}
-use Rattle.std.specs.Prelude.{Contains}
-use Rattle.std.specs.List.{sum_by}
-use Rattle.block_sim.specs.RegionHits.{AreFollowedAt, HaveFirstsBut}
+use Rattle.std.proofs.Common.{◌≡◌, ◌+◌, ◌<◌, ◌≤◌, ◌∙◌, ap, arith, length, refl, sym, subst}
+use Rattle.std.specs.Prelude.{Contains, Some}
+use Rattle.std.proofs.lemmas.Option.{slice_get_within}
+use Rattle.block_sim.specs.declared.origin.ListedClass.{ListedClass}
+use Rattle.block_sim.specs.OpenPlaces.{AreSettled}
+use Rattle.block_sim.specs.RegionHits.{AreFollowedAt, HaveStem}
 use Rattle.block_sim.specs.Sensitized.{HasBegun}
 use Rattle.block_sim.specs.Simulation.{AreFollowed}
 use Rattle.block_sim.proofs.Moments.{large_enough, large_on}
-use Rattle.block_sim.proofs.RegionHits.{as_many, at_more, arrived_more, found_known, found_more}
-use Rattle.block_sim.proofs.RegionHits.{known_more, listed_at, open_more, others_more, some_at}
-use Rattle.block_sim.proofs.RegionHits.{ways_more, ways_none}
-use Rattle.block_sim.proofs.RegionHits.{ways_same}
+use Rattle.block_sim.proofs.RegionHits.{as_many, at_more, at_over, arrived_more, found_more}
+use Rattle.block_sim.proofs.RegionHits.{found_over, known_more, listed_at, open_more, others_more}
+use Rattle.block_sim.proofs.RegionHits.{others_over, settled_from, stems_more, stems_over}
+use Rattle.block_sim.proofs.RegionHits.{ways_more, ways_none, ways_over}
 use Rattle.block_sim.proofs.region_simulation.follow_region.Goals as goal
+
+-- the first row of the region, as it was begun with
+same_first : (xs : ListedClass) (ys : ListedClass) → Some xs ≡ Some ys → xs.stem ≡ ys.stem
+same_first xs ys e = let one : xs ≡ ys = cc in ap (λ (x : ListedClass). x.stem) one
 
 pub loop-place-init : goal.loop-place-init
 loop-place-init c = record {
+  low = omega arith;
+  within = omega (arith, c.requires.within);
+  stems = λ place row le lt idle. absurd (omega (arith, le, lt));
   found = λ place row le lt at. absurd (omega (arith, le, lt));
   at = subst (AreFollowedAt c.args.rows.now c.args.from c.args.from) (sym c.requires.none)
       (λ one there. let bad = there.1 in absurd (omega (arith, bad)));
-  followed = λ stem h. subst (AreFollowed c.args.job.now c.args.span stem) (sym c.requires.none)
-      (λ one there. let bad = there.1 in absurd (omega (arith, bad)));
+  followed = subst (AreFollowed c.args.job.now c.args.span c.row_at-stem.result.stem)
+      (sym c.requires.none) (λ one there. let bad = there.1 in absurd (omega (arith, bad)));
   others = λ place h. refl;
   known = λ place test e. refl;
   idle = λ one there. (let bad = (subst (λ l. Contains l one) c.requires.none there).1 in
       absurd (omega (arith, bad)));
-  begun = λ stem h. h;
+  begun = subst (λ s. HasBegun c.args.job.now c.args.view s c.args.region.now)
+      (same_first c.requires.begun.0 c.row_at-stem.result
+      (sym c.requires.begun.1 ∙ c.row_at-stem.ensures)) c.requires.begun.2;
   same = record { stem = refl; lanes = refl; known = refl; path = refl };
   places = refl;
   few = omega (arith, c.requires.len);
@@ -34,6 +45,12 @@ loop-place-init c = record {
   clear = c.requires.clear;
 }
 
+pub loop-place-smaller-in-Some : goal.loop-place-smaller-in-Some
+loop-place-smaller-in-Some c =
+    let up = c.requires.next.following c.loop-place.place c.next_open-place.result
+    c.next_open-place.ensures in
+    omega (arith, up, c.loop-place-test.true)
+
 pub loop-place-preserved-in-Some : goal.loop-place-preserved-in-Some
 loop-place-preserved-in-Some c =
     let before = c.loop-place.invariant in
@@ -41,31 +58,37 @@ loop-place-preserved-in-Some c =
     let firsts = c.args.firsts.now in
     let from = c.args.from in
     let p = c.loop-place.place in
-    let lt = c.loop-place-test.true in
-    let low = c.loop-place.auto in
-    let row = some_at rows p (omega (arith, lt, c.requires.within)) in
+    let q = c.next_open-place.result in
+    let step = c.next_open-place.ensures in
+    let up = c.requires.next.following p q step in
+    let end = c.requires.next.within p q step in
+    let long = c.requires.firsts in
+    let low = before.low in
+    let le : p ≤ q = omega (arith, up) in
+    let within : q ≤ length rows = omega (arith, end, long) in
+    let settled : AreSettled firsts p q = settled_from firsts p q c.in-Some._test c.in-Some.ensures
+    (c.requires.next.between p q step) in
     record {
-      found = found_known c.args.job.now c.args.span rows firsts c.loop-place.followed.items from p
-          c.in-Some._test c.loop-place.hits c.in-Some.ensures before.found;
-      at = λ one there. let b = before.at one there in let high = b.1 in
-          (b.0, omega (arith, high), b.2, b.3, b.4);
+      low = omega (arith, low, up);
+      within = within;
+      stems = stems_over rows firsts from p q le settled c.row_at-stem.result.stem before.stems;
+      found = found_over rows firsts from p q le settled c.args.job.now c.args.span
+          c.loop-place.followed.items c.loop-place.hits before.found;
+      at = at_over rows firsts from p q le settled c.loop-place.followed.items before.at;
       followed = before.followed;
-      others = λ place h. before.others place (elim h [
-        | inl x ↦ inl x
-        | inr x ↦ inr (omega (arith, x))
-      ]);
+      others = others_over rows firsts from p q le settled c.loop-place.hits c.args.hits.now
+          before.others;
       known = before.known;
       idle = before.idle;
       begun = before.begun;
       same = before.same;
       places = before.places;
-      few = let f = before.few in omega (arith, f);
+      few = (let f = before.few in omega (arith, f, up));
       capacity = before.capacity;
       counted = λ way ways.
           let b = before.counted way ways in
-          let same = ap (sum_by way) (ways_same way rows firsts from p row.0 c.requires.firsts
-          (omega (arith, low)) row.1 c.in-Some._test c.in-Some.ensures) in
-          omega (arith, b, same);
+          let sum = ways_over way rows firsts from p q long low le within settled in
+          omega (arith, b, sum);
       grown = before.grown;
       room = before.room;
       clear = before.clear;
@@ -83,12 +106,14 @@ follow_row-requires-clause-row c =
 
 pub follow_row-requires-clause-begun : goal.follow_row-requires-clause-begun
 follow_row-requires-clause-begun c =
-    let begun = c.requires.begun in
-    let from = c.loop-place.auto in
-    let same = begun.1 c.loop-place.place c.row_at-row.result (omega (arith, from))
-    c.loop-place-test.true c.row_at-row.ensures in
-    subst (λ s. HasBegun c.args.job.now c.args.view s c.loop-place.region) (sym same)
-    (c.loop-place.invariant.begun begun.0 begun.2)
+    subst (λ s. HasBegun c.args.job.now c.args.view s c.loop-place.region)
+    (sym (omega (arith, c.if-row-stem.false))) c.loop-place.invariant.begun
+
+pub loop-place-smaller : goal.loop-place-smaller
+loop-place-smaller c =
+    let up = c.requires.next.following c.loop-place.place c.next_open-place-in-loop-place.result
+    c.next_open-place-in-loop-place.ensures in
+    omega (arith, up, c.loop-place-test.true)
 
 pub loop-place-preserved : goal.loop-place-preserved
 loop-place-preserved c =
@@ -98,6 +123,7 @@ loop-place-preserved c =
     let rows = c.args.rows.now in
     let firsts = c.args.firsts.now in
     let from = c.args.from in
+    let stem = c.row_at-stem.result.stem in
     let p = c.loop-place.place in
     let row = c.row_at-row.result in
     let is = c.row_at-row.ensures in
@@ -106,32 +132,43 @@ loop-place-preserved c =
     let old = c.loop-place.hits in
     let hits = c.follow_row.new.hits in
     let lt = c.loop-place-test.true in
-    let after : from ≤ p = omega (arith, c.loop-place.auto) in
-    let low : p < length old = let places = before.places in
-    omega (arith, lt, places, c.requires.within, c.requires.places) in
+    let after = before.low in
+    let places = before.places in
+    let low : p < length old = omega (arith, lt, places, c.requires.places) in
     let step = c.follow_row.ensures.found in
     let listed = listed_at job rows p row c.requires.rows is in
+    let of : row.stem ≡ stem = omega (arith, c.if-row-stem.false) in
+    let q = c.next_open-place-in-loop-place.result in
+    let next = c.next_open-place-in-loop-place.ensures in
+    let up = c.requires.next.following p q next in
+    let end = c.requires.next.within p q next in
+    let settled = c.requires.next.between p q next in
+    let long = c.requires.firsts in
+    let le : p + 1 ≤ q = omega (arith, up) in
+    let within : q ≤ length rows = omega (arith, end, long) in
+    let one : from ≤ p + 1 = omega (arith, after) in
     record {
-      found = found_more job span rows firsts from p row was followed old hits is low after step
-          before.found;
-      at = at_more job span rows firsts from p row was followed old hits is low after step
-          before.at;
-      followed = λ stem all. arrived_more job span rows firsts from p row was followed old hits is
-          low after step stem (all p row after lt is) listed.within (before.followed stem all);
-      others = others_more job span rows firsts from p row was followed old hits is low after step
-          c.args.hits.now before.others;
+      low = omega (arith, after, up);
+      within = within;
+      stems = stems_over rows firsts from (p + 1) q le settled stem
+          (stems_more rows firsts from p stem row is of before.stems);
+      found = found_over rows firsts from (p + 1) q le settled job span followed hits
+          (found_more job span rows firsts from p row was followed old hits is low after step
+          before.found);
+      at = at_over rows firsts from (p + 1) q le settled followed
+          (at_more job span rows firsts from p row was followed old hits is low after step
+          before.at);
+      followed = arrived_more job span rows firsts from p row was followed old hits is
+          low after step stem of listed.within before.followed;
+      others = others_over rows firsts from (p + 1) q le settled hits c.args.hits.now
+          (others_more job span rows firsts from p row was followed old hits is low after step
+          c.args.hits.now before.others);
       known = known_more job span rows firsts from p row was followed old hits is low after step
           c.in-None.ensures c.args.hits.now before.known;
       idle = open_more job span rows firsts from p row was followed old hits is low after step
           c.in-None.ensures before.idle;
-      begun = λ stem h.
-          let now = before.begun stem h in
-          let next = c.follow_row.ensures in
-          record {
-            sensitized = next.begun.sensitized;
-            at = next.same.stem ∙ now.at;
-            lanes = next.same.lanes ∙ now.lanes;
-          };
+      begun = subst (λ s. HasBegun job c.args.view s c.follow_row.new.region) of
+          c.follow_row.ensures.begun;
       same = (let next = c.follow_row.ensures.same in record {
         stem = next.stem ∙ before.same.stem;
         lanes = next.lanes ∙ before.same.lanes;
@@ -140,32 +177,41 @@ loop-place-preserved c =
       });
       places = as_many job span rows firsts from p row was followed old hits is low after step
           ∙ before.places;
-      few = let f = before.few in let len = c.follow_row.ensures.len in omega (arith, f, len);
+      few = (let f = before.few in let len = c.follow_row.ensures.len in omega (arith, f, len, up));
       capacity = c.follow_row.ensures.capacity ∙ before.capacity;
       counted = λ way ways.
           let b = before.counted way ways in
           let more = c.follow_row.ensures.counted way ways in
-          let sum = ways_more way rows firsts from p row c.requires.firsts after is
-          c.in-None.ensures in
-          omega (arith, b, more, sum);
-      grown = let a = before.grown in let b = c.follow_row.ensures.grown in omega (arith, a, b);
+          let sum = ways_more way rows firsts from p row long after is c.in-None.ensures in
+          let rest = ways_over way rows firsts from (p + 1) q long one le within settled in
+          omega (arith, b, more, sum, rest);
+      grown = (let a = before.grown in let b = c.follow_row.ensures.grown in omega (arith, a, b));
       room = large_on c.args.changes.now c.loop-place.changes c.follow_row.new.changes before.room
           c.follow_row.ensures.room;
       clear = c.follow_row.ensures.clear;
     }
 
-pub returns-clause-found : goal.returns-clause-found
-returns-clause-found c =
-    let order = c.requires.order in
-    let end : c.loop-place.place ≡ c.args.to =
-    omega (arith, order, c.loop-place-test.false, c.loop-place.auto) in
-    subst (λ n. HaveFirstsBut c.args.job.now c.args.span c.args.rows.now c.args.firsts.now
-    c.loop-place.followed.items c.args.from n c.loop-place.hits) end c.loop-place.invariant.found
+pub returns-then-row-stem-clause-followed : goal.returns-then-row-stem-clause-followed
+returns-then-row-stem-clause-followed c = λ first is.
+    subst (λ s. AreFollowed c.args.job.now c.args.span s c.loop-place.followed.items)
+    (same_first c.row_at-stem.result first (sym c.row_at-stem.ensures ∙ is))
+    c.loop-place.invariant.followed
 
-pub returns-clause-at : goal.returns-clause-at
-returns-clause-at c =
-    let order = c.requires.order in
-    let end : c.loop-place.place ≡ c.args.to =
-    omega (arith, order, c.loop-place-test.false, c.loop-place.auto) in
-    subst (λ n. AreFollowedAt c.args.rows.now c.args.from n c.loop-place.followed.items) end
-    c.loop-place.invariant.at
+pub returns-clause-followed : goal.returns-clause-followed
+returns-clause-followed c = λ first is.
+    subst (λ s. AreFollowed c.args.job.now c.args.span s c.loop-place.followed.items)
+    (same_first c.row_at-stem.result first (sym c.row_at-stem.ensures ∙ is))
+    c.loop-place.invariant.followed
+
+pub returns-clause-end : goal.returns-clause-end
+returns-clause-end c =
+    let rows = c.args.rows.now in
+    let last = c.loop-place.invariant in
+    record {
+      some = omega (arith, c.loop-place-test.false, c.requires.within);
+      within = last.within;
+      same = λ first is. subst (HaveStem rows c.args.firsts.now c.args.from c.loop-place.place)
+          (same_first c.row_at-stem.result first (sym c.row_at-stem.ensures ∙ is)) last.stems;
+      whole = λ first row is at. (let lt = slice_get_within rows c.loop-place.place row at in
+          absurd (omega (arith, lt, c.loop-place-test.false)));
+    }

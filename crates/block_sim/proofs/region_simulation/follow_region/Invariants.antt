@@ -1,4 +1,4 @@
-use Rattle.std.proofs.Common.{◌≡◌, ◌⊎◌, ◌+◌, ◌<◌, ◌≤◌, ℕ, length}
+use Rattle.std.proofs.Common.{◌≡◌, ◌⊎◌, ◌+◌, ◌-◌, ◌<◌, ◌≤◌, ℕ, length}
 use Rattle.std.specs.Prelude.{Contains, None, Some, slice_get, vec_capacity, vec_len}
 use Rattle.std.specs.List.{sum_by}
 use Rattle.block_sim.specs.PropagationState.{IsAsLarge, IsClear}
@@ -11,17 +11,19 @@ use Rattle.block_sim.proofs.region_simulation.follow_region.Given as goal
 
 abbrev pub invariant-loop-place : goal.invariant-loop-place
 invariant-loop-place l = record {
+  low : l.from ≤ l.place;
+  within : l.place ≤ length l.rows;
+  stems : HaveStem l.rows l.firsts l.from l.place l.stem;
   found : HaveFirstsBut l.job l.span l.rows l.firsts l.followed.items l.from l.place l.hits;
   at : AreFollowedAt l.rows l.from l.place l.followed.items;
-  followed : (stem : ℕ) → HaveStem l.rows l.from l.to stem
-      → AreFollowed l.job l.span stem l.followed.items;
+  followed : AreFollowed l.job l.span l.stem l.followed.items;
   others : (place : ℕ) → (place < l.from) ⊎ (l.place ≤ place)
       → slice_get l.hits place ≡ slice_get l.fn.hits place;
   known : (place test : ℕ) → slice_get l.firsts place ≡ Some (Some test)
       → slice_get l.hits place ≡ slice_get l.fn.hits place;
   idle : (one : Followed) → Contains l.followed.items one
       → slice_get l.firsts one.place ≡ Some None;
-  begun : (stem : ℕ) → HasBegun l.job l.view stem l.fn.region → HasBegun l.job l.view stem l.region;
+  begun : HasBegun l.job l.view l.stem l.region;
   same : IsSameRegion l.fn.region l.region;
   places : length l.hits ≡ length l.fn.hits;
   few : vec_len l.followed + l.from ≤ l.place;
@@ -32,3 +34,6 @@ invariant-loop-place l = record {
   room : IsAsLarge l.fn.changes l.changes;
   clear : IsClear l.changes;
 }
+
+abbrev pub decreases-loop-place : goal.decreases-loop-place
+decreases-loop-place l = length l.rows - l.place

@@ -2,7 +2,7 @@ use Rattle.std.proofs.Common.{◌≡◌, ◌∙◌, All, ap, arith, length, subs
 use Rattle.std.proofs.lemmas.List.{with_items_is}
 use Rattle.block_sim.specs.Origins.{IsListed}
 use Rattle.workers.specs.StretchRuns.{AreFoundUpTo}
-use Rattle.workers.specs.OpenClasses.{AreNextOpen}
+use Rattle.block_sim.specs.OpenPlaces.{AreNextOpen}
 use Rattle.workers.specs.Stops.{no_stop}
 use Rattle.workers.specs.BlockSweeps.{classes_of}
 use Rattle.workers.specs.Verdict.{AreClassFirsts}

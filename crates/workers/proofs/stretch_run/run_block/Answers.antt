@@ -6,7 +6,7 @@ use Rattle.block_sim.specs.declared.origin.ListedClass.{ListedClass}
 use Rattle.workers.proofs.StretchRuns.{found_block, found_clear, found_hit}
 use Rattle.workers.proofs.StretchRuns.{undetected_here}
 use Rattle.workers.proofs.PassedPieces.{passed_block, passed_gate}
-use Rattle.workers.specs.OpenClasses.{AreNextOpen, AreSettled}
+use Rattle.block_sim.specs.OpenPlaces.{AreNextOpen, AreSettled}
 use Rattle.workers.specs.BlockSweeps.{classes_of}
 use Rattle.workers.proofs.OpenClasses.{ahead_over, behind_over, found_up_to, left_out, open_more}
 use Rattle.workers.proofs.OpenClasses.{passed_up_to, settled_more, settled_over}

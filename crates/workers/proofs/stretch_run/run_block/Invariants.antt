@@ -1,7 +1,7 @@
 use Rattle.std.proofs.Common.{◌+◌, ◌-◌, ◌≤◌, length}
 use Rattle.block_sim.specs.RegionHits.{ServesRegions}
 use Rattle.workers.specs.StretchRuns.{AreFoundUpTo, ArePassed}
-use Rattle.workers.specs.OpenClasses.{AreNextOpen, AreSettled}
+use Rattle.block_sim.specs.OpenPlaces.{AreNextOpen, AreSettled}
 use Rattle.workers.specs.BlockSweeps.{HaveFirstsFrom, HaveFirstsAfter, IsWhole, classes_of}
 use Rattle.workers.proofs.stretch_run.run_block.Given as goal
 

@@ -3,7 +3,7 @@ use Rattle.patterns.specs.Tests.{blocks}
 use Rattle.block_sim.specs.declared.origin.ListedClass.{ListedClass}
 use Rattle.block_sim.specs.RegionHits.{HasFirst, IsOpenAt, ServesRegions}
 use Rattle.workers.specs.StretchRuns.{AreFoundUpTo, ArePassed}
-use Rattle.workers.specs.OpenClasses.{AreNextOpen}
+use Rattle.block_sim.specs.OpenPlaces.{AreNextOpen}
 use Rattle.workers.specs.BlockSweeps.{between, classes_of}
 use Rattle.workers.proofs.stretch_run.run_list.Given as goal
 

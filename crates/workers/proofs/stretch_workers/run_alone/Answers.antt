@@ -1,7 +1,7 @@
 use Rattle.std.proofs.Common.{◌≡◌, ◌∙◌, ◌<◌, All, ap, arith, length, subst, sym}
 use Rattle.block_sim.specs.Origins.{IsListed}
 use Rattle.workers.specs.StretchRuns.{AreFoundUpTo}
-use Rattle.workers.specs.OpenClasses.{AreNextOpen}
+use Rattle.block_sim.specs.OpenPlaces.{AreNextOpen}
 use Rattle.workers.specs.BlockSweeps.{classes_of}
 use Rattle.workers.proofs.PartsOfClasses.{stretch_within}
 use Rattle.workers.proofs.ClaimedStretches.{none_found}
