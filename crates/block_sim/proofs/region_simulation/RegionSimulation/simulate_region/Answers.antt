@@ -206,9 +206,9 @@ returns-clause-counted c = λ way gates ways active.
     let turned = c.flip_reached-seen.ensures.counted gates (λ one there.
     let among = subst (λ l. Contains l one) all there in
     let at = c.follow_region-end.ensures.at one among in
-    let row = at.2.0 in
+    let row = at.2 in
     let idle : IsOpenAt c.args.rows.now c.args.firsts.now one.place row = record {
-      row_is = at.2.1;
+      row_is = at.3;
       unknown = c.follow_region-end.ensures.idle one among;
     } in
     let same = c.follow_region-end.ensures.end.same first c.row_at-stem.ensures one.place row at.0
