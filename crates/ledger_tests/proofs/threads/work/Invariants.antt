@@ -1,5 +1,0 @@
-use Rattle.std.proofs.Common.{◌≡◌}
-use Rattle.ledger_tests.proofs.threads.work.Given as goal
-
-abbrev pub invariant-loop : goal.invariant-loop
-invariant-loop l = l.seat.place ≡ l.ledger

@@ -1,0 +1,5 @@
+use Rattle.workers.specs.ListRunners.{ServesLists}
+use Rattle.simulation_tests.proofs.worker.listed.first_wrong.Given as goal
+
+abbrev pub invariant-loop-list : goal.invariant-loop-list
+invariant-loop-list l = ServesLists l.runner l.job

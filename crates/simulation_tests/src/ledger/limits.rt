@@ -1,0 +1,91 @@
+//! The limits of a ledger, and the words of its errors.
+
+use crate::checks::check;
+use crate::ledger::staffed::Staffed;
+use fault_ledger::{
+    Call, Claim, Finish, Ledger, LedgerFault, Refusal, Reply, Shape, SharedLedger, Status, replay,
+};
+use std::alloc::{AllocError, Global};
+
+/// Numbers of classes, tests and workers, and the reason why there is no ledger of them.
+static SHAPES: [(u32, u32, u32, Option<LedgerFault>); 9] = [
+    (16_384, 65_536, 1, None),
+    (65_537, 4_096, 1, None),
+    (16_385, 65_536, 1, Some(LedgerFault::TooManyPieces)),
+    (16_385, 65_536, 0, Some(LedgerFault::NoWorkers)),
+    (16_385, 65_536, 65, Some(LedgerFault::TooManyWorkers)),
+    (1, 1, 0, Some(LedgerFault::NoWorkers)),
+    (1, 1, 64, None),
+    (1, 1, 65, Some(LedgerFault::TooManyWorkers)),
+    (u32::MAX, u32::MAX, 1, Some(LedgerFault::TooManyPieces)),
+];
+
+#[test]
+fn limits_of_a_shape(rt: HostRuntime) {
+    for (classes, tests, workers, fault) in &SHAPES {
+        let owned = Ledger::new(rt.alloc(), *classes, *tests, *workers).err();
+        let shared = SharedLedger::new(rt.alloc(), *classes, *tests, *workers).err();
+        assert!(rt; owned == *fault && shared == *fault);
+    }
+}
+
+/// Each kind of error, and its words.
+static WORDS: [(LedgerFault, &str); 4] = [
+    (LedgerFault::NoWorkers, "no workers"),
+    (LedgerFault::TooManyWorkers, "more than 64 workers"),
+    (LedgerFault::TooManyPieces, "more than 16777216 pieces"),
+    (LedgerFault::Memory, "out of memory"),
+];
+
+/// Returns whether an error is written in these words.
+fn is_said(alloc: Global, fault: LedgerFault, words: &str) -> Result<bool, AllocError> {
+    let said = format!(in alloc; "{fault}")?;
+    Ok(said.as_str() == words)
+}
+
+#[test]
+fn words_of_faults(rt: HostRuntime) {
+    for (fault, words) in &WORDS {
+        check(&rt, is_said(rt.alloc(), *fault, words) == Ok(true), words);
+    }
+}
+
+/// The most classes that a shape can have, and no tests: there is no piece.
+const NO_PIECES: Shape = Shape {
+    classes: u32::MAX,
+    tests: 0,
+    workers: 1,
+};
+
+/// The replies of both ledgers of that shape: all is claimed, and each class is settled at no test.
+static NO_PIECES_REPLIES: [(Call, Reply); 4] = [
+    (Call::Claim(0), Reply::Claimed(Claim::Exhausted)),
+    (
+        Call::Status(u32::MAX - 1),
+        Reply::Status(Status::Settled(None)),
+    ),
+    (Call::Status(u32::MAX), Reply::Refused(Refusal::NoSuchClass)),
+    (Call::Finished, Reply::Finish(Finish::Finished)),
+];
+
+/// Returns whether both ledgers of that shape have this reply to a single call.
+fn is_replied(alloc: Global, call: Call, reply: Reply) -> Result<bool, LedgerFault> {
+    let (_ledger, replies) = replay(alloc, NO_PIECES, &[call])?;
+    let mut staffed = Staffed::new(alloc, NO_PIECES)?;
+    Ok(replies.as_slice() == [reply].as_slice() && staffed.reply_to(call) == reply)
+}
+
+/// Returns whether a closed ledger of that shape is finished, with nothing skipped.
+fn is_done(alloc: Global) -> Result<bool, LedgerFault> {
+    let closed = Staffed::new(alloc, NO_PIECES)?.close(alloc)?;
+    Ok(closed.finished() == Finish::Finished && closed.skipped() == 0)
+}
+
+/// A walk over all classes would take minutes, and a word for each of them 17 GB.
+#[test]
+fn classes_without_a_piece_take_no_time_and_memory(rt: HostRuntime) {
+    for (call, reply) in &NO_PIECES_REPLIES {
+        assert!(rt; is_replied(rt.alloc(), *call, *reply) == Ok(true));
+    }
+    assert!(rt; is_done(rt.alloc()) == Ok(true));
+}

@@ -1,0 +1,10 @@
+//! Runs by workers: verdicts that were worked out by hand, in any order of moves and in threads.
+
+mod fixtures;
+mod gates;
+mod listed;
+mod parts;
+mod schedules;
+mod stretches;
+mod threads;
+mod watched;

@@ -1,5 +1,0 @@
-use Rattle.workers.specs.ListRunners.{ServesLists}
-use Rattle.worker_tests.proofs.listed.first_wrong.Given as goal
-
-abbrev pub invariant-loop-list : goal.invariant-loop-list
-invariant-loop-list l = ServesLists l.runner l.job
