@@ -1,6 +1,6 @@
 //! Circuits of bench files: the result of each call of `Circuit`.
 
-use crate::checks::check;
+use crate::checks::check_ok;
 use bench_net::{BenchFault, Circuit, Kind, ScanCell, Sink, read_bench};
 use std::alloc::{AllocError, Global};
 use worked_circuits::C17;
@@ -527,14 +527,14 @@ fn is_answered(alloc: Global, case: &Case) -> Result<bool, BenchFault> {
 #[test]
 fn calls_of_circuits_of_all_shapes(rt: HostRuntime) {
     for case in &SHAPES {
-        check(&rt, is_answered(rt.alloc(), case) == Ok(true), case.name);
+        check_ok(&rt, is_answered(rt.alloc(), case), case.name);
     }
 }
 
 #[test]
 fn calls_of_circuits_of_all_spellings(rt: HostRuntime) {
     for case in &SPELLINGS {
-        check(&rt, is_answered(rt.alloc(), case) == Ok(true), case.name);
+        check_ok(&rt, is_answered(rt.alloc(), case), case.name);
     }
 }
 

@@ -3,7 +3,7 @@
 ghost use Rattle.std.specs.Prelude.{◌≡◌};
 ghost use Rattle.fault_model.specs.Fault.{faults};
 
-use crate::checks::check;
+use crate::checks::check_ok;
 use crate::circuit::circuits::{Chain, chain_text};
 use bench_net::{BenchFault, Circuit, read_bench};
 use fault_model::{Faults, Line, Model, collapse, list_faults, list_faults_in};
@@ -349,7 +349,7 @@ fn is_so(alloc: Global, case: &Case) -> Result<bool, BenchFault> {
 #[test]
 fn classes_of_circuits(rt: HostRuntime) {
     for case in &CASES {
-        check(&rt, is_so(rt.alloc(), case) == Ok(true), case.name);
+        check_ok(&rt, is_so(rt.alloc(), case), case.name);
     }
 }
 

@@ -1,6 +1,6 @@
 //! Tests made from words and from bits, their errors, and the files that are written.
 
-use crate::checks::{check, is_said};
+use crate::checks::{check_ok, is_said};
 use patterns::{MAX_TESTS, PushFault, TestFault, Tests, WordsFault, read_tests, write_tests};
 use std::alloc::{AllocError, Global};
 
@@ -88,8 +88,8 @@ fn is_read(alloc: Global, case: &Case) -> Result<bool, TestFault> {
 #[test]
 fn tests_of_words(rt: HostRuntime) {
     for case in &CASES {
-        check(&rt, is_made(rt.alloc(), case) == Ok(true), case.name);
-        check(&rt, is_read(rt.alloc(), case) == Ok(true), case.name);
+        check_ok(&rt, is_made(rt.alloc(), case), case.name);
+        check_ok(&rt, is_read(rt.alloc(), case), case.name);
     }
 }
 
@@ -107,7 +107,7 @@ fn are_across_blocks(alloc: Global) -> Result<bool, WordsFault> {
 
 #[test]
 fn words_across_blocks(rt: HostRuntime) {
-    assert!(rt; are_across_blocks(rt.alloc()) == Ok(true));
+    check_ok(&rt, are_across_blocks(rt.alloc()), "words_across_blocks");
 }
 
 #[test]
@@ -134,7 +134,7 @@ fn are_bits(alloc: Global) -> Result<bool, PushFault> {
 
 #[test]
 fn tests_of_bits(rt: HostRuntime) {
-    assert!(rt; are_bits(rt.alloc()) == Ok(true));
+    check_ok(&rt, are_bits(rt.alloc()), "tests_of_bits");
 }
 
 /// Adds a test of no sources and one of one source, and returns the error of the last.
@@ -152,7 +152,7 @@ fn is_full(alloc: Global) -> Result<bool, WordsFault> {
 
 #[test]
 fn a_test_past_the_limit(rt: HostRuntime) {
-    assert!(rt; is_full(rt.alloc()) == Ok(true));
+    check_ok(&rt, is_full(rt.alloc()), "a_test_past_the_limit");
 }
 
 /// Returns whether the second of three tests is written after other bytes.
@@ -173,14 +173,14 @@ fn is_row_written(alloc: Global) -> Result<bool, WordsFault> {
 
 #[test]
 fn a_row_of_a_test(rt: HostRuntime) {
-    assert!(rt; is_row_written(rt.alloc()) == Ok(true));
+    check_ok(&rt, is_row_written(rt.alloc()), "a_row_of_a_test");
 }
 
 #[test]
 fn words_of_faults(rt: HostRuntime) {
     for (fault, words) in &WORDS {
-        check(&rt, is_said(rt.alloc(), fault, words) == Ok(true), words);
+        check_ok(&rt, is_said(rt.alloc(), fault, words), words);
     }
     let width = is_said(rt.alloc(), &PushFault::BadWidth, "wrong width");
-    assert!(rt; width == Ok(true));
+    check_ok(&rt, width, "words_of_faults");
 }

@@ -1,6 +1,6 @@
 //! Order files, and the moves that are read.
 
-use crate::checks::check;
+use crate::checks::{check, check_ok};
 use patterns::{OrderFault, read_order};
 use std::alloc::Global;
 
@@ -21,7 +21,7 @@ fn has_moves(alloc: Global, text: &str, moves: &[u32]) -> Result<bool, OrderFaul
 #[test]
 fn moves_of_orders(rt: HostRuntime) {
     for (text, moves) in &READ {
-        check(&rt, has_moves(rt.alloc(), text, moves) == Ok(true), text);
+        check_ok(&rt, has_moves(rt.alloc(), text, moves), text);
     }
 }
 

@@ -1,6 +1,6 @@
 //! Test files, and the tests that are read, in words of 64.
 
-use crate::checks::check;
+use crate::checks::check_ok;
 use patterns::{TestFault, Tests, read_tests};
 use std::alloc::{AllocError, Global};
 
@@ -179,7 +179,7 @@ fn is_so(alloc: Global, case: &Case) -> Result<bool, TestFault> {
 #[test]
 fn tests_of_texts(rt: HostRuntime) {
     for case in &CASES {
-        check(&rt, is_so(rt.alloc(), case) == Ok(true), case.name);
+        check_ok(&rt, is_so(rt.alloc(), case), case.name);
     }
 }
 
@@ -271,6 +271,6 @@ fn is_refused(alloc: Global, case: &Refused) -> Result<bool, AllocError> {
 #[test]
 fn refused_texts(rt: HostRuntime) {
     for case in &REFUSED {
-        check(&rt, is_refused(rt.alloc(), case) == Ok(true), case.name);
+        check_ok(&rt, is_refused(rt.alloc(), case), case.name);
     }
 }

@@ -1,6 +1,6 @@
 //! Test files of a few megabytes, which threads read.
 
-use crate::checks::check;
+use crate::checks::check_ok;
 use patterns::{TestFault, Tests, read_tests_in_threads};
 use std::alloc::{AllocError, Global};
 use std::sync::Wait;
@@ -115,6 +115,6 @@ fn is_read<R: Threads + Wait>(rt: &R, alloc: Global, case: &Case) -> Result<bool
 #[test]
 fn threads_read_long_texts(rt: HostRuntime) {
     for case in &CASES {
-        check(&rt, is_read(&rt, rt.alloc(), case) == Ok(true), case.name);
+        check_ok(&rt, is_read(&rt, rt.alloc(), case), case.name);
     }
 }

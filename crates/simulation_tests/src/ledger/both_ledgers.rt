@@ -3,7 +3,7 @@
 
 ghost use Rattle.std.specs.Prelude.{◌≡◌, IfOk, IfSome};
 
-use crate::checks::check;
+use crate::checks::check_ok;
 use crate::ledger::staffed::{Staffed, piece};
 use fault_ledger::{
     Call, Claim, Closed, Finish, Ledger, LedgerFault, PieceState, Refusal, Reply, Shape, Status,
@@ -416,7 +416,7 @@ fn is_so(alloc: Global, case: &Case) -> Result<bool, LedgerFault> {
 #[test]
 fn both_ledgers_reply_to_each_case_as_it_says(rt: HostRuntime) {
     for case in &CASES {
-        check(&rt, is_so(rt.alloc(), case) == Ok(true), case.name);
+        check_ok(&rt, is_so(rt.alloc(), case), case.name);
     }
 }
 
@@ -449,5 +449,9 @@ fn is_claimed_once(alloc: Global) -> Result<bool, LedgerFault> {
 
 #[test]
 fn sixty_four_workers_on_one_piece(rt: HostRuntime) {
-    assert!(rt; is_claimed_once(rt.alloc()) == Ok(true));
+    check_ok(
+        &rt,
+        is_claimed_once(rt.alloc()),
+        "sixty_four_workers_on_one_piece",
+    );
 }

@@ -1,6 +1,6 @@
 //! The limits of a ledger, and the words of its errors.
 
-use crate::checks::check;
+use crate::checks::check_ok;
 use crate::ledger::staffed::Staffed;
 use fault_ledger::{
     Call, Claim, Finish, Ledger, LedgerFault, Refusal, Reply, Shape, SharedLedger, Status, replay,
@@ -46,7 +46,7 @@ fn is_said(alloc: Global, fault: LedgerFault, words: &str) -> Result<bool, Alloc
 #[test]
 fn words_of_faults(rt: HostRuntime) {
     for (fault, words) in &WORDS {
-        check(&rt, is_said(rt.alloc(), *fault, words) == Ok(true), words);
+        check_ok(&rt, is_said(rt.alloc(), *fault, words), words);
     }
 }
 
@@ -85,7 +85,7 @@ fn is_done(alloc: Global) -> Result<bool, LedgerFault> {
 #[test]
 fn classes_without_a_piece_take_no_time_and_memory(rt: HostRuntime) {
     for (call, reply) in &NO_PIECES_REPLIES {
-        assert!(rt; is_replied(rt.alloc(), *call, *reply) == Ok(true));
+        check_ok(&rt, is_replied(rt.alloc(), *call, *reply), "no_pieces");
     }
-    assert!(rt; is_done(rt.alloc()) == Ok(true));
+    check_ok(&rt, is_done(rt.alloc()), "no_pieces");
 }

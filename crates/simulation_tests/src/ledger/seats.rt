@@ -2,7 +2,7 @@
 
 ghost use Rattle.std.specs.Prelude.{◌≡◌, IfOk, IfSome};
 
-use crate::checks::check;
+use crate::checks::check_ok;
 use crate::ledger::both_ledgers::has_states;
 use crate::ledger::staffed::Staffed;
 use fault_ledger::{
@@ -250,6 +250,6 @@ fn come_true(alloc: Global, case: &Case) -> Result<bool, LedgerFault> {
 #[test]
 fn seats_do_what_each_case_says(rt: HostRuntime) {
     for case in &CASES {
-        check(&rt, come_true(rt.alloc(), case) == Ok(true), case.name);
+        check_ok(&rt, come_true(rt.alloc(), case), case.name);
     }
 }

@@ -3,6 +3,7 @@
 ghost use Rattle.std.specs.Prelude.{◌≡◌, ◌<◌, All, IfOk};
 ghost use Rattle.fault_ledger.specs.History.{block_count};
 
+use crate::checks::check_ok;
 use crate::ledger::staffed::Staffed;
 use fault_ledger::{
     Claim, Closed, Finish, LedgerFault, PieceState, Seat, Shape, SharedLedger, Status,
@@ -232,7 +233,11 @@ const LARGE: Shape = Shape {
 
 #[test]
 fn many_threads_agree_with_the_outcomes(rt: HostRuntime) {
-    assert!(rt; agree(&rt, rt.alloc(), LARGE, 3) == Ok(true));
+    check_ok(
+        &rt,
+        agree(&rt, rt.alloc(), LARGE, 3),
+        "many_threads_agree_with_the_outcomes",
+    );
 }
 
 /// Two classes on two blocks.
@@ -246,5 +251,9 @@ const SMALL: Shape = Shape {
 /// at no test.
 #[test]
 fn four_threads_report_four_pieces_as_clear(rt: HostRuntime) {
-    assert!(rt; agree(&rt, rt.alloc(), SMALL, 0) == Ok(true));
+    check_ok(
+        &rt,
+        agree(&rt, rt.alloc(), SMALL, 0),
+        "four_threads_report_four_pieces_as_clear",
+    );
 }

@@ -2,7 +2,7 @@
 
 ghost use Rattle.std.specs.Prelude.{◌<◌};
 
-use crate::checks::{check, job_of};
+use crate::checks::{check_ok, job_of};
 use block_sim::Job;
 use fault_model::Model;
 use job_loading::SimFault;
@@ -123,6 +123,6 @@ fn is_so<R: Threads + Wait>(rt: &R, alloc: Global, case: &Case) -> Result<bool, 
 #[test]
 fn tests_are_counted(rt: HostRuntime) {
     for case in &CASES {
-        check(&rt, is_so(&rt, rt.alloc(), case) == Ok(true), case.name);
+        check_ok(&rt, is_so(&rt, rt.alloc(), case), case.name);
     }
 }

@@ -1,6 +1,6 @@
 //! The tests of a block that detect a class, on worked circuits.
 
-use crate::checks::{check, job_of};
+use crate::checks::{check_ok, job_of};
 use block_sim::{Job, Workspace, detecting};
 use fault_model::Model;
 use job_loading::SimFault;
@@ -133,6 +133,6 @@ fn is_so(alloc: Global, worked: &Worked) -> Result<bool, SimFault> {
 #[test]
 fn worked_circuits_have_their_detecting_tests(rt: HostRuntime) {
     for worked in &WORKED {
-        check(&rt, is_so(rt.alloc(), worked) == Ok(true), worked.name);
+        check_ok(&rt, is_so(rt.alloc(), worked), worked.name);
     }
 }

@@ -4,7 +4,7 @@ ghost use Rattle.std.specs.Prelude.{◌<◌, ◌≤◌, length};
 ghost use Rattle.patterns.specs.Tests.{blocks};
 ghost use Rattle.block_sim.specs.Parts.{HasRoom};
 
-use crate::checks::{check, job_of};
+use crate::checks::{check_ok, job_of};
 use block_sim::{Job, Workspace, first_hit, simulate};
 use fault_model::Model;
 use job_loading::SimFault;
@@ -51,7 +51,11 @@ fn is_c17_active(alloc: Global) -> Result<bool, SimFault> {
 
 #[test]
 fn c17_evaluates_the_gates_that_are_active(rt: HostRuntime) {
-    assert!(rt; is_c17_active(rt.alloc()) == Ok(true));
+    check_ok(
+        &rt,
+        is_c17_active(rt.alloc()),
+        "c17_evaluates_the_gates_that_are_active",
+    );
 }
 
 /// The outcomes of all classes and blocks by both calls, and the evaluations of the first.
@@ -180,7 +184,11 @@ fn is_c17_within_bound(alloc: Global) -> Result<bool, SimFault> {
 
 #[test]
 fn c17_with_4096_tests_stays_within_the_bound(rt: HostRuntime) {
-    assert!(rt; is_c17_within_bound(rt.alloc()) == Ok(true));
+    check_ok(
+        &rt,
+        is_c17_within_bound(rt.alloc()),
+        "c17_with_4096_tests_stays_within_the_bound",
+    );
 }
 
 /// A circuit with tests: `zeros` rows `0`, and then `tests`. For each fault of the list the first
@@ -304,7 +312,11 @@ fn room_fits_c17(alloc: Global, bench: &[u8]) -> Result<bool, SimFault> {
 #[test]
 fn a_workspace_fits_jobs_of_as_many_signals(rt: HostRuntime) {
     assert!(rt; room_fits_c17(rt.alloc(), BUFFER.as_bytes()) == Ok(false));
-    assert!(rt; room_fits_c17(rt.alloc(), C17) == Ok(true));
+    check_ok(
+        &rt,
+        room_fits_c17(rt.alloc(), C17),
+        "a_workspace_fits_jobs_of_as_many_signals",
+    );
 }
 
 /// Returns the first test of a class's first hit, out of the outcomes of all classes and blocks.
@@ -366,6 +378,6 @@ fn is_so(alloc: Global, worked: &Worked) -> Result<bool, SimFault> {
 #[test]
 fn worked_circuits_have_their_first_tests(rt: HostRuntime) {
     for worked in &WORKED {
-        check(&rt, is_so(rt.alloc(), worked) == Ok(true), worked.name);
+        check_ok(&rt, is_so(rt.alloc(), worked), worked.name);
     }
 }

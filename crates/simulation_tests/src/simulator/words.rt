@@ -1,6 +1,6 @@
 //! The fault-free words of a chain of inverters, which threads share.
 
-use crate::checks::check;
+use crate::checks::check_ok;
 use block_sim::Job;
 use fault_model::Model;
 use job_loading::{SimFault, job_of_in_threads};
@@ -109,6 +109,6 @@ fn is_right_by<R: Threads + Wait>(rt: &R, alloc: Global, workers: u32) -> Result
 #[test]
 fn threads_work_out_the_words_of_a_chain(rt: HostRuntime) {
     for (workers, name) in CREWS {
-        check(&rt, is_right_by(&rt, rt.alloc(), workers) == Ok(true), name);
+        check_ok(&rt, is_right_by(&rt, rt.alloc(), workers), name);
     }
 }

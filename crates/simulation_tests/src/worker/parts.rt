@@ -2,7 +2,7 @@
 
 ghost use Rattle.std.specs.Prelude.{◌<◌};
 
-use crate::checks::check;
+use crate::checks::check_ok;
 use crate::worker::fixtures::{C17, C17_FIRSTS, JobText, has_firsts, job_of};
 use crate::worker::gates::{Shut, ShutFor};
 use block_sim::Job;
@@ -274,6 +274,6 @@ fn holds<R: Threads + Wait>(rt: &R, alloc: Global, case: &Case) -> Result<bool, 
 #[test]
 fn runs_in_parts(rt: HostRuntime) {
     for case in &CASES {
-        check(&rt, holds(&rt, rt.alloc(), case) == Ok(true), case.name);
+        check_ok(&rt, holds(&rt, rt.alloc(), case), case.name);
     }
 }

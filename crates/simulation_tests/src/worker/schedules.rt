@@ -1,6 +1,6 @@
 //! Runs of one thread.
 
-use crate::checks::check;
+use crate::checks::check_ok;
 use crate::worker::fixtures::{BUFFER, C17, C17_FIRSTS, JobText, WIRE, has_firsts, job_of};
 use block_sim::Job;
 use fault_model::Model;
@@ -159,7 +159,7 @@ fn holds(alloc: Global, case: &Case) -> Result<bool, SimFault> {
 #[test]
 fn runs_by_moves(rt: HostRuntime) {
     for case in &CASES {
-        check(&rt, holds(rt.alloc(), case) == Ok(true), case.name);
+        check_ok(&rt, holds(rt.alloc(), case), case.name);
     }
 }
 
@@ -186,6 +186,6 @@ fn is_said(alloc: Global, fault: RunFault, words: &str) -> Result<bool, AllocErr
 #[test]
 fn words_of_the_faults(rt: HostRuntime) {
     for (fault, words) in &WORDS {
-        check(&rt, is_said(rt.alloc(), *fault, words) == Ok(true), words);
+        check_ok(&rt, is_said(rt.alloc(), *fault, words), words);
     }
 }

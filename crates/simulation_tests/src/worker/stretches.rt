@@ -1,6 +1,6 @@
 //! Runs whose parts a shared ledger hands out to threads.
 
-use crate::checks::check;
+use crate::checks::check_ok;
 use crate::worker::fixtures::{C17, C17_FIRSTS, has_firsts, job_of};
 use crate::worker::gates::{Holding, Meeting, Roll, ShutForWorker};
 use block_sim::Job;
@@ -130,6 +130,6 @@ fn holds<R: Threads + Wait + Clock + Sync>(
 #[test]
 fn shares_out_parts(rt: HostRuntime) {
     for (name, question) in &CASES {
-        check(&rt, holds(&rt, rt.alloc(), *question) == Ok(true), name);
+        check_ok(&rt, holds(&rt, rt.alloc(), *question), name);
     }
 }

@@ -3,7 +3,7 @@
 ghost use Rattle.std.specs.Prelude.{◌≡◌, ◌<◌, All, IfOk, length};
 ghost use Rattle.workers.specs.Settling.{IsShapeOf};
 
-use crate::checks::check;
+use crate::checks::check_ok;
 use crate::worker::fixtures::{BUFFER, C17, C17_FIRSTS, JobText, WIRE, has_firsts, job_of};
 use crate::worker::gates::{Counter, Meeting, Roll, Shut, ShutFor, ShutForTwo, TwoByTwo};
 use block_sim::{Job, Workspace};
@@ -483,6 +483,6 @@ fn holds<R: Threads + Wait + Clock + Sync>(
 #[test]
 fn runs_in_threads(rt: HostRuntime) {
     for case in &CASES {
-        check(&rt, holds(&rt, rt.alloc(), case) == Ok(true), case.name);
+        check_ok(&rt, holds(&rt, rt.alloc(), case), case.name);
     }
 }

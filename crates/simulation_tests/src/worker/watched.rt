@@ -2,6 +2,7 @@
 
 ghost use Rattle.workers.specs.Stops.{no_stop};
 
+use crate::checks::check_ok;
 use crate::worker::fixtures::{JobText, job_of};
 use block_sim::Job;
 use fault_model::Model;
@@ -120,5 +121,9 @@ fn is_told_of_c17<R: Threads + Wait>(rt: &R, alloc: Global) -> Result<bool, SimF
 
 #[test]
 fn a_gate_is_told_of_the_run(rt: HostRuntime) {
-    assert!(rt; is_told_of_c17(&rt, rt.alloc()) == Ok(true));
+    check_ok(
+        &rt,
+        is_told_of_c17(&rt, rt.alloc()),
+        "a_gate_is_told_of_the_run",
+    );
 }
