@@ -1,4 +1,4 @@
--- The flags of signals, while tests are added block by block.
+-- The flags of signals, while tests are added group by group.
 use Rattle.std.proofs.Common.{◌≡◌, ◌≢◌, ◌<◌, ◌≤◌, ◌+◌, ◌*◌, ◌∙◌, ◌⊎◌, ℕ, Bool, true, false, List}
 use Rattle.std.proofs.Common.{ap, arith, inl, inr, length, replicate, set, subst, sym}
 use Rattle.std.specs.Prelude.{◌↔◌, IsTrue, Some, slice_get, slice_index_or}
@@ -10,28 +10,28 @@ use Rattle.std.proofs.lemmas.Option.{get_or_from_slice_get, slice_get-get_or, sl
 use Rattle.list_lemmas.proofs.Places.{place_within}
 use Rattle.block_sim.specs.Activation.{ActivatesAt}
 use Rattle.block_sim.specs.Parts.{Parts}
-use Rattle.undetected.specs.Activated.{AreActivated, AreActivatedBefore, IsActivatedIn, end_at}
+use Rattle.undetected.specs.Activated.{AreActivated, AreActivatedBefore, IsActivatedInGroup, end_at}
 use Rattle.undetected.specs.Activated.{stem_fault}
 
 -- where a signal's tests end: those of the signals before a number were added
-added_end : (block signal s : ℕ) → s < signal → end_at block signal s ≡ 64 * (block + 1)
-added_end block signal s lt =
-    ap (λ b. if b then 64 * (block + 1) else 64 * block) (lt-ltb s signal lt)
+added_end : (group signal s : ℕ) → s < signal → end_at group signal s ≡ 128 * (group + 1)
+added_end group signal s lt =
+    ap (λ b. if b then 128 * (group + 1) else 128 * group) (lt-ltb s signal lt)
 
-open_end : (block signal s : ℕ) → signal ≤ s → end_at block signal s ≡ 64 * block
-open_end block signal s le =
-    ap (λ b. if b then 64 * (block + 1) else 64 * block) (le-ltb s signal le)
+open_end : (group signal s : ℕ) → signal ≤ s → end_at group signal s ≡ 128 * group
+open_end group signal s le =
+    ap (λ b. if b then 128 * (group + 1) else 128 * group) (le-ltb s signal le)
 
 -- of other signals nothing changes
-same_end : (block signal s : ℕ) → s ≢ signal
-    → end_at block (signal + 1) s ≡ end_at block signal s
-same_end block signal s other = go (cases_lt s signal)
+same_end : (group signal s : ℕ) → s ≢ signal
+    → end_at group (signal + 1) s ≡ end_at group signal s
+same_end group signal s other = go (cases_lt s signal)
   where
-    go : (s < signal) ⊎ (signal ≤ s) → end_at block (signal + 1) s ≡ end_at block signal s
-    go (inl lt) = added_end block (signal + 1) s (omega (arith, lt))
-        ∙ sym (added_end block signal s lt)
-    go (inr le) = open_end block (signal + 1) s (omega (arith, le, other))
-        ∙ sym (open_end block signal s le)
+    go : (s < signal) ⊎ (signal ≤ s) → end_at group (signal + 1) s ≡ end_at group signal s
+    go (inl lt) = added_end group (signal + 1) s (omega (arith, lt))
+        ∙ sym (added_end group signal s lt)
+    go (inr le) = open_end group (signal + 1) s (omega (arith, le, other))
+        ∙ sym (open_end group signal s le)
 
 module _ (job : Parts) (bit : Bool) where
   -- some test before a number activates the fault on the stem
@@ -43,16 +43,16 @@ module _ (job : Parts) (bit : Bool) where
       → IsTrue flag ↔ Before s other
   ends s end other flag same h = subst (λ e. IsTrue flag ↔ Before s e) same h
 
-  -- a flag that is not set takes the answer of the block
-  pub added : (block signal : ℕ) (flags : List Bool) (answer : Bool)
-      → AreActivatedBefore job bit (end_at block signal) flags → signal < length flags
+  -- a flag that is not set takes the answer of the group
+  pub added : (group signal : ℕ) (flags : List Bool) (answer : Bool)
+      → AreActivatedBefore job bit (end_at group signal) flags → signal < length flags
       → slice_index_or flags signal false ≡ false
-      → IsTrue answer ↔ IsActivatedIn job.circuit job.tests.tests
-      (stem_fault job.list.model signal bit) block
-      → AreActivatedBefore job bit (end_at block (signal + 1)) (set flags signal answer)
-  added block signal flags answer before within clear tells s flag at = go (cases_eq s signal)
+      → IsTrue answer ↔ IsActivatedInGroup job.circuit job.tests.tests
+      (stem_fault job.list.model signal bit) group
+      → AreActivatedBefore job bit (end_at group (signal + 1)) (set flags signal answer)
+  added group signal flags answer before within clear tells s flag at = go (cases_eq s signal)
     where
-      none : (t : ℕ) → t < 64 * block
+      none : (t : ℕ) → t < 128 * group
           → ActivatesAt job.circuit job.tests.tests (stem_fault job.list.model signal bit) t → ⊥
       none t lt h =
           let own = before signal false (slice_get-get_or flags signal false within
@@ -60,82 +60,82 @@ module _ (job : Parts) (bit : Bool) where
           false≢true (own.1 (
             t,
             subst (λ e. t < e)
-                (sym (open_end block signal signal (omega arith))) lt,
+                (sym (open_end group signal signal (omega arith))) lt,
             h,
           ))
 
-      here : IsTrue answer ↔ Before signal (64 * (block + 1))
+      here : IsTrue answer ↔ Before signal (128 * (group + 1))
       here = (
         λ e. let h = tells.0 e in (h.0, h.2, h.3),
-        λ h. last h (cases_lt h.0 (64 * block)),
+        λ h. last h (cases_lt h.0 (128 * group)),
       )
         where
-          last : (h : Before signal (64 * (block + 1)))
-              → (h.0 < 64 * block) ⊎ (64 * block ≤ h.0) → IsTrue answer
+          last : (h : Before signal (128 * (group + 1)))
+              → (h.0 < 128 * group) ⊎ (128 * group ≤ h.0) → IsTrue answer
           last h (inl lt) = absurd (none h.0 lt h.2)
           last h (inr le) = tells.1 (h.0, le, h.1, h.2)
 
-      go : (s ≡ signal) ⊎ (s ≢ signal) → IsTrue flag ↔ Before s (end_at block (signal + 1) s)
+      go : (s ≡ signal) ⊎ (s ≢ signal) → IsTrue flag ↔ Before s (end_at group (signal + 1) s)
       go (inl e) =
           let got : answer ≡ flag = sym (get_or-set_same flags signal answer false within)
           ∙ (ap (λ i. slice_index_or (set flags signal answer) i false) (sym e)
           ∙ get_or_from_slice_get (set flags signal answer) s flag false at) in
-          let end : 64 * (block + 1) ≡ end_at block (signal + 1) s =
-          sym (added_end block (signal + 1) s (omega (arith, e))) in
-          ends s (64 * (block + 1)) (end_at block (signal + 1) s) flag end
-          (subst (λ i. IsTrue flag ↔ Before i (64 * (block + 1))) (sym e)
-          (subst (λ b. IsTrue b ↔ Before signal (64 * (block + 1))) got here))
+          let end : 128 * (group + 1) ≡ end_at group (signal + 1) s =
+          sym (added_end group (signal + 1) s (omega (arith, e))) in
+          ends s (128 * (group + 1)) (end_at group (signal + 1) s) flag end
+          (subst (λ i. IsTrue flag ↔ Before i (128 * (group + 1))) (sym e)
+          (subst (λ b. IsTrue b ↔ Before signal (128 * (group + 1))) got here))
       go (inr other) =
           let low = slice_get_within (set flags signal answer) s flag at in
           let kept : slice_get flags s ≡ Some flag =
           slice_get-get_or flags s false (omega (arith, low, length-set flags signal answer))
           ∙ ap Some (sym (get_or-set_other flags signal s answer false other)
           ∙ get_or_from_slice_get (set flags signal answer) s flag false at) in
-          ends s (end_at block signal s) (end_at block (signal + 1) s) flag
-          (sym (same_end block signal s other)) (before s flag kept)
+          ends s (end_at group signal s) (end_at group (signal + 1) s) flag
+          (sym (same_end group signal s other)) (before s flag kept)
 
   -- and one that is set stays so
-  pub still_set : (block signal : ℕ) (flags : List Bool)
-      → AreActivatedBefore job bit (end_at block signal) flags
+  pub still_set : (group signal : ℕ) (flags : List Bool)
+      → AreActivatedBefore job bit (end_at group signal) flags
       → slice_index_or flags signal false ≡ true
-      → AreActivatedBefore job bit (end_at block (signal + 1)) flags
-  still_set block signal flags before is s flag at = go (cases_eq s signal)
+      → AreActivatedBefore job bit (end_at group (signal + 1)) flags
+  still_set group signal flags before is s flag at = go (cases_eq s signal)
     where
-      go : (s ≡ signal) ⊎ (s ≢ signal) → IsTrue flag ↔ Before s (end_at block (signal + 1) s)
+      go : (s ≡ signal) ⊎ (s ≢ signal) → IsTrue flag ↔ Before s (end_at group (signal + 1) s)
       go (inl e) =
           let got : flag ≡ true = sym (get_or_from_slice_get flags s flag false at)
           ∙ (ap (λ i. slice_index_or flags i false) e ∙ is) in
           let old = (before s flag at).0 got in
-          let low : old.0 < 64 * block = subst (λ x. old.0 < x)
-          (open_end block signal s (omega (arith, e))) old.1 in
-          let lt : old.0 < end_at block (signal + 1) s = subst (λ x. old.0 < x)
-          (sym (added_end block (signal + 1) s (omega (arith, e)))) (omega (arith, low)) in
+          let low : old.0 < 128 * group = subst (λ x. old.0 < x)
+          (open_end group signal s (omega (arith, e))) old.1 in
+          let lt : old.0 < end_at group (signal + 1) s = subst (λ x. old.0 < x)
+          (sym (added_end group (signal + 1) s (omega (arith, e)))) (omega (arith, low)) in
           (λ h. (old.0, lt, old.2), λ h. got)
-      go (inr other) = ends s (end_at block signal s) (end_at block (signal + 1) s) flag
-          (sym (same_end block signal s other)) (before s flag at)
+      go (inr other) = ends s (end_at group signal s) (end_at group (signal + 1) s) flag
+          (sym (same_end group signal s other)) (before s flag at)
 
-  -- once those of all signals were added, the next block begins
-  pub block_added : (block signals : ℕ) (flags : List Bool) → length flags ≤ signals
-      → AreActivatedBefore job bit (end_at block signals) flags
-      → AreActivatedBefore job bit (end_at (block + 1) 0) flags
-  block_added block signals flags all before s flag at =
+  -- once those of all signals were added, the next group begins
+  pub group_added : (group signals : ℕ) (flags : List Bool) → length flags ≤ signals
+      → AreActivatedBefore job bit (end_at group signals) flags
+      → AreActivatedBefore job bit (end_at (group + 1) 0) flags
+  group_added group signals flags all before s flag at =
       let low = slice_get_within flags s flag at in
-      ends s (end_at block signals s) (end_at (block + 1) 0 s) flag
-      (added_end block signals s (omega (arith, low, all))
-      ∙ sym (open_end (block + 1) 0 s (omega arith))) (before s flag at)
+      ends s (end_at group signals s) (end_at (group + 1) 0 s) flag
+      (added_end group signals s (omega (arith, low, all))
+      ∙ sym (open_end (group + 1) 0 s (omega arith))) (before s flag at)
 
-  -- and after the last block all tests were
-  pub all_added : (blocks : ℕ) (flags : List Bool) → length job.tests.tests ≤ 64 * blocks
-      → AreActivatedBefore job bit (end_at blocks 0) flags → AreActivated job bit flags
-  all_added blocks flags all before s flag at =
-      let own = ends s (end_at blocks 0 s) (64 * blocks) flag (open_end blocks 0 s (omega arith))
+  -- and after the last group all tests were
+  pub all_added : (groups : ℕ) (flags : List Bool) → length job.tests.tests ≤ 128 * groups
+      → AreActivatedBefore job bit (end_at groups 0) flags → AreActivated job bit flags
+  all_added groups flags all before s flag at =
+      let own = ends s (end_at groups 0 s) (128 * groups) flag (open_end groups 0 s (omega arith))
       (before s flag at) in (
         λ e. let h = own.0 e in (h.0, h.2),
         λ h. let lt = place_within job.tests.tests h.0 h.1.0 h.1.1 in
             own.1 (h.0, omega (arith, lt, all), h.1),
       )
 
-  -- before the first block no flag is set
+  -- before the first group no flag is set
   pub nothing_added : (n : ℕ) (flags : List Bool) → flags ≡ replicate n false
       → AreActivatedBefore job bit (end_at 0 0) flags
   nothing_added n flags is s flag at =
@@ -145,6 +145,6 @@ module _ (job : Parts) (bit : Bool) where
       ∙ (ap (λ l. slice_index_or l s false) is
       ∙ get_or-replicate n s false false (omega (arith, low, long))) in (
         λ e. absurd (false≢true (sym clear ∙ e)),
-        λ h. let lt : h.0 < 64 * 0 = subst (λ x. h.0 < x) (open_end 0 0 s (omega arith)) h.1 in
+        λ h. let lt : h.0 < 128 * 0 = subst (λ x. h.0 < x) (open_end 0 0 s (omega arith)) h.1 in
             absurd (omega (arith, lt)),
       )

@@ -20,6 +20,11 @@ abbrev pub IsActivatedIn : List Statement → List Test → Fault → ℕ → Ty
 IsActivatedIn c tests f block = (t : ℕ) × (64 * block ≤ t) × (t < 64 * (block + 1))
     × ActivatesAt c tests f t
 
+-- some test of the group of two blocks activates the fault
+abbrev pub IsActivatedInGroup : List Statement → List Test → Fault → ℕ → Type 0
+IsActivatedInGroup c tests f group = (t : ℕ) × (128 * group ≤ t) × (t < 128 * (group + 1))
+    × ActivatesAt c tests f t
+
 -- the flag of each signal says whether a test before a number activates the fault of the bit on the
 -- signal's stem
 abbrev pub AreActivatedBefore : Parts → Bool → (ℕ → ℕ) → List Bool → Type 0
@@ -27,10 +32,10 @@ AreActivatedBefore job bit end flags = (s : ℕ) (flag : Bool) → slice_get fla
     → IsTrue flag ↔ ((t : ℕ) × (t < end s)
     × ActivatesAt job.circuit job.tests.tests (stem_fault job.list.model s bit) t)
 
--- the number up to which tests were added for a signal, within a block, if those of the signals
+-- the number up to which tests were added for a signal, within a group, if those of the signals
 -- before a number were added
 abbrev pub end_at : ℕ → ℕ → ℕ → ℕ
-end_at block signal s = if nat_lt s signal then 64 * (block + 1) else 64 * block
+end_at group signal s = if nat_lt s signal then 128 * (group + 1) else 128 * group
 
 -- the flag of each signal says whether some test activates the fault of the bit on its stem
 abbrev pub AreActivated : Parts → Bool → List Bool → Type 0

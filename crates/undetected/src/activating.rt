@@ -1,4 +1,4 @@
-//! Which tests of a block activate the faults on a signal.
+//! Which tests of a block, or of a group of two blocks, activate the faults on a signal.
 
 ghost use Rattle.std.specs.Prelude.{◌≡◌, ◌↔◌, ◌+◌, ◌*◌, ◌<◌, Bool, IsTrue, ℕ, [], length, suc};
 ghost use Rattle.std.specs.Prelude.{slice_index_or, true};
@@ -7,15 +7,31 @@ ghost use Rattle.bench_net.specs.Scan.{names};
 ghost use Rattle.fault_model.specs.declared.Line.TheVariants as line;
 ghost use Rattle.fault_model.specs.Detection.{HasBit, IsInitialized, IsSecondOfPair, LooksBack};
 ghost use Rattle.patterns.specs.Tests.{blocks};
+ghost use Rattle.block_sim.specs.BlockSpans.{groups};
 ghost use Rattle.block_sim.specs.Words.{lane};
-ghost use Rattle.undetected.specs.Activated.{IsActivatedIn, stem_fault};
+ghost use Rattle.undetected.specs.Activated.{IsActivatedIn, IsActivatedInGroup, stem_fault};
 
 use block_sim::Job;
 use fault_model::Model;
 
+/// Returns whether a test of a group of two blocks activates the fault of a bit on a signal's
+/// stem. The words of both blocks lie side by side in memory.
+#[inline(always)]
+pub(crate) fn activates_in_group(job: &Job, group: u32, signal: u32, bit: bool) -> bool
+    requires group { group < groups (length job.now.tests.tests) }
+    requires signal { signal < length (names job.now.circuit) }
+    ensures { IsTrue result ↔ IsActivatedInGroup job.now.circuit job.now.tests.tests
+        (stem_fault job.now.list.model signal bit) group }
+{
+    let blocks = job.tests().blocks();
+    let block = 2 * group;
+    activates(job, block, signal, bit)
+        || (block + 1 < blocks && activates(job, block + 1, signal, bit))
+}
+
 /// Returns whether a test of a block activates the fault of a bit on a signal's stem.
 #[inline(always)]
-pub(crate) fn activates(job: &Job, block: u32, signal: u32, bit: bool) -> bool
+fn activates(job: &Job, block: u32, signal: u32, bit: bool) -> bool
     requires block { block < blocks (length job.now.tests.tests) }
     requires signal { signal < length (names job.now.circuit) }
     ensures { IsTrue result ↔ IsActivatedIn job.now.circuit job.now.tests.tests

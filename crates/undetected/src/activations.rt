@@ -7,13 +7,13 @@ ghost use Rattle.bench_net.specs.Statement.{Name};
 ghost use Rattle.fault_model.specs.declared.Line.TheVariants as line;
 ghost use Rattle.fault_model.specs.Detection.{name_on};
 ghost use Rattle.fault_model.specs.Fault.{Fault};
-ghost use Rattle.patterns.specs.Tests.{blocks};
 ghost use Rattle.block_sim.specs.Activation.{IsActivated};
+ghost use Rattle.block_sim.specs.BlockSpans.{groups};
 ghost use Rattle.block_sim.specs.Origins.{Carries};
 ghost use Rattle.undetected.specs.Activated.{AreActivated, AreActivatedBefore, AreActivations};
 ghost use Rattle.undetected.specs.Activated.{end_at};
 
-use crate::activating::activates;
+use crate::activating::activates_in_group;
 use bench_net::Circuit;
 use block_sim::{Job, is_activated};
 use fault_model::Line;
@@ -30,14 +30,14 @@ pub(crate) struct Activations {
 }
 
 impl Activations {
-    /// Reads the fault-free words of a job's signals once, block by block.
+    /// Reads the fault-free words of a job's signals once, group by group of two blocks.
     pub(crate) fn new(alloc: Global, job: &Job) -> Result<Activations, AllocError>
         ensures { IfOk result (λ new. AreActivations job.now new) }
     {
         let signals = job.circuit().signals() as usize;
         let mut at_zero = vec![in alloc; false; signals]?;
         let mut at_one = vec![in alloc; false; signals]?;
-        add_blocks(job, &mut at_zero, &mut at_one);
+        add_groups(job, &mut at_zero, &mut at_one);
         Ok(Activations { at_zero, at_one })
     }
 
@@ -60,8 +60,8 @@ impl Activations {
     }
 }
 
-/// Adds the tests of all blocks to flags of which none is set.
-fn add_blocks(job: &Job, at_zero: &mut [bool], at_one: &mut [bool])
+/// Adds the tests of all groups to flags of which none is set.
+fn add_groups(job: &Job, at_zero: &mut [bool], at_one: &mut [bool])
     requires zero_room { length at_zero.old ≡ length (names job.now.circuit) }
     requires one_room { length at_one.old ≡ length (names job.now.circuit) }
     requires zero { AreActivatedBefore job.now false (end_at 0 0) at_zero.old }
@@ -71,42 +71,42 @@ fn add_blocks(job: &Job, at_zero: &mut [bool], at_one: &mut [bool])
     ensures zero { AreActivated job.now false at_zero.new }
     ensures one { AreActivated job.now true at_one.new }
 {
-    for block in 0..job.tests().blocks() {
-        add_block(job, block, at_zero, at_one);
+    for group in 0..job.tests().blocks().div_ceil(2) {
+        add_group(job, group, at_zero, at_one);
     }
 }
 
-/// Adds the tests of a block to the flags of all signals.
-fn add_block(job: &Job, block: u32, at_zero: &mut [bool], at_one: &mut [bool])
-    requires block { block < blocks (length job.now.tests.tests) }
+/// Adds the tests of a group to the flags of all signals.
+fn add_group(job: &Job, group: u32, at_zero: &mut [bool], at_one: &mut [bool])
+    requires group { group < groups (length job.now.tests.tests) }
     requires zero_room { length at_zero.old ≡ length (names job.now.circuit) }
     requires one_room { length at_one.old ≡ length (names job.now.circuit) }
-    requires zero { AreActivatedBefore job.now false (end_at block 0) at_zero.old }
-    requires one { AreActivatedBefore job.now true (end_at block 0) at_one.old }
+    requires zero { AreActivatedBefore job.now false (end_at group 0) at_zero.old }
+    requires one { AreActivatedBefore job.now true (end_at group 0) at_one.old }
     ensures zero_room { length at_zero.new ≡ length (names job.now.circuit) }
     ensures one_room { length at_one.new ≡ length (names job.now.circuit) }
-    ensures zero { AreActivatedBefore job.now false (end_at (block + 1) 0) at_zero.new }
-    ensures one { AreActivatedBefore job.now true (end_at (block + 1) 0) at_one.new }
+    ensures zero { AreActivatedBefore job.now false (end_at (group + 1) 0) at_zero.new }
+    ensures one { AreActivatedBefore job.now true (end_at (group + 1) 0) at_one.new }
 {
     for signal in 0..job.circuit().signals() {
-        add_word(job, block, signal, false, at_zero);
-        add_word(job, block, signal, true, at_one);
+        add_words(job, group, signal, false, at_zero);
+        add_words(job, group, signal, true, at_one);
     }
 }
 
-/// Adds the tests of a block to the flag of a signal, for the faults of a bit. A flag that is set
+/// Adds the tests of a group to the flag of a signal, for the faults of a bit. A flag that is set
 /// stays so.
 #[inline(always)]
-fn add_word(job: &Job, block: u32, signal: u32, bit: bool, flags: &mut [bool])
-    requires block { block < blocks (length job.now.tests.tests) }
+fn add_words(job: &Job, group: u32, signal: u32, bit: bool, flags: &mut [bool])
+    requires group { group < groups (length job.now.tests.tests) }
     requires signal { signal < length (names job.now.circuit) }
     requires room { length flags.old ≡ length (names job.now.circuit) }
-    requires before { AreActivatedBefore job.now bit (end_at block signal) flags.old }
+    requires before { AreActivatedBefore job.now bit (end_at group signal) flags.old }
     ensures room { length flags.new ≡ length (names job.now.circuit) }
-    ensures after { AreActivatedBefore job.now bit (end_at block (signal + 1)) flags.new }
+    ensures after { AreActivatedBefore job.now bit (end_at group (signal + 1)) flags.new }
 {
     if !flags[signal as usize] {
-        flags[signal as usize] = activates(job, block, signal, bit);
+        flags[signal as usize] = activates_in_group(job, group, signal, bit);
     }
 }
 

@@ -16,11 +16,11 @@ returns c =
     let count : signals ≡ length (names job.circuit) = c.signals-signals.ensures.count
     ∙ ap (λ x. length (names x)) c.circuit.ensures.part in
     let long = length-replicate signals false ∙ count in
-    let wrote = c.add_blocks.ensures in
-    let zeros = with_items_is c.in_ok-at_zero.at_zero c.add_blocks.new.at_zero (wrote.zero_room
+    let wrote = c.add_groups.ensures in
+    let zeros = with_items_is c.in_ok-at_zero.at_zero c.add_groups.new.at_zero (wrote.zero_room
     ∙ (sym (ap length c.deref_mut.ensures.value ∙ (ap length zero ∙ long))
     ∙ c.deref_mut.ensures.len)) in
-    let ones = with_items_is c.in_ok-at_one.at_one c.add_blocks.new.at_one (wrote.one_room
+    let ones = with_items_is c.in_ok-at_one.at_one c.add_groups.new.at_one (wrote.one_room
     ∙ (sym (ap length c.deref_mut-2.ensures.value ∙ (ap length one ∙ long))
     ∙ c.deref_mut-2.ensures.len)) in
     record {
