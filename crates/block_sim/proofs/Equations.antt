@@ -29,14 +29,14 @@ pub nothing : {X : Type 0} (x : X) → None ≡ Some x → ⊥
 nothing x e = cc
 
 -- the gate whose signal has this number
-record GateAt (c : List Statement) (s : ℕ) (kind : Kind) (pins : List ℕ) : Type 0 where
-  name : Name
-  args : List Name
-  stands : Among (Gate name kind args) c
-  named : name_of c s ≡ Some name
-  reads : map (signal c) args ≡ pins
+pub record GateAt (c : List Statement) (s : ℕ) (kind : Kind) (pins : List ℕ) : Type 0 where
+  pub name : Name
+  pub args : List Name
+  pub stands : Among (Gate name kind args) c
+  pub named : name_of c s ≡ Some name
+  pub reads : map (signal c) args ≡ pins
 
-gate_at : (c : List Statement) (s : ℕ) (kind : Kind) (pins : List ℕ)
+pub gate_at : (c : List Statement) (s : ℕ) (kind : Kind) (pins : List ℕ)
     → gate_of c s ≡ Some (kind, pins) → GateAt c s kind pins
 gate_at c s kind pins e = go (definition c s) refl e
   where

@@ -51,7 +51,7 @@ module _ (c : List Statement) (well : IsWellFormed c) (tests : List Test) (group
   number : signal c name.0 ≡ s
   number = signal-name_of c s name.0 well.once name.1 (contained (names c) name.0 here)
 
-  has_bit : (k : ℕ) → k < 128 → HasBit c (test_of tests group k) (line.Stem s)
+  pub has_bit : (k : ℕ) → k < 128 → HasBit c (test_of tests group k) (line.Stem s)
       (lane (slice_index_or good s 0) k)
   has_bit k lt = (
     lane_bits c good k,

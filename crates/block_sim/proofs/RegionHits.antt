@@ -428,7 +428,7 @@ some_at (x ∷ xs) zero lt = (x, refl)
 some_at (x ∷ xs) (suc i) lt = some_at xs i (omega (arith, lt))
 
 -- a place is that of one of those that are followed, or of none
-followed_or_not : (followed : List Followed) (place : ℕ)
+pub followed_or_not : (followed : List Followed) (place : ℕ)
     → IsFollowedAt followed place ⊎ (IsFollowedAt followed place → ⊥)
 followed_or_not [] place = inr (λ h. let bad = h.1.1 in omega (arith, bad))
 followed_or_not (one ∷ followed) place = go (cases_eq one.place place)

@@ -31,7 +31,7 @@ use Rattle.block_sim.proofs.Lanes.{lane_and, lane_xor, unlike}
 use Rattle.block_sim.proofs.Outcomes.{first_of_told}
 use Rattle.block_sim.specs.BlockSpans.{group_of}
 use Rattle.block_sim.proofs.Regions.{step_law}
-use Rattle.block_sim.proofs.Steps.{lane_of_zero, left_of, only_lanes, turned_lanes}
+use Rattle.block_sim.proofs.Steps.{lane_of_zero, left_of, only_lanes, right_of, turned_lanes}
 
 both_are : (a b : Bool) → a ≡ true → b ≡ true → (a && b) ≡ true
 both_are true b p q = q
@@ -42,6 +42,9 @@ lanes_both x y k p q = lane_and x y k ∙ both_are (lane x k) (lane y k) p q
 
 pub lanes_first : (x y k : ℕ) → lane (bit_and x y) k ≡ true → lane x k ≡ true
 lanes_first x y k e = left_of (lane x k) (lane y k) (sym (lane_and x y k) ∙ e)
+
+pub lanes_second : (x y k : ℕ) → lane (bit_and x y) k ≡ true → lane y k ≡ true
+lanes_second x y k e = right_of (lane x k) (lane y k) (sym (lane_and x y k) ∙ e)
 
 pub lanes_law : (c : List Statement) → LanesLaw c
 lanes_law c tests span f s lanes arrived seen decides come tells =

@@ -66,7 +66,7 @@ impl Extent<'_> {
 
 /// Returns the lanes of some of the followed classes, each below the least of its own that was
 /// seen.
-fn below_hits(followed: &[Followed], seen: u128) -> u128
+pub fn below_hits(followed: &[Followed], seen: u128) -> u128
     ensures below { (k : ℕ) → k < 128 → lane result k ≡ true → (one : Followed)
         × Contains followed.now one × (lane one.lanes k ≡ true)
         × ((j : ℕ) → j ≤ k → lane one.lanes j ≡ true → lane seen j ≡ false) }
@@ -85,7 +85,7 @@ fn below_hits(followed: &[Followed], seen: u128) -> u128
 /// of the reader's row ahead of its turn gained nothing (0.92 to 1.20 of the time on eight cases),
 /// and Rattle has no prefetch.
 #[inline(always)]
-fn schedule_fanout(circuit: &FlatCircuit, signal: u32, waiting: &mut Places) -> bool
+pub fn schedule_fanout(circuit: &FlatCircuit, signal: u32, waiting: &mut Places) -> bool
     requires circuit { IsCircuit circuit.now.arranged }
     requires signal { signal < length (names circuit.now.arranged) }
     requires gates { length (names circuit.now.arranged) ≤ length waiting.old }

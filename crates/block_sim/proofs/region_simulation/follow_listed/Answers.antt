@@ -8,16 +8,18 @@ use Rattle.block_sim.specs.declared.region.Reach.TheVariants.{Observed, Stem}
 use Rattle.block_sim.specs.Regions.{AreLanesFor, HasCome, IsReached, IsStemOfLine}
 use Rattle.block_sim.specs.Stuck.{stuck_fault}
 use Rattle.block_sim.specs.Ways.{IsWayOfLine}
-use Rattle.block_sim.specs.Words.{lane}
+use Rattle.block_sim.specs.Events.{IsObserved}
+use Rattle.block_sim.specs.Words.{lane, test_of}
 use Rattle.block_sim.proofs.Lanes.{lane_zero}
-use Rattle.block_sim.proofs.ArrangedSignals.{reordered, room_there}
+use Rattle.block_sim.proofs.ArrangedSignals.{reordered, room_there, within_there}
 use Rattle.block_sim.proofs.ArrangedWords.{circuit_there, listed_there, reached_there}
 use Rattle.block_sim.specs.Origins.{IsStuckOf}
 use Rattle.block_sim.proofs.ArrangedWords.{starts_there}
 use Rattle.block_sim.proofs.Outcomes.{first_of_told}
-use Rattle.block_sim.proofs.RegionLanes.{lanes_both, lanes_first}
+use Rattle.block_sim.proofs.ObservedStems.{observed_flip}
+use Rattle.block_sim.proofs.RegionLanes.{lanes_both, lanes_first, lanes_second}
 use Rattle.block_sim.proofs.ReorderedGates.{same_flips}
-use Rattle.block_sim.proofs.ReorderedReaders.{same_stems}
+use Rattle.block_sim.proofs.ReorderedReaders.{same_readers, same_stems}
 use Rattle.block_sim.proofs.Steps.{lane_of_zero, lanes_decide}
 use Rattle.block_sim.proofs.region_simulation.follow_listed.Goals as goal
 
@@ -141,8 +143,8 @@ returns-then-lanes-eq0-clause-approach c =
           ∙ lanes_both lanes at.lanes k own h.0))),
     )
 
-pub returns-else-lanes-eq0-clause-approach : goal.returns-else-lanes-eq0-clause-approach
-returns-else-lanes-eq0-clause-approach c =
+pub returns-else-is_observed-clause-approach : goal.returns-else-is_observed-clause-approach
+returns-else-is_observed-clause-approach c =
     let o = c.requires.row.stands in
     let job = c.args.job.now in
     let circuit = job.circuit in
@@ -185,6 +187,57 @@ returns-else-lanes-eq0-clause-approach c =
         come,
         refl,
       ),
+    )
+
+pub returns-then-is_observed-clause-approach : goal.returns-then-is_observed-clause-approach
+returns-then-is_observed-clause-approach c =
+    let o = c.requires.row.stands in
+    let job = c.args.job.now in
+    let circuit = job.circuit in
+    let there = c.args.view.circuit.now.arranged in
+    let arranged = c.requires.view.arranged in
+    let well = c.requires.view.together.circuit.well_formed in
+    let fault = o.0 in
+    let starts = o.2 in
+    let tests = job.tests.tests in
+    let span = c.args.span in
+    let group = group_of span in
+    let lanes = bit_and c.args.view.lanes c.launch_lanes.result in
+    let own = c.requires.view.lanes in
+    let decides : AreLanesFor tests span circuit fault lanes =
+    λ k lt. lanes_decide c.args.view.lanes c.launch_lanes.result k (own k lt)
+    (λ is. c.launch_lanes.ensures fault k starts lt is.listed) in
+    let start = starts_there circuit there c.args.view.circuit.now.statements
+    c.args.row.representative
+    c.origin_of-origin.result c.requires.view.part c.origin_of-origin.ensures fault starts in
+    let is : stuck_fault c.origin_of-origin.result.fault ≡ moved_fault circuit there fault =
+    start.moved in
+    let words = c.requires.view.fault_free in
+    let at = c.in-Stem.at in
+    let here = c.args.row.stem in
+    let stem : at.signal ≡ place circuit there here = c.in-Stem.ensures.stem at refl
+    ∙ c.requires.begun.at in
+    let come : HasCome circuit tests group fault lanes here at.lanes =
+    ((same_flips circuit there well (reordered circuit there well arranged)).come tests group
+    fault lanes here at.lanes).1
+    (subst (λ s. HasCome there tests group (moved_fault circuit there fault) lanes s at.lanes) stem
+    (subst (λ f. IsReached there tests group f lanes (Stem at)) is
+    (c.in-Stem.ensures.reached tests group words))) in
+    let readers = same_readers circuit there well (reordered circuit there well arranged) in
+    let observed : IsObserved circuit here = (readers.observed here).1
+    (subst (IsObserved there) stem (c.is_observed.ensures.0 c.if-is_observed.true)) in (
+      fault,
+      o.1,
+      first_of_told circuit tests span fault lanes (bit_and lanes at.lanes) decides
+          (λ k lt e. (
+            lanes_first lanes at.lanes k e,
+            (come k lt (lanes_first lanes at.lanes k e)).1 (
+              lanes_second lanes at.lanes k e,
+              observed_flip circuit (test_of tests group k) here well observed,
+            ),
+          ))
+          (λ k lt own none d. (let h = (come k lt own).0 d in
+          false≢true (sym (none k (omega arith)) ∙ lanes_both lanes at.lanes k own h.0))),
     )
 
 pub returns-in-Observed-clause-counted : goal.returns-in-Observed-clause-counted
@@ -233,8 +286,31 @@ returns-then-lanes-eq0-clause-counted c = λ way w.
     c.follow_within.ensures.counted way
     (subst (λ f. IsWayOfLine there f.line way) (sym is) on)
 
-pub returns-else-lanes-eq0-clause-counted : goal.returns-else-lanes-eq0-clause-counted
-returns-else-lanes-eq0-clause-counted c = λ way w.
+pub returns-else-is_observed-clause-counted : goal.returns-else-is_observed-clause-counted
+returns-else-is_observed-clause-counted c = λ way w.
+    let o = c.requires.row.stands in
+    let job = c.args.job.now in
+    let circuit = job.circuit in
+    let there = c.args.view.circuit.now.arranged in
+    let arranged = c.requires.view.arranged in
+    let well = c.requires.view.together.circuit.well_formed in
+    let fault = o.0 in
+    let starts = o.2 in
+    let start = starts_there circuit there c.args.view.circuit.now.statements
+    c.args.row.representative
+    c.origin_of-origin.result c.requires.view.part c.origin_of-origin.ensures fault starts in
+    let is : stuck_fault c.origin_of-origin.result.fault ≡ moved_fault circuit there fault =
+    start.moved in
+    let same : w.0 ≡ fault = ap (λ (o : Option Fault). unwrap_or o w.0) (sym w.1
+    ∙ o.1) in
+    let own = subst (λ f. IsWayOfLine circuit f.line way) same w.2 in
+    let on = (same_stems circuit there well (reordered circuit there well arranged)).way
+    fault.line way own in
+    c.follow_within.ensures.counted way
+    (subst (λ f. IsWayOfLine there f.line way) (sym is) on)
+
+pub returns-then-is_observed-clause-counted : goal.returns-then-is_observed-clause-counted
+returns-then-is_observed-clause-counted c = λ way w.
     let o = c.requires.row.stands in
     let job = c.args.job.now in
     let circuit = job.circuit in
@@ -300,3 +376,18 @@ follow_within-requires-clause-stem c =
     fault.model fault c.args.row.stem starts.listed).0 own in
     subst (λ s. IsStemOfLine there s c.origin_of-origin.result.fault.line) (sym c.requires.begun.at)
     (subst (λ f. IsStemOfLine there (place circuit there c.args.row.stem) f.line) (sym is) on)
+
+pub is_observed-requires : goal.is_observed-requires
+is_observed-requires c =
+    let circuit = c.args.job.now.circuit in
+    let there = c.args.view.circuit.now.arranged in
+    let stem = c.in-Stem.ensures.stem c.in-Stem.at refl ∙ c.requires.begun.at in
+    let lt = within_there circuit there c.requires.view.together.circuit.well_formed
+    c.requires.view.arranged c.args.row.stem c.requires.row.named in
+    omega (arith, stem, lt)
+
+pub returns-else-is_observed-clause-hidden : goal.returns-else-is_observed-clause-hidden
+returns-else-is_observed-clause-hidden c = λ at e observed.
+    false≢true (sym c.if-is_observed.false ∙ c.is_observed.ensures.1
+    (subst (IsObserved c.args.view.circuit.now.arranged)
+    (sym (c.in-Stem.ensures.stem c.in-Stem.at refl)) observed))

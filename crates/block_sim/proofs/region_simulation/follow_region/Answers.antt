@@ -1,36 +1,48 @@
-use Rattle.std.proofs.Common.{◌≡◌, ◌+◌, ◌<◌, ◌≤◌, ◌∙◌, ap, arith, length, refl, sym, subst}
-use Rattle.std.specs.Prelude.{Contains, Some}
+use Rattle.std.proofs.Common.{◌≡◌, ◌⊎◌, ◌+◌, ◌<◌, ◌≤◌, ◌∙◌, ℕ, List, ap, arith, inl, inr, length}
+use Rattle.std.proofs.Common.{refl, sym, subst}
+use Rattle.std.specs.Prelude.{Some}
 use Rattle.std.proofs.lemmas.Option.{slice_get_within}
 use Rattle.block_sim.specs.declared.origin.ListedClass.{ListedClass}
 use Rattle.block_sim.specs.OpenPlaces.{AreSettled}
-use Rattle.block_sim.specs.RegionHits.{AreFollowedAt, HaveStem}
+use Rattle.bench_net.specs.Statement.{Statement}
+use Rattle.block_sim.specs.Events.{IsObserved}
+use Rattle.block_sim.specs.declared.propagation.Followed.{Followed}
+use Rattle.block_sim.specs.RegionHits.{HasAdded, HaveStem}
 use Rattle.block_sim.specs.Sensitized.{HasBegun}
-use Rattle.block_sim.specs.Simulation.{AreFollowed}
 use Rattle.block_sim.proofs.Moments.{large_enough, large_on}
-use Rattle.block_sim.proofs.RegionHits.{as_many, at_more, at_over, arrived_more, found_more}
+use Rattle.block_sim.proofs.RegionHits.{as_many, at_more, at_over, found_more}
 use Rattle.block_sim.proofs.RegionHits.{found_over, known_more, listed_at, open_more, others_more}
 use Rattle.block_sim.proofs.RegionHits.{others_over, settled_from, stems_more, stems_over}
-use Rattle.block_sim.proofs.RegionHits.{ways_more, ways_none, ways_over}
+use Rattle.block_sim.proofs.RegionHits.{ways_more, ways_over}
+use Rattle.block_sim.proofs.PackedRegions.{added_more, added_none}
 use Rattle.block_sim.proofs.region_simulation.follow_region.Goals as goal
 
 -- the first row of the region, as it was begun with
 same_first : (xs : ListedClass) (ys : ListedClass) → Some xs ≡ Some ys → xs.stem ≡ ys.stem
 same_first xs ys e = let one : xs ≡ ys = cc in ap (λ (x : ListedClass). x.stem) one
 
+-- a stem to which some class came is still not observed
+still_hidden : (c : List Statement) (first stem : ℕ) (old was new : List Followed) → stem ≡ first
+    → (was ≡ old) ⊎ (IsObserved c first → ⊥) → (new ≡ was) ⊎ (IsObserved c stem → ⊥)
+    → (new ≡ old) ⊎ (IsObserved c first → ⊥)
+still_hidden c first stem old was new same (inr h) step = inr h
+still_hidden c first stem old was new same (inl e) (inl f) = inl (f ∙ e)
+still_hidden c first stem old was new same (inl e) (inr h) =
+    inr (λ o. h (subst (IsObserved c) (sym same) o))
+
 pub loop-place-init : goal.loop-place-init
 loop-place-init c = record {
   low = omega arith;
   within = omega (arith, c.requires.within);
   stems = λ place row le lt idle. absurd (omega (arith, le, lt));
-  found = λ place row le lt at. absurd (omega (arith, le, lt));
-  at = subst (AreFollowedAt c.args.rows.now c.args.from c.args.from) (sym c.requires.none)
-      (λ one there. let bad = there.1 in absurd (omega (arith, bad)));
-  followed = subst (AreFollowed c.args.job.now c.args.span c.row_at-stem.result.stem)
-      (sym c.requires.none) (λ one there. let bad = there.1 in absurd (omega (arith, bad)));
+  found = λ first le before. before;
+  at = λ first le before. before;
+  added = added_none c.args.job.now c.args.span c.row_at-stem.result.stem
+      c.args.followed.now.items;
   others = λ place h. refl;
   known = λ place test e. refl;
-  idle = λ one there. (let bad = (subst (λ l. Contains l one) c.requires.none there).1 in
-      absurd (omega (arith, bad)));
+  idle = λ before. before;
+  hidden = inl refl;
   begun = subst (λ s. HasBegun c.args.job.now c.args.view s c.args.region.now)
       (same_first c.requires.begun.0 c.row_at-stem.result
       (sym c.requires.begun.1 ∙ c.row_at-stem.ensures)) c.requires.begun.2;
@@ -38,8 +50,7 @@ loop-place-init c = record {
   places = refl;
   few = omega (arith, c.requires.len);
   capacity = refl;
-  counted = λ way ways. let none = ways_none way c.args.rows.now c.args.firsts.now c.args.from in
-      omega (arith, none);
+  counted = λ way first ways le. omega arith;
   grown = omega arith;
   room = record { overlay = refl; gates = refl };
   clear = c.requires.clear;
@@ -72,22 +83,25 @@ loop-place-preserved-in-Some c =
       low = omega (arith, low, up);
       within = within;
       stems = stems_over rows firsts from p q le settled c.row_at-stem.result.stem before.stems;
-      found = found_over rows firsts from p q le settled c.args.job.now c.args.span
-          c.loop-place.followed.items c.loop-place.hits before.found;
-      at = at_over rows firsts from p q le settled c.loop-place.followed.items before.at;
-      followed = before.followed;
+      found = λ first up was. found_over rows firsts first p q le settled c.args.job.now
+          c.args.span c.loop-place.followed.items c.loop-place.hits (before.found first up was);
+      at = λ first up was. at_over rows firsts first p q le settled c.loop-place.followed.items
+          (before.at first up was);
+      added = before.added;
       others = others_over rows firsts from p q le settled c.loop-place.hits c.args.hits.now
           before.others;
       known = before.known;
       idle = before.idle;
+      hidden = before.hidden;
       begun = before.begun;
       same = before.same;
       places = before.places;
       few = (let f = before.few in omega (arith, f, up));
       capacity = before.capacity;
-      counted = λ way ways.
-          let b = before.counted way ways in
-          let sum = ways_over way rows firsts from p q long low le within settled in
+      counted = λ way first ways up.
+          let b = before.counted way first ways up in
+          let sum = ways_over way rows firsts first p q long (omega (arith, up, low)) le within
+          settled in
           omega (arith, b, sum);
       grown = before.grown;
       room = before.room;
@@ -146,27 +160,33 @@ loop-place-preserved c =
     let long = c.requires.firsts in
     let le : p + 1 ≤ q = omega (arith, up) in
     let within : q ≤ length rows = omega (arith, end, long) in
-    let one : from ≤ p + 1 = omega (arith, after) in
     record {
       low = omega (arith, after, up);
       within = within;
       stems = stems_over rows firsts from (p + 1) q le settled stem
           (stems_more rows firsts from p stem row is of before.stems);
-      found = found_over rows firsts from (p + 1) q le settled job span followed hits
-          (found_more job span rows firsts from p row was followed old hits is low after step
-          before.found);
-      at = at_over rows firsts from (p + 1) q le settled followed
-          (at_more job span rows firsts from p row was followed old hits is low after step
-          before.at);
-      followed = arrived_more job span rows firsts from p row was followed old hits is
-          low after step stem of listed.within before.followed;
+      found = λ first up was_found.
+          let later : first ≤ p = omega (arith, up, after) in
+          found_over rows firsts first (p + 1) q le settled job span followed hits
+          (found_more job span rows firsts first p row was followed old hits is low later step
+          (before.found first up was_found));
+      at = λ first up was_at.
+          let later : first ≤ p = omega (arith, up, after) in
+          at_over rows firsts first (p + 1) q le settled followed
+          (at_more job span rows firsts first p row was followed old hits is low later step
+          (before.at first up was_at));
+      added = added_more job span row p stem c.args.followed.now.items was followed old hits step of
+          listed.within before.added;
       others = others_over rows firsts from (p + 1) q le settled hits c.args.hits.now
           (others_more job span rows firsts from p row was followed old hits is low after step
           c.args.hits.now before.others);
       known = known_more job span rows firsts from p row was followed old hits is low after step
           c.in-None.ensures c.args.hits.now before.known;
-      idle = open_more job span rows firsts from p row was followed old hits is low after step
-          c.in-None.ensures before.idle;
+      idle = λ was_idle. open_more job span rows firsts from p row was followed old hits is low
+          after step c.in-None.ensures (before.idle was_idle);
+      hidden = still_hidden c.args.view.circuit.now.arranged c.args.region.now.stem
+          c.loop-place.region.stem c.args.followed.now.items was followed before.same.stem
+          before.hidden c.follow_row.ensures.hidden;
       begun = subst (λ s. HasBegun job c.args.view s c.follow_row.new.region) of
           c.follow_row.ensures.begun;
       same = (let next = c.follow_row.ensures.same in record {
@@ -177,13 +197,16 @@ loop-place-preserved c =
       });
       places = as_many job span rows firsts from p row was followed old hits is low after step
           ∙ before.places;
-      few = (let f = before.few in let len = c.follow_row.ensures.len in omega (arith, f, len, up));
+      few = (let f = before.few in let len = c.follow_row.ensures.len in
+          omega (arith, f, len, up));
       capacity = c.follow_row.ensures.capacity ∙ before.capacity;
-      counted = λ way ways.
-          let b = before.counted way ways in
+      counted = λ way first ways up.
+          let b = before.counted way first ways up in
           let more = c.follow_row.ensures.counted way ways in
-          let sum = ways_more way rows firsts from p row long after is c.in-None.ensures in
-          let rest = ways_over way rows firsts from (p + 1) q long one le within settled in
+          let later : first ≤ p = omega (arith, up, after) in
+          let sum = ways_more way rows firsts first p row long later is c.in-None.ensures in
+          let rest = ways_over way rows firsts first (p + 1) q long (omega (arith, later)) le within
+          settled in
           omega (arith, b, more, sum, rest);
       grown = (let a = before.grown in let b = c.follow_row.ensures.grown in omega (arith, a, b));
       room = large_on c.args.changes.now c.loop-place.changes c.follow_row.new.changes before.room
@@ -191,17 +214,19 @@ loop-place-preserved c =
       clear = c.follow_row.ensures.clear;
     }
 
-pub returns-then-row-stem-clause-followed : goal.returns-then-row-stem-clause-followed
-returns-then-row-stem-clause-followed c = λ first is.
-    subst (λ s. AreFollowed c.args.job.now c.args.span s c.loop-place.followed.items)
+pub returns-then-row-stem-clause-added : goal.returns-then-row-stem-clause-added
+returns-then-row-stem-clause-added c = λ first is.
+    subst (λ s. HasAdded c.args.job.now c.args.span s c.args.followed.now.items
+    c.loop-place.followed.items)
     (same_first c.row_at-stem.result first (sym c.row_at-stem.ensures ∙ is))
-    c.loop-place.invariant.followed
+    c.loop-place.invariant.added
 
-pub returns-clause-followed : goal.returns-clause-followed
-returns-clause-followed c = λ first is.
-    subst (λ s. AreFollowed c.args.job.now c.args.span s c.loop-place.followed.items)
+pub returns-clause-added : goal.returns-clause-added
+returns-clause-added c = λ first is.
+    subst (λ s. HasAdded c.args.job.now c.args.span s c.args.followed.now.items
+    c.loop-place.followed.items)
     (same_first c.row_at-stem.result first (sym c.row_at-stem.ensures ∙ is))
-    c.loop-place.invariant.followed
+    c.loop-place.invariant.added
 
 pub returns-clause-end : goal.returns-clause-end
 returns-clause-end c =

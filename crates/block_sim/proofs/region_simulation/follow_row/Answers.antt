@@ -38,3 +38,9 @@ pub returns-in-Stem-clause-counted : goal.returns-in-Stem-clause-counted
 returns-in-Stem-clause-counted c = λ way ways.
     c.follow_listed.ensures.counted (way c.args.row.class)
     (ways c.args.row.class c.requires.row.within)
+
+pub returns-in-Known-clause-hidden : goal.returns-in-Known-clause-hidden
+returns-in-Known-clause-hidden c = inl refl
+
+pub returns-in-Stem-clause-hidden : goal.returns-in-Stem-clause-hidden
+returns-in-Stem-clause-hidden c = inr (c.in-Stem.ensures.hidden c.in-Stem.at refl)

@@ -1,0 +1,24 @@
+use Rattle.std.proofs.Common.{◌≡◌, ◌∙◌, ap}
+use Rattle.wide_words.specs.Wide.{number}
+use Rattle.block_sim.specs.Words.{lane}
+use Rattle.block_sim.proofs.Lanes.{lane_or}
+use Rattle.block_sim.proofs.PackKept.{kept_hit, kept_narrow}
+use Rattle.block_sim.proofs.pack.follow_on.Goals as goal
+
+pub returns-then-is_none-clause-seen : goal.returns-then-is_none-clause-seen
+returns-then-is_none-clause-seen g c = λ k lt.
+    ap (λ w. lane w k) c.or-seen.ensures ∙ lane_or (number c.args.found.seen) (number c.args.fresh) k
+
+pub returns-clause-seen : goal.returns-clause-seen
+returns-clause-seen g c = λ k lt.
+    ap (λ w. lane w k) c.or-seen.ensures ∙ lane_or (number c.args.found.seen) (number c.args.fresh) k
+
+pub returns-clause-narrow : goal.returns-clause-narrow
+returns-clause-narrow g c = kept_narrow g.C.Copies.layout g.C.Copies.sized c.args.stems.now
+    c.args.followed.now (number c.args.found.kept) (number c.args.fresh) (number c.or-seen.result)
+    (number c.kept_after-kept.result) c.kept_after-kept.ensures
+
+pub returns-clause-rest : goal.returns-clause-rest
+returns-clause-rest g c = kept_hit g.C.Copies.layout g.C.Copies.sized c.args.stems.now
+    c.args.followed.now (number c.args.found.kept) (number c.args.fresh) (number c.or-seen.result)
+    (number c.kept_after-kept.result) c.kept_after-kept.ensures

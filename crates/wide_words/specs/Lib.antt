@@ -1,0 +1,4 @@
+pub mod Layouts
+pub mod Lanes
+pub mod Wide
+pub mod WideOverlay
