@@ -15,7 +15,8 @@ use Rattle.block_sim.specs.Events.{HasEquation, IsElsewhere, IsLive, IsRising, R
 use Rattle.block_sim.specs.Propagation.{Counts}
 use Rattle.block_sim.proofs.Lanes.{unlike}
 use Rattle.block_sim.proofs.LiveSignals.{reader_live}
-use Rattle.block_sim.proofs.OneLane.{IsLane, bit_cases, differing, equation_like, kept_bit, right_by_now}
+use Rattle.block_sim.proofs.OneLane.{IsLane, bit_cases, differing, equation_like}
+use Rattle.block_sim.proofs.OneLane.{kept_bit, right_by_now}
 use Rattle.block_sim.proofs.OneLane.{same_bit, self}
 use Rattle.block_sim.proofs.SignalEquations.{each_equation, equation_elsewhere}
 
@@ -28,7 +29,8 @@ module _ (c : List Statement) (well : IsWellFormed c) (rising : IsRising c) (t :
       → d g ≡ false
   still_gate d g s ne r here clear =
       let faulty = here.gate r.name r.kind r.args r.number r.gate in
-      let good = (equation_elsewhere c t f v g (elsewhere g ne) (each_equation c t None v free g)).gate
+      let good = (equation_elsewhere c t f v g (elsewhere g ne) (each_equation c t None v free
+      g)).gate
       r.name r.kind r.args r.number r.gate in
       let same = ap (λ bits. under (Some f) (line.Stem g) (value r.kind bits))
       (pins_agree (Some f) (differing c v d) v g 0 r.args

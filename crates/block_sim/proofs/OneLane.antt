@@ -28,8 +28,8 @@ differing c v d n = unlike (v n) (d (signal c n))
 abbrev pub self : ℕ → ℕ
 self s = s
 
--- What is true in a lane at a moment: for a signal that starts complemented, and as long as the lane
--- is followed. Gates of the level and above are not evaluated yet.
+-- What is true in a lane at a moment: for a signal that starts complemented, and as long as the
+-- lane is followed. Gates of the level and above are not evaluated yet.
 pub record IsLane (c : List Statement) (t : Test) (f : Fault) (start : ℕ) (v : Name → Bool)
     (at : List ℕ) (level : ℕ) (kept : Bool) (d : ℕ → Bool) : Type 0 where
   pub balanced : kept ≡ true → (s : ℕ) → Counts c self start s → slice_index_or at s 0 ≡ 0

@@ -1,6 +1,7 @@
 -- The lanes of a pack that are still followed after more were seen: of those that are left out each
 -- class that came has a hit.
-use Rattle.std.proofs.Common.{◌≡◌, ◌≢◌, ◌<◌, ◌≤◌, ◌⊎◌, ℕ, zero, suc, ◌+◌, sym, ◌∙◌, ap, arith, inl, inr}
+use Rattle.std.proofs.Common.{◌≡◌, ◌≢◌, ◌<◌, ◌≤◌, ◌⊎◌, ℕ, zero, suc}
+use Rattle.std.proofs.Common.{◌+◌, sym, ◌∙◌, ap, arith, inl, inr}
 use Rattle.std.proofs.Common.{Bool, true, false, ◌&&◌, List, length, subst}
 use Rattle.std.specs.Prelude.{Contains, Some, slice_get, slice_range, ◌==◌}
 use Rattle.std.specs.Bool.{Decides}

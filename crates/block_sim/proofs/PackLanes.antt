@@ -1,7 +1,8 @@
--- A simulation by events of many lanes at once, each with a test and a signal of its own that starts
--- complemented. The gates that wait are common to all lanes.
+-- A simulation by events of many lanes at once, each with a test and a signal of its own that
+-- starts complemented. The gates that wait are common to all lanes.
 use Rattle.std.proofs.Common.{◌≡◌, ◌≢◌, ◌<◌, ◌≤◌, ℕ, ◌+◌, refl, sym, ◌∙◌, ap, subst}
-use Rattle.std.proofs.Common.{Bool, true, false, ◌&&◌, ◌||◌, List, length, set, arith, inl, inr, ◌⊎◌}
+use Rattle.std.proofs.Common.{Bool, true, false, ◌&&◌, ◌||◌, List, length}
+use Rattle.std.proofs.Common.{set, arith, inl, inr, ◌⊎◌}
 use Rattle.std.specs.Prelude.{Contains, Some, None, slice_index_or, count_by}
 use Rattle.std.proofs.lemmas.Bool.{cases_eq, false≢true}
 use Rattle.std.proofs.lemmas.List.{get_or-set_same, get_or-set_other}
@@ -144,7 +145,8 @@ module _ (c : List Statement) (well : IsWellFormed c) (rising : IsRising c) (cou
 
   -- ---- one evaluation
   -- The gate at the place that waited is taken. In the lanes that are followed it comes to differ
-  -- where its word does, and where it did not differ in any lane its live readers wait from then on.
+  -- where its word does, and where it did not differ in any lane its live readers wait from then
+  -- on.
   module _ (m n : LanesMoment) (h : ArePropagating c count lanes m)
       (in_at : m.level < length m.at) (waiting : slice_index_or m.at m.level 0 ≢ 0)
       (next : n.level ≡ m.level + 1) (kept : (k : ℕ) → k < count → n.kept k ≡ m.kept k)
@@ -407,7 +409,8 @@ module _ (c : List Statement) (well : IsWellFormed c) (rising : IsRising c) (cou
           by.0,
           by.4,
           lane_active c well rising (lanes.test k) (lanes.fault k) (lanes.stem k)
-              (lanes.free k) (lanes.elsewhere k) (lanes.solves k by.2) (lanes.unobserved k) m.at m.level
+              (lanes.free k) (lanes.elsewhere k) (lanes.solves k by.2) (lanes.unobserved k) m.at
+              m.level
               (m.kept k) (λ s. m.delta s k) (h.each k by.2) g by.0 by.3 by.4,
         )
 

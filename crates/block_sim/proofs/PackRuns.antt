@@ -1,7 +1,9 @@
 -- A simulation by events of a pack: one evaluation, and what its end tells.
 use Rattle.std.proofs.Common.{◌≡◌, ◌≢◌, ◌<◌, ◌≤◌, ℕ, ◌+◌, refl, sym, ◌∙◌, ap, subst}
-use Rattle.std.proofs.Common.{Bool, true, false, not, ◌&&◌, ◌||◌, List, [], ◌∷◌, length, set, arith, inl, inr, ◌⊎◌}
-use Rattle.std.specs.Prelude.{Contains, Option, Some, None, slice_get, slice_index_or, count_by, map, ◌==◌}
+use Rattle.std.proofs.Common.{Bool, true, false, not, ◌&&◌, ◌||◌, List, []}
+use Rattle.std.proofs.Common.{◌∷◌, length, set, arith, inl, inr, ◌⊎◌}
+use Rattle.std.specs.Prelude.{Contains, Option, Some, None, slice_get}
+use Rattle.std.specs.Prelude.{slice_index_or, count_by, map, ◌==◌}
 use Rattle.std.specs.Prelude.{unwrap_or}
 use Rattle.std.proofs.lemmas.Bool.{cases_eq, false≢true, lt-ltb}
 use Rattle.bench_net.specs.declared.Kind.{Kind}
@@ -30,7 +32,8 @@ use Rattle.block_sim.proofs.Flips.{bit_is}
 use Rattle.block_sim.proofs.Lanes.{lane_zero, unlike}
 use Rattle.block_sim.proofs.Moments.{place_within}
 use Rattle.block_sim.proofs.OneLane.{bit_cases, differing, self}
-use Rattle.block_sim.proofs.PackLanes.{ArePropagating, Lanes, LanesMoment, evaluated, fewer, higher, narrower}
+use Rattle.block_sim.proofs.PackLanes.{ArePropagating, Lanes, LanesMoment, evaluated}
+use Rattle.block_sim.proofs.PackLanes.{fewer, higher, narrower}
 use Rattle.block_sim.proofs.PackLanes.{seen_detects, unseen_misses, waits_active}
 use Rattle.block_sim.proofs.PackStarts.{pack_moment, stem_bit, stem_lanes}
 use Rattle.block_sim.proofs.PackSteps.{IsStep, wide_bits}
@@ -43,7 +46,8 @@ twice true true = refl
 twice true false = refl
 twice false b = refl
 
-over : {X : Type 0} (f : ℕ → Bool) (g : X → ℕ) (xs : List X) → map (λ x. f (g x)) xs ≡ map f (map g xs)
+over : {X : Type 0} (f : ℕ → Bool) (g : X → ℕ) (xs : List X) → map (λ x. f (g x)) xs
+    ≡ map f (map g xs)
 over f g [] = refl
 over f g (x ∷ xs) = ap (λ ys. f (g x) ∷ ys) (over f g xs)
 
@@ -62,7 +66,8 @@ or_cases true b e = inl refl
 or_cases false b e = inr e
 
 -- with more lanes that were seen
-pub more_hits : (l : Layout) (slots : List Slot) (followed : List Followed) (seen all k : ℕ) → ((j : ℕ) → j < 512 → lane seen j ≡ true → lane all j ≡ true)
+pub more_hits : (l : Layout) (slots : List Slot) (followed : List Followed) (seen all k : ℕ)
+    → ((j : ℕ) → j < 512 → lane seen j ≡ true → lane all j ≡ true)
     → AreHitIn l slots followed seen k → AreHitIn l slots followed all k
 more_hits l slots followed seen all k more h one own = let j = h one own in
     (j.0, j.1, j.2, j.3, j.4, more j.0 j.1 j.5)
@@ -73,7 +78,8 @@ or_on false b e = absurd (false≢true e)
 
 -- a signal differs in lanes alone in which it did before or that are followed
 pub stays_inside : (l : Layout) (c : List Statement) (good : List ℕ) (kept gate source : ℕ)
-    → Reads c gate source → (before waited after waits : List ℕ) (shown : ℕ) → IsStep l c good kept gate before waited after waits shown
+    → Reads c gate source → (before waited after waits : List ℕ) (shown : ℕ)
+    → IsStep l c good kept gate before waited after waits shown
     → (begun : ℕ → Bool)
     → ((s k : ℕ) → k < 512 → differs_in before s k ≡ true → begun k ≡ true)
     → ((k : ℕ) → k < 512 → lane kept k ≡ true → begun k ≡ true)

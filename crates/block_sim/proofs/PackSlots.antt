@@ -1,5 +1,6 @@
 -- The lanes of a slot, and those of them that are still followed.
-use Rattle.std.proofs.Common.{◌≡◌, ◌≢◌, ◌<◌, ◌≤◌, ℕ, ◌+◌, ◌-◌, ◌*◌, ◌/◌, ◌%◌, refl, sym, ◌∙◌, ap, subst}
+use Rattle.std.proofs.Common.{◌≡◌, ◌≢◌, ◌<◌, ◌≤◌, ℕ, ◌+◌, ◌-◌, ◌*◌}
+use Rattle.std.proofs.Common.{◌/◌, ◌%◌, refl, sym, ◌∙◌, ap, subst}
 use Rattle.std.proofs.Common.{Bool, true, false, ◌&&◌, ◌||◌, List, arith, inl, inr, ◌⊎◌}
 use Rattle.std.specs.Prelude.{Contains, Some, bit_and, bit_or, bit_xor, slice_get, slice_range}
 use Rattle.std.specs.Prelude.{unwrap_or}
@@ -266,7 +267,10 @@ module _ (layout : Layout) (followed : List Followed) (stems : List Slot) (kept 
         kept_narrowed = record {
           narrowed = narrowed;
           stale = stale;
-          beyond = λ k lt up. others k lt (omega (arith, up)) ∙ before.beyond k lt (omega (arith, up));
+          beyond = λ k lt up. others k lt (omega (arith, up)) ∙ before.beyond k lt (omega (
+            arith,
+            up,
+          ));
         }
 
 -- ---- the lanes of some classes

@@ -1,6 +1,7 @@
 -- The start of a simulation by events of a pack, and what its end shows.
 use Rattle.std.proofs.Common.{◌≡◌, ◌≢◌, ◌<◌, ◌≤◌, ℕ, ◌+◌, refl, sym, ◌∙◌, ap, subst}
-use Rattle.std.proofs.Common.{Bool, true, false, not, ◌&&◌, ◌||◌, List, [], length, set, arith, inl, inr, ◌⊎◌}
+use Rattle.std.proofs.Common.{Bool, true, false, not, ◌&&◌, ◌||◌, List, []}
+use Rattle.std.proofs.Common.{length, set, arith, inl, inr, ◌⊎◌}
 use Rattle.std.specs.Prelude.{All, Contains, Some, None, slice_get, slice_index_or, count_by, map}
 use Rattle.std.proofs.lemmas.Bool.{cases_eq, false≢true}
 use Rattle.bench_net.specs.declared.Sink.{Sink}
@@ -14,7 +15,8 @@ use Rattle.fault_model.specs.Fault.{Fault, branch}
 use Rattle.fault_model.specs.Solution.{Test, Solves, Detects, under, value}
 use Rattle.fault_model.proofs.Public.{observes, under_own}
 use Rattle.wide_words.specs.Lanes.{IsLayout, Layout, lane_in, slot_of}
-use Rattle.block_sim.specs.Events.{AreScheduled, HasEquation, IsElsewhere, IsLive, IsObserved, IsRising, Reads}
+use Rattle.block_sim.specs.Events.{AreScheduled, HasEquation, IsElsewhere, IsLive}
+use Rattle.block_sim.specs.Events.{IsObserved, IsRising, Reads}
 use Rattle.block_sim.specs.Pack.{AreStarted, stem_at}
 use Rattle.block_sim.specs.Regions.{flip}
 use Rattle.block_sim.specs.Words.{AreWords, lane, lane_bits, test_of}
@@ -62,7 +64,8 @@ module _ (l : Layout) (sizes : IsLayout l) (c : List Statement) (well : IsWellFo
   }
     where
       turned : (n : Name) → signal c n ≡ s → differing c v d n ≡ not bit
-      turned n number = ap (unlike (v n)) (ap d number ∙ on) ∙ (turned_bit (v n) ∙ ap not (is n number))
+      turned n number = ap (unlike (v n)) (ap d number ∙ on) ∙ (turned_bit (v n) ∙ ap not (is n
+          number))
 
   abbrev pub stem_bit : ℕ → Bool
   stem_bit k = lane (slice_index_or good (stem_at l slots k) 0) (lane_in l k)

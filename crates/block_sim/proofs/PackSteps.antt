@@ -23,7 +23,8 @@ use Rattle.block_sim.proofs.SignalEquations.{gate_named}
 -- the bit of a name in a lane
 abbrev pub wide_bits : Layout → List Statement → List ℕ → List ℕ → ℕ → Name → Bool
 wide_bits l c good delta k n =
-    unlike (lane (slice_index_or good (signal c n) 0) (lane_in l k)) (differs_in delta (signal c n) k)
+    unlike (lane (slice_index_or good (signal c n) 0) (lane_in l k)) (differs_in delta (signal c n)
+    k)
 
 -- A gate was evaluated: in the lanes of a mask it comes to differ where its kind gives another bit
 -- for what its pins see than its fault-free one. Where it differs in a lane for the first time its

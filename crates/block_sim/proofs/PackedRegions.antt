@@ -331,7 +331,8 @@ module _ (job : Parts) (c : List Statement) (span : BlockSpan) (rows : List List
           (subst (λ s. TellsFirstFlips c tests (group_of span) one.lanes s t.word) own.stem flips)
           in
           let at = g.at one (member_at followed x.at one x.listed) in
-          let both : Some at.2 ≡ Some row = sym at.3 ∙ (ap (slice_get rows) x.there ∙ idle.row_is) in
+          let both : Some at.2 ≡ Some row = sym at.3 ∙ (ap (slice_get rows) x.there ∙ idle.row_is)
+          in
           let same : at.2 ≡ row = cc in
           let class : one.class ≡ row.class = sym at.4 ∙ ap (λ (r : ListedClass). r.class) same in (
             t.hit,

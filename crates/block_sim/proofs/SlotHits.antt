@@ -29,7 +29,8 @@ get_right (x ∷ xs) ys i =
 
 get_dropped : {X : Type 0} (xs : List X) (a i : ℕ) → slice_get (drop a xs) i ≡ slice_get xs (a + i)
 get_dropped xs zero i = let e : i ≡ 0 + i = omega arith in ap (slice_get xs) e
-get_dropped [] (suc a) i = let e : suc a + i ≡ suc (a + i) = omega arith in sym (ap (slice_get []) e)
+get_dropped [] (suc a) i = let e : suc a + i ≡ suc (a + i) =
+    omega arith in sym (ap (slice_get []) e)
 get_dropped (x ∷ xs) (suc a) i =
     let e : suc a + i ≡ suc (a + i) = omega arith in
     get_dropped xs a i ∙ sym (ap (slice_get (x ∷ xs)) e)
@@ -122,7 +123,8 @@ module _ (layout : Layout) (span : BlockSpan) (seen : ℕ) (followed : List Foll
       go (inr le) =
           let few = h.below in
           let same : n ≡ h.number = omega (arith, few, le) in
-          let both : Some slot ≡ Some h.slot = sym stands ∙ (ap (slice_get stems) same ∙ h.stands) in
+          let both : Some slot ≡ Some h.slot = sym stands ∙ (ap (slice_get stems) same ∙ h.stands)
+          in
           let is : slot ≡ h.slot = cc in
           let begin = ap (λ (s : Slot). s.begin) is in
           let end = ap (λ (s : Slot). s.end) is in

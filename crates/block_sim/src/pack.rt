@@ -270,8 +270,8 @@ fn change(
 }
 
 /// Lets the signal of a gate that waited differ in the followed lanes in which its gate says so,
-/// and returns those of them in which an observer sees this. The signal of a stem differs already, in
-/// its own slot, and its readers wait: it differs in these lanes too.
+/// and returns those of them in which an observer sees this. The signal of a stem differs already,
+/// in its own slot, and its readers wait: it differs in these lanes too.
 #[inline(always)]
 fn evaluate_waiting<C: Copies>(
     circuit: &FlatCircuit,

@@ -1,7 +1,8 @@
 //! The first tests of the classes of a list, computed region by region.
 
 ghost use Rattle.std.specs.Prelude.{◌≡◌, ◌⊎◌, ◌+◌, ◌++◌, ◌^◌, ◌<◌, ◌≤◌, ◌∷◌, ℕ, All, Contains};
-ghost use Rattle.std.specs.Prelude.{IfOk, List, [], None, Option, Some, length, slice_get, slice_set};
+ghost use Rattle.std.specs.Prelude.{IfOk, List, [], None, Option, Some, length, slice_get};
+ghost use Rattle.std.specs.Prelude.{slice_set};
 ghost use Rattle.std.specs.Prelude.{vec_capacity, vec_len};
 ghost use Rattle.std.specs.List.{sum_by};
 ghost use Rattle.bench_net.specs.Scan.{names};

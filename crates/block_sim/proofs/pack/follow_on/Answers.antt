@@ -7,11 +7,13 @@ use Rattle.block_sim.proofs.pack.follow_on.Goals as goal
 
 pub returns-then-is_none-clause-seen : goal.returns-then-is_none-clause-seen
 returns-then-is_none-clause-seen g c = λ k lt.
-    ap (λ w. lane w k) c.or-seen.ensures ∙ lane_or (number c.args.found.seen) (number c.args.fresh) k
+    ap (λ w. lane w k) c.or-seen.ensures ∙ lane_or (number c.args.found.seen) (number c.args.fresh)
+    k
 
 pub returns-clause-seen : goal.returns-clause-seen
 returns-clause-seen g c = λ k lt.
-    ap (λ w. lane w k) c.or-seen.ensures ∙ lane_or (number c.args.found.seen) (number c.args.fresh) k
+    ap (λ w. lane w k) c.or-seen.ensures ∙ lane_or (number c.args.found.seen) (number c.args.fresh)
+    k
 
 pub returns-clause-narrow : goal.returns-clause-narrow
 returns-clause-narrow g c = kept_narrow g.C.Copies.layout g.C.Copies.sized c.args.stems.now

@@ -1,4 +1,5 @@
-use Rattle.std.proofs.Common.{◌≡◌, ◌≢◌, ◌<◌, ◌≤◌, ◌⊎◌, ℕ, ◌+◌, ◌∙◌, refl, Bool, true, false, ◌&&◌, ◌||◌}
+use Rattle.std.proofs.Common.{◌≡◌, ◌≢◌, ◌<◌, ◌≤◌, ◌⊎◌, ℕ, ◌+◌, ◌∙◌}
+use Rattle.std.proofs.Common.{refl, Bool, true, false, ◌&&◌, ◌||◌}
 use Rattle.std.proofs.Common.{List, ap, arith, inl, inr, length, subst, sym}
 use Rattle.std.specs.Prelude.{All, Contains, None, Some, count_by, map, slice_index_or}
 use Rattle.std.proofs.lemmas.Bool.{cases_eq, false≢true}
@@ -13,7 +14,8 @@ use Rattle.block_sim.specs.Propagation.{is_pending}
 use Rattle.block_sim.specs.Words.{AreWords, lane}
 use Rattle.block_sim.proofs.Lanes.{lane_zero}
 use Rattle.block_sim.proofs.OneLane.{bit_cases, self}
-use Rattle.block_sim.proofs.PackRuns.{gate_words, goes_on, listed, more_hits, one_less, or_on, stays_inside, told}
+use Rattle.block_sim.proofs.PackRuns.{gate_words, goes_on, listed, more_hits, one_less}
+use Rattle.block_sim.proofs.PackRuns.{or_on, stays_inside, told}
 use Rattle.block_sim.proofs.PackLanes.{ArePropagating}
 use Rattle.block_sim.proofs.PackStarts.{started, stem_low}
 use Rattle.block_sim.proofs.PackSteps.{stepped}
@@ -44,7 +46,8 @@ loop-gate-init g c =
           started g.C.Copies.layout g.C.Copies.sized c.args.circuit.now.arranged well rising
           tests group c.args.good.now free c.as_slice-stems.result.now c.args.followed.now
           c.begin_stems-begun.new.deltas c.begin_stems-begun.new.waiting
-          (number c.begin_stems-begun.result.kept) (number c.none.result) c.begin_stems-begun.result.from
+          (number c.begin_stems-begun.result.kept) (number c.none.result)
+          c.begin_stems-begun.result.from
           h (each (λ slot. ¬ IsObserved circuit slot.stem) c.as_slice-stems.result.now slots.hidden)
           (λ k lt. ap (λ w. lane w k) c.none.ensures ∙ lane_zero k);
       counted = λ tests group gates free active. let few = count_at_most
@@ -90,7 +93,8 @@ evaluate_waiting-fresh-requires-clause-words g c =
 
 -- a signal that the gate reads differs
 touched : (g : _) (c : In-Some g) → (s : ℕ) × (k : ℕ) × (k < 512)
-    × Reads c.args.circuit.now.arranged c.in-Some.gate s × (differs_in c.loop-gate.deltas s k ≡ true)
+    × Reads c.args.circuit.now.arranged c.in-Some.gate s × (differs_in c.loop-gate.deltas s k
+    ≡ true)
 touched g c =
     let w = c.requires.free in
     (c.loop-gate.invariant.state w.0 w.1 c.requires.words.circuit.well_formed
@@ -104,7 +108,8 @@ from_behind g c =
     c.signals-signals.ensures.rising w.2).not_below c.in-Some.gate
     (let one = c.in-Some.ensures.some.0 in λ e. omega (arith, one, e))
 
-pub evaluate_waiting-fresh-requires-clause-driven : goal.evaluate_waiting-fresh-requires-clause-driven
+pub evaluate_waiting-fresh-requires-clause-driven :
+    goal.evaluate_waiting-fresh-requires-clause-driven
 evaluate_waiting-fresh-requires-clause-driven g c =
     let r = (touched g (goal.at.evaluate_waiting-fresh-requires-clause-driven g c).In-Some).3 in (
       (r.kind, map (signal c.args.circuit.now.arranged) r.args),
@@ -112,7 +117,8 @@ evaluate_waiting-fresh-requires-clause-driven g c =
           c.requires.words.circuit.well_formed r.number r.gate,
     )
 
-pub evaluate_waiting-fresh-requires-clause-within : goal.evaluate_waiting-fresh-requires-clause-within
+pub evaluate_waiting-fresh-requires-clause-within :
+    goal.evaluate_waiting-fresh-requires-clause-within
 evaluate_waiting-fresh-requires-clause-within g c =
     let by = touched g (goal.at.evaluate_waiting-fresh-requires-clause-within g c).In-Some in
     reader_within c.args.circuit.now.arranged c.in-Some.gate by.0 by.3
@@ -158,8 +164,10 @@ loop-gate-preserved g c =
       deltas = ap length fresh.evaluated.2 ∙ (length-set c.loop-gate.deltas gate _ ∙ last.deltas);
       waiting = (let a = c.evaluate_waiting-fresh.ensures.gates in a ∙ (taken ∙ last.waiting));
       within = omega (arith, lt);
-      grown = (let a = c.count_evaluation.ensures.grown in let b = last.grown in omega (arith, a, b));
-      inside = stays_inside g.C.Copies.layout circuit c.args.good.now (number c.loop-gate.found.kept)
+      grown = (let a = c.count_evaluation.ensures.grown in let b =
+          last.grown in omega (arith, a, b));
+      inside = stays_inside g.C.Copies.layout circuit c.args.good.now (number
+          c.loop-gate.found.kept)
           gate by.0 by.3 c.loop-gate.deltas c.next_gate.new.waiting
           c.evaluate_waiting-fresh.new.deltas c.evaluate_waiting-fresh.new.waiting
           (number c.evaluate_waiting-fresh.result) ev

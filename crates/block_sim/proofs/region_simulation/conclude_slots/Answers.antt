@@ -36,5 +36,6 @@ loop-slot-preserved g c =
     let is : slice_get stems i ≡ Some own = (rw (index_of stems i place.0 none place.1) place.1) in
     slot_more g.C.Copies.layout c.args.span (number c.args.seen) c.args.followed.now stems i own is
     c.part-word.result c.args.hits.now c.loop-slot.hits c.conclude.new.hits
-    (record { own = c.part-word.ensures.own; rest = c.part-word.ensures.rest }) c.loop-slot.invariant
+    (record { own = c.part-word.ensures.own; rest = c.part-word.ensures.rest })
+    c.loop-slot.invariant
     c.conclude.ensures.places c.conclude.ensures.kept c.conclude.ensures.detection

@@ -87,13 +87,16 @@ turn_all-requires-clause-few c =
 
 pub turn_all-requires-clause-slots : goal.turn_all-requires-clause-slots
 turn_all-requires-clause-slots c =
-    subst (λ l. All (IsWithin l) c.gather_regions-end.new.stems.items) (sym c.as_slice-all.ensures.value)
-    (all_slots (IsWithin c.gather_regions-end.new.followed.items) c.gather_regions-end.new.stems.items
+    subst (λ l. All (IsWithin l) c.gather_regions-end.new.stems.items) (sym
+    c.as_slice-all.ensures.value)
+    (all_slots (IsWithin c.gather_regions-end.new.followed.items)
+    c.gather_regions-end.new.stems.items
     (λ slot there. (c.gather_regions-end.ensures.gathered.each slot there).within))
 
 pub turn_all-requires-clause-stems : goal.turn_all-requires-clause-stems
 turn_all-requires-clause-stems c =
-    all_slots (IsHiddenStem c.view_of-view.result.circuit.now.arranged) c.gather_regions-end.new.stems.items
+    all_slots (IsHiddenStem c.view_of-view.result.circuit.now.arranged)
+    c.gather_regions-end.new.stems.items
     (λ slot there. (c.gather_regions-end.ensures.gathered.each slot there).hidden)
 
 pub returns-clause-found : goal.returns-clause-found
@@ -114,7 +117,8 @@ returns-clause-found c =
     c.args.from end c.gather_regions-end.new.stems.items l c.gather_regions-end.new.hits) (sym all)
     c.gather_regions-end.ensures.gathered) in
     let long : length last ≡ c.self.inside.hits.len =
-    c.turn_all.ensures.places ∙ (c.gather_regions-end.ensures.places ∙ c.as_mut_slice-hits.ensures.len) in
+    c.turn_all.ensures.places ∙ (c.gather_regions-end.ensures.places ∙
+    c.as_mut_slice-hits.ensures.len) in
     subst (HaveFirsts job (span_of (length job.tests.tests) c.args.block) rows firsts c.args.from
     end) (sym (written c.self.inside.hits.len last (drop (length last) items) long))
     (subst (λ s. HaveFirsts job s rows firsts c.args.from end last) here found)
@@ -125,7 +129,8 @@ returns-clause-others c = λ place outside.
     let last = c.turn_all.new.hits in
     let all = c.as_slice-all.ensures.value in
     let long : length last ≡ c.self.inside.hits.len =
-    c.turn_all.ensures.places ∙ (c.gather_regions-end.ensures.places ∙ c.as_mut_slice-hits.ensures.len) in
+    c.turn_all.ensures.places ∙ (c.gather_regions-end.ensures.places ∙
+    c.as_mut_slice-hits.ensures.len) in
     let none : IsFollowedAt c.as_slice-all.result.now place → ⊥ = λ h.
     let own = c.gather_regions-end.ensures.gathered.at h.0 (subst (λ l. Contains l h.0) all h.1) in
     let from = own.0 in
@@ -148,9 +153,11 @@ returns-clause-known c = λ place test e.
     let last = c.turn_all.new.hits in
     let all = c.as_slice-all.ensures.value in
     let long : length last ≡ c.self.inside.hits.len =
-    c.turn_all.ensures.places ∙ (c.gather_regions-end.ensures.places ∙ c.as_mut_slice-hits.ensures.len) in
+    c.turn_all.ensures.places ∙ (c.gather_regions-end.ensures.places ∙
+    c.as_mut_slice-hits.ensures.len) in
     let none : IsFollowedAt c.as_slice-all.result.now place → ⊥ = λ h.
-    let idle = c.gather_regions-end.ensures.gathered.idle h.0 (subst (λ l. Contains l h.0) all h.1) in
+    let idle = c.gather_regions-end.ensures.gathered.idle h.0 (subst (λ l. Contains l h.0) all h.1)
+    in
     let bad : Some None ≡ Some (Some test) = sym idle ∙ (ap (slice_get firsts) h.2 ∙ e) in
     cc in
     ap (λ l. slice_get l place)
@@ -183,7 +190,8 @@ returns-clause-counted c = λ way gates ways active.
     (subst (λ s. HasActiveByFlip circuit tests s own.row.stem gates) (sym here)
     (active own.at own.row own.low own.high own.idle))))
     (λ one at. in_span job there span c.args.rows.now c.args.firsts.now c.args.from
-    c.gather_regions-end.result c.gather_regions-end.new.stems.items c.gather_regions-end.new.followed.items
+    c.gather_regions-end.result c.gather_regions-end.new.stems.items
+    c.gather_regions-end.new.followed.items
     c.gather_regions-end.new.hits gathered one (subst (λ l. Contains l one) all at)) in
     let before = c.gather_regions-end.ensures.counted way ways in
     let was = ap (λ v. v.evaluations) c.self.view_is in
