@@ -28,7 +28,13 @@ pub deal_first : (p : Place) (w n : ℕ) (posts rest : List Post) (a : Sitter) �
     → posts ≡ newcomer_posts w (n - w) → posts ≡ post_of a ∷ rest → a.place ≡ p → a ≡ newcomer p w
 deal_first p w n posts rest a l is parts at =
     let e : post_of a ≡ post w false [] = ap first_post (sym parts ∙ is ∙ newcomers_first w n l) in
-    λ k. record { place = at k; worker = (e k).worker; exhausted = (e k).exhausted; seen = (e k).seen }
+    λ k. record {
+      place = at k;
+      worker = (e k).worker;
+      exhausted = (e k).exhausted;
+      seen =
+          (e k).seen;
+    }
 
 pub deal_others : (w n : ℕ) (posts rest : List Post) (a : Sitter) → w < n → posts ≡ newcomer_posts w
     (n - w) → posts ≡ post_of a ∷ rest → rest ≡ newcomer_posts (w + 1) (n - (w + 1))

@@ -15,7 +15,8 @@ use Rattle.fault_ledger.specs.declared.words.Post.{Post}
 use Rattle.fault_ledger.specs.declared.words.View.{View}
 use Rattle.fault_ledger.specs.History.{piece_count}
 use Rattle.fault_ledger.specs.Face.{shape_fault}
-use Rattle.fault_ledger.specs.Words.{field, word_with, word_count, total, times, exhausted_of, ForEach}
+use Rattle.fault_ledger.specs.Words.{field, word_with, word_count, total}
+use Rattle.fault_ledger.specs.Words.{times, exhausted_of, ForEach}
 use Rattle.fault_ledger.specs.Words.{Knows, IsKept, newcomer_posts, everybody, front, others}
 use Rattle.fault_ledger.specs.Words.{front_of, others_of, both_of, nobody}
 use Rattle.fault_ledger.proofs.SumsOverViews.{total-set, for_append, set_known}
@@ -106,7 +107,8 @@ part_length : (ps : List Post) → length (front ps) + length (others ps) ≡ le
 part_length [] = refl
 part_length (p ∷ ps) = omega arith
 
-part_exhausted : (ps : List Post) → exhausted_of (front ps) + exhausted_of (others ps) ≡ exhausted_of ps
+part_exhausted : (ps : List Post) → exhausted_of (front ps) + exhausted_of (others ps)
+    ≡ exhausted_of ps
 part_exhausted [] = refl
 part_exhausted (p ∷ ps) = omega arith
 
@@ -183,7 +185,8 @@ joins s id other v w same t kept at apart there =
         sized = k.sized;
         marked = k.marked;
         counted = k.counted;
-        bounded = (let q = k.bounded in let e = join_total (λ v. exhausted_of v.posts) t.views id other v
+        bounded = (let q = k.bounded in let e = join_total (λ v. exhausted_of v.posts) t.views id
+            other v
             w b nobody at there (exhausted-append w.posts v.posts) refl in omega arith);
         staffed = (let q = k.staffed in let e = join_total (λ v. length v.posts) t.views id other v
             w b nobody at there (length-append w.posts v.posts) refl in omega arith);

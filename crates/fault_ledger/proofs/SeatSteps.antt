@@ -66,7 +66,8 @@ recalls_after s class known e h r = record {
       (λ o. true≢false (sym x ∙ ap is_hit o))) ∙ x;
 }
 
-pub remembers_sees : (a b : Sitter) (exhausted : Bool) (clear : List Remembered) → Sees a exhausted b
+pub remembers_sees : (a b : Sitter) (exhausted : Bool) (clear : List Remembered)
+    → Sees a exhausted b
     → Remembers a clear → Remembers b clear
 remembers_sees a b exhausted clear s r =
     let h = b.seen in
@@ -123,7 +124,8 @@ sitter_sees a b i s =
     })
 
 pub seated_sees : (a b : Sitter) (worker : ℕ) (exhausted : Bool) (classes : ℕ) (piece : Option ℕ)
-    (clear : List Remembered) → IsSeated a worker exhausted classes piece clear → Sees a a.exhausted b
+    (clear : List Remembered) → IsSeated a worker exhausted classes piece clear
+    → Sees a a.exhausted b
     → IsSeated b worker exhausted classes piece clear
 seated_sees a b worker exhausted classes piece clear i s = record {
   sitter = sitter_sees a b i.sitter s;
@@ -160,7 +162,8 @@ seated_ends a b worker exhausted classes piece clear i none s all =
 
 -- a seat that holds a piece has not got Exhausted
 pub untold : (a : Sitter) (worker : ℕ) (exhausted : Bool) (classes : ℕ) (piece : Option ℕ)
-    (clear : List Remembered) (p : ℕ) → IsSeated a worker exhausted classes piece clear → piece ≡ Some p
+    (clear : List Remembered) (p : ℕ) → IsSeated a worker exhausted classes piece clear → piece
+    ≡ Some p
     → a.exhausted ≡ false
 untold a worker exhausted classes piece clear p i e = go a.exhausted refl
   where
@@ -169,7 +172,8 @@ untold a worker exhausted classes piece clear p i e = go a.exhausted refl
     go true t = let q : Some p ≡ None = sym e ∙ i.piece_is ∙ (i.sitter.ended t).0 in absurd (cc)
 
 -- a seat after an event of its own
-pub seated_makes : (a b : Sitter) (e : Event) (r : Reply) (worker : ℕ) (exhausted : Bool) (classes : ℕ)
+pub seated_makes : (a b : Sitter) (e : Event) (r : Reply) (worker : ℕ) (exhausted : Bool) (classes
+    : ℕ)
     (piece now : Option ℕ) (clear : List Remembered)
     → IsSeated a worker exhausted classes piece clear → a.exhausted ≡ false → Makes a e r b
     → held_by a.worker b.seen ≡ now → IsSeated b worker exhausted classes now clear
@@ -218,7 +222,8 @@ dropped_free a b r m =
 
 -- a piece that a seat holds is one of the pieces
 pub seated_piece : (a : Sitter) (worker : ℕ) (exhausted : Bool) (classes : ℕ) (piece : Option ℕ)
-    (clear : List Remembered) (p : ℕ) → IsSeated a worker exhausted classes piece clear → piece ≡ Some p
+    (clear : List Remembered) (p : ℕ) → IsSeated a worker exhausted classes piece clear → piece
+    ≡ Some p
     → p < piece_count a.place.shape
 seated_piece a worker exhausted classes piece clear p i e =
     held_piece a.place.shape a.worker p a.seen i.sitter.legal (sym i.piece_is ∙ e)
@@ -248,7 +253,8 @@ makes_after a b d e r s m =
     }
 
 -- the same looks twice
-pub sees_twice : (a b d : Sitter) → Sees a a.exhausted b → Sees b b.exhausted d → Sees a a.exhausted d
+pub sees_twice : (a b d : Sitter) → Sees a a.exhausted b → Sees b b.exhausted d
+    → Sees a a.exhausted d
 sees_twice a b d s t =
     let h = b.seen in
     let go = subst (λ (x : Sitter). Sees x x.exhausted d) s.seat t in
@@ -286,7 +292,8 @@ exhausted_at a h i e all =
     else Claimed claim_is.Exhausted) (le-ltb (claims h) (piece_count s) few))
 
 -- the piece of a seat after it has seen more
-pub held_sees : (a b : Sitter) → Sees a a.exhausted b → held_by b.worker b.seen ≡ held_by a.worker a.seen
+pub held_sees : (a b : Sitter) → Sees a a.exhausted b → held_by b.worker b.seen
+    ≡ held_by a.worker a.seen
 held_sees a b s = let h = b.seen in ap (λ (x : Sitter). held_by x.worker h) s.seat
     ∙ held_goes_on a.worker h a.seen s.newer
 

@@ -24,7 +24,8 @@ use Rattle.fault_ledger.specs.History.{History, piece_count, block_of, worker_of
 use Rattle.fault_ledger.specs.History.{held_by, holds, entry}
 use Rattle.fault_ledger.specs.Answer.{fits_size, has_earlier_hit, events_of, after, call_of}
 use Rattle.fault_ledger.specs.Words.{code_of, field, field_in, in_field, word_with, total, times}
-use Rattle.fault_ledger.specs.Words.{exhausted_of, ForEach, Knows, IsKeptBy, IsKept, one, post, Claims}
+use Rattle.fault_ledger.specs.Words.{exhausted_of, ForEach, Knows, IsKeptBy, IsKept}
+use Rattle.fault_ledger.specs.Words.{one, post, Claims}
 use Rattle.fault_ledger.specs.Words.{Reports, Drops}
 use Rattle.fault_ledger.proofs.Histories.{held_goes_on, held-holds, held_open, holds-not}
 use Rattle.fault_ledger.proofs.Histories.{goes_on_same}
@@ -52,7 +53,8 @@ others_apart s views id j w exhausted seen u apart at n there =
     let two = total-two (λ v. times w v.posts) views id j (one s w exhausted seen) u
     (λ e. n (sym e)) at there in
     let here : eqb w w ≡ true = eq-eqb w w refl in
-    let once : times w (one s w exhausted seen).posts ≡ 1 = ap (λ b. (if b then 1 else 0) + 0) here in
+    let once : times w (one s w exhausted seen).posts ≡ 1 =
+    ap (λ b. (if b then 1 else 0) + 0) here in
     let most = apart w in
     times-none w u.posts (omega arith)
 
@@ -77,7 +79,8 @@ exhausted_total : (s : Shape) (h : History) (words : List ℕ) (views : List Vie
     → IsKeptBy s h words views → total (λ v. exhausted_of v.posts) views ≤ s.workers
 exhausted_total s h words views kept =
     let a =
-    total-mono (λ v. exhausted_of v.posts) (λ v. length v.posts) views (λ v. exhausted-length v.posts) in
+    total-mono (λ v. exhausted_of v.posts) (λ v. length v.posts) views (λ v. exhausted-length
+    v.posts) in
     let b = kept.staffed in
     omega arith
 
@@ -108,7 +111,8 @@ module _ (s : Shape) (h : History) (words : List ℕ) (views : List View)
         sized = len ∙ kept.sized;
         marked = marked;
         counted = counted;
-        bounded = (let t = same_total (λ v. exhausted_of v.posts) views id v w' at refl in omega arith);
+        bounded = (let t = same_total (λ v. exhausted_of v.posts) views id v w' at refl in omega
+            arith);
         staffed = (let t = same_total (λ v. length v.posts) views id v w' at refl in
             let k = kept.staffed in omega arith);
         apart = (λ x. let t = same_total (λ v. times x v.posts) views id v w' at refl in

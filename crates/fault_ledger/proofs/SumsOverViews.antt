@@ -43,7 +43,8 @@ pub exhausted-length : (ps : List Post) → exhausted_of ps ≤ length ps
 exhausted-length [] = omega arith
 exhausted-length (p ∷ ps) = let i = exhausted-length ps in go p.exhausted i
   where
-    go : (b : Bool) → exhausted_of ps ≤ length ps → (if b then 1 else 0) + exhausted_of ps ≤ length (p ∷ ps)
+    go : (b : Bool) → exhausted_of ps ≤ length ps → (if b then 1 else 0) + exhausted_of ps ≤ length
+        (p ∷ ps)
     go true i = omega arith
     go false i = omega arith
 

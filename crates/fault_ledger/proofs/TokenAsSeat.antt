@@ -37,12 +37,14 @@ taken {shape} {table} {place} {a} {old} {views} me is alone at here same seat =
 -- the token of the table seat after a step, which stands for the same worker
 pub put_back : {shape : Shape} {table : TableId} {a : Sitter} {t : TableId} {me : Me ℕ View}
     → Taken shape table a t me
-    → (exhausted : Bool) (h : History) {now_t : TableId} (now : Me ℕ View) (b : Badge View) → now_t ≡ t
+    → (exhausted : Bool) (h : History) {now_t : TableId} (now : Me ℕ View) (b : Badge View)
+    → now_t ≡ t
     → now.0 ≡ one shape a.worker exhausted h → b.table_id ≡ now_t → b.views ≡ now.0 ∷ []
     → sitter b.table_id b.views ≡ sitter_at a exhausted h
 put_back {shape} {table} {a} taken exhausted h now b same is table_of views_of =
     let x : b.table_id ≡ table = table_of ∙ same ∙ taken.table_is in
-    let y : b.views ≡ one shape a.worker exhausted h ∷ [] = views_of ∙ ap (λ (v : View). v ∷ []) is in
+    let y : b.views ≡ one shape a.worker exhausted h ∷ [] =
+    views_of ∙ ap (λ (v : View). v ∷ []) is in
     let s : sitter b.table_id b.views ≡ sitter table (one shape a.worker exhausted h ∷ []) =
     (λ k. sitter (x k) (y k)) in
     s ∙ ap (λ (p : Place). record { place = p; worker = a.worker; exhausted = exhausted; seen = h })

@@ -79,7 +79,13 @@ class_and_block shape piece = (class_of shape piece, block_of shape piece)
 
 -- the seat of the same worker at the same ledger, with this flag and this history
 abbrev pub sitter_at : Sitter → Bool → History → Sitter
-sitter_at old exhausted h = record { place = old.place; worker = old.worker; exhausted = exhausted; seen = h }
+sitter_at old exhausted h = record {
+  place = old.place;
+  worker = old.worker;
+  exhausted =
+      exhausted;
+  seen = h;
+}
 
 -- a seat of a new ledger, and the seats of all its workers, by number
 abbrev pub newcomer : Place → ℕ → Sitter
@@ -90,7 +96,8 @@ newcomers place = map (newcomer place) (below place.shape.workers)
 
 -- the seat's ledger, its worker and its flag are as before
 abbrev pub Keeps : Sitter → Sitter → Type 0
-Keeps old new = (new.place ≡ old.place) × (new.worker ≡ old.worker) × (new.exhausted ≡ old.exhausted)
+Keeps old new = (new.place ≡ old.place) × (new.worker ≡ old.worker) × (new.exhausted
+    ≡ old.exhausted)
 
 -- No event of the seat: the history that it has seen afterwards is legal, begins with its earlier
 -- one, and has no new event of its worker.

@@ -81,7 +81,8 @@ pub record Knows (shape : Shape) (h : History) (of : Shape) (p : Post) : Type 0 
   pub same : of ≡ shape
   pub among : p.worker < shape.workers
   pub newer : ContinuesWithout p.worker h p.seen
-  pub done : p.exhausted ≡ true → (held_by p.worker p.seen ≡ None) × (claims p.seen ≡ piece_count shape)
+  pub done : p.exhausted ≡ true → (held_by p.worker p.seen ≡ None) × (claims p.seen
+      ≡ piece_count shape)
 
 -- The words and the views belong to this legal history. Word 0 is the cursor, which counts the
 -- claims that were tried, and field p % 8 of word p / 8 + 1 has the code of piece p. Past the

@@ -90,7 +90,8 @@ impl Model for Seat {
 
     ghost view = { λ s. s.token };
 
-    ghost invariant = { λ s. IsSeated s.token s.worker s.exhausted s.row s.piece s.remembered.items };
+    ghost invariant = { λ s. IsSeated s.token s.worker s.exhausted s.row s.piece
+        s.remembered.items };
 }
 
 impl Seat {

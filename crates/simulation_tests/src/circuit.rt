@@ -1,5 +1,5 @@
-//! Circuits of bench files, faults and classes, test files and order files. Files with an error, with
-//! its words, are cases of the command line.
+//! Circuits of bench files, faults and classes, test files and order files. Files with an error,
+//! with its words, are cases of the command line.
 
 mod circuits;
 mod cuts;

@@ -1,5 +1,5 @@
-//! The fault ledger: cases of calls and replies, of seats that look and meet, and runs of workers in
-//! threads.
+//! The fault ledger: cases of calls and replies, of seats that look and meet, and runs of workers
+//! in threads.
 
 mod both_ledgers;
 mod limits;

@@ -1,8 +1,8 @@
 //! Tests of the crates from circuits to runs by workers. A case is one row of a table; a test goes
 //! over its table.
 //!
-//! They are in one crate, because each crate of tests loads and compiles all crates below it, and in
-//! a crate of their own, because a crate with tests is proved twice.
+//! They are in one crate, because each crate of tests loads and compiles all crates below it, and
+//! in a crate of their own, because a crate with tests is proved twice.
 #![tactic(auto)]
 
 #[cfg(test)]

@@ -119,7 +119,8 @@ works_twice job over a b d x y = record {
 }
 
 -- looks
-pub sees_works : (job : Parts) (over : ClassSelection) (a b : Sitter) (ended : Bool) → Sees a ended b
+pub sees_works : (job : Parts) (over : ClassSelection) (a b : Sitter) (ended : Bool)
+    → Sees a ended b
     → WorksOver job over a b
 sees_works job over a b ended s = record {
   place = ap (λ (x : Sitter). x.place) s.seat;
@@ -324,7 +325,8 @@ module _ (job : Parts) (over : ClassSelection) (a b : Sitter) (p : Place) (class
 
 -- the work after a claim that got Exhausted
 pub exhausted : (job : Parts) (over : ClassSelection) (a b : Sitter) (r : Reply) → IsSitter a
-    → (a.exhausted ≡ false → Sees a true b) → (a.exhausted ≡ true → Stays a (call.Claim a.worker) r b)
+    → (a.exhausted ≡ false → Sees a true b) → (a.exhausted ≡ true
+    → Stays a (call.Claim a.worker) r b)
     → WorksOver job over a b
 exhausted job over a b r i sees stays = go a.exhausted refl
   where

@@ -66,7 +66,8 @@ claims_stretch a b p class block at tests m =
 -- a claim that got Exhausted
 pub sees_all : (a b : Sitter) (r : Reply) → IsSitter a → IsSitter b → b.exhausted ≡ true
     → (b.place ≡ a.place) × (b.worker ≡ a.worker)
-    → (a.exhausted ≡ false → Sees a true b) → (a.exhausted ≡ true → Stays a (call.Claim a.worker) r b)
+    → (a.exhausted ≡ false → Sees a true b) → (a.exhausted ≡ true
+    → Stays a (call.Claim a.worker) r b)
     → SeesAllClaimed a b
 sees_all a b r i j ended same sees stays = go a.exhausted refl
   where

@@ -37,7 +37,8 @@ pub invariant_of-seat : goal.invariant_of-seat
 invariant_of-seat c =
     let i = c.seat.inside in
     let e = ends c in
-    seated_ends i.token c.claim-piece.new.token i.worker i.exhausted i.row i.piece i.remembered.items
+    seated_ends i.token c.claim-piece.new.token i.worker i.exhausted i.row i.piece
+    i.remembered.items
     c.seat.invariant e.0 e.1 e.2
 
 pub returns-then-piece-pieces-clause-exhausted : goal.returns-then-piece-pieces-clause-exhausted

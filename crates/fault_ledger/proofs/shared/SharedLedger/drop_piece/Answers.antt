@@ -57,7 +57,8 @@ invariant_of-seat c =
     ∙ ap (λ (x : Sitter). held_by x.worker x.seen) c.seat-2.view_is
     ∙ held_sees c.args.seat.now c.finds_earlier_hit.new.seat c.finds_earlier_hit.ensures.sees
     ∙ holding (goal.at.invariant_of-seat c).In-Some in
-    seated_makes i.token now (Event.Drop i.token.worker) Done i.worker i.exhausted i.row i.piece None
+    seated_makes i.token now (Event.Drop i.token.worker) Done i.worker i.exhausted i.row i.piece
+    None
     i.remembered.items c.seat-2.invariant
     (untold i.token i.worker i.exhausted i.row i.piece i.remembered.items
     c.in-Some.piece c.seat-2.invariant here) c.drop_piece.ensures
@@ -79,7 +80,8 @@ pub returns-then-not-finds_earlier_hit-clause-block_zero
     : goal.returns-then-not-finds_earlier_hit-clause-block_zero
 returns-then-not-finds_earlier_hit-clause-block_zero c = λ piece holds first.
     let i = c.seat.inside in
-    let same = seated_same i.token c.args.seat.now i.worker i.exhausted i.row i.piece i.remembered.items
+    let same = seated_same i.token c.args.seat.now i.worker i.exhausted i.row i.piece
+    i.remembered.items
     c.in-Some.piece piece c.seat.invariant c.seat.view_is c.in-Some.is holds in
     let none = c.finds_earlier_hit.ensures.block_zero
     (subst (λ p. block_of c.args.self.now.shape p ≡ 0) same first) in
@@ -88,7 +90,8 @@ returns-then-not-finds_earlier_hit-clause-block_zero c = λ piece holds first.
 pub returns-clause-block_zero : goal.returns-clause-block_zero
 returns-clause-block_zero c = λ piece holds first.
     let i = c.seat.inside in
-    let same = seated_same i.token c.args.seat.now i.worker i.exhausted i.row i.piece i.remembered.items
+    let same = seated_same i.token c.args.seat.now i.worker i.exhausted i.row i.piece
+    i.remembered.items
     c.in-Some.piece piece c.seat.invariant c.seat.view_is c.in-Some.is holds in
     let none = c.finds_earlier_hit.ensures.block_zero
     (subst (λ p. block_of c.args.self.now.shape p ≡ 0) same first) in

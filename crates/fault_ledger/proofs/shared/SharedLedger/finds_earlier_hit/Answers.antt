@@ -97,7 +97,8 @@ returns c =
     let n = c.passes_clear-head.result.clear in
     let is = placed (goal.at.returns c).After-class_and_block-class in
     let first = c.passes_clear-head.ensures.sees in
-    let then = subst (λ (x : Sitter). Sees x x.exhausted d) c.seat-2.view_is c.finds_hit.ensures.sees in
+    let then = subst (λ (x : Sitter). Sees x x.exhausted d) c.seat-2.view_is
+    c.finds_hit.ensures.sees in
     let e = head (goal.at.returns c).After-passes_clear-head
     (placed (goal.at.returns c).After-class_and_block-class) in
     let x = e.some c.in-Some.next c.in-Some.is in
