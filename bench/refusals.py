@@ -36,6 +36,8 @@ WAYS = ("REFUSE_ALLOCATION", "REFUSE_START")
 FILES = ("bench", "tests", "order", "first", "second")
 # A chain of inverters under tests of one bit each: threads share their fault-free words.
 CHAIN, MANY = 1024, 16384
+# A gate with so many pins: threads put the lines of its list together.
+PINS = 9000
 TEXTS = "--bench bench --tests tests"
 COMMANDS = (
     "faults --bench bench",
@@ -50,6 +52,7 @@ COMMANDS = (
     f"run {TEXTS} --format csv --workers 2",
     f"run {TEXTS} --part 1/2 --workers 2",
     "run --bench chain --tests many --list --workers 3",
+    "run --bench wide --tests bits --list --workers 3",
     "merge first second --list",
     f"schedule {TEXTS} --list --workers 2 --order order",
     f"curve {TEXTS} --workers 2",
@@ -106,7 +109,8 @@ def sweep_program(program, library, folder, command):
 
 
 def put_files(program, folder):
-    """C17, a test for it, an order, the texts of both parts of a run, and a chain with its tests."""
+    """C17, a test for it, an order, the texts of both parts of a run; a chain and a wide gate, with their
+    tests."""
     bench, tests, order, first, second = (folder / name for name in FILES)
     bench.write_bytes((DATA / "c17.bench").read_bytes())
     tests.write_bytes((DATA / "one.tests").read_bytes())
@@ -114,6 +118,8 @@ def put_files(program, folder):
     gates = (f"n{at} = NOT(n{at - 1})\n" for at in range(1, CHAIN))
     (folder / "chain").write_text(f"INPUT(n0)\nOUTPUT(n{CHAIN - 1})\n{''.join(gates)}")
     (folder / "many").write_text("0\n" * (MANY - 1) + "1\n")
+    (folder / "wide").write_text(f"INPUT(a)\nOUTPUT(z)\nz = AND({', '.join('a' * PINS)})\n")
+    (folder / "bits").write_text("0\n1\n")
     for part, path in ((1, first), (2, second)):
         words = [program, "run", *TEXTS.split(), "--part", f"{part}/2"]
         path.write_bytes(run_with(words, folder)[1])

@@ -5,6 +5,8 @@
 #[cfg(test)]
 mod checks;
 #[cfg(test)]
+mod long_lists;
+#[cfg(test)]
 mod outputs;
 #[cfg(test)]
 mod process;

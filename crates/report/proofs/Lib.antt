@@ -1,4 +1,5 @@
 mod LinesByPairs
+mod LinesOfStretches
 mod CellNames
 mod TextPieces
 mod LinesOfFaults

@@ -14,6 +14,7 @@ mod counts;
 mod curve;
 mod detected;
 mod histogram;
+mod in_threads;
 mod launched;
 mod laws;
 mod reasoned;
@@ -32,6 +33,7 @@ pub use counts::{RunCounts, count_run};
 pub use curve::{CurvePoint, curve_of, curve_text_in, curve_text_watched, write_curve};
 pub use detected::{counts_of, detections_text_in, detections_text_of_any_size, write_detections};
 pub use histogram::{histogram_of, histogram_text_in};
+pub use in_threads::write_report_in_threads;
 pub use job_loading::{
     ReasonCounts, ReportFault, SimFault, Split, Watch, job_of, job_of_in_threads,
 };

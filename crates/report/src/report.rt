@@ -1,6 +1,7 @@
 //! The texts that the program writes: the report of a run, and the list of faults and classes.
 
-ghost use Rattle.std.specs.Prelude.{◌≡◌, ◌<◌, ◌*◌, ◌/◌, ◌++◌, [], codes, length, slice_get, Some};
+ghost use Rattle.std.specs.Prelude.{◌≡◌, ◌<◌, ◌≤◌, ◌*◌, ◌/◌, ◌++◌, [], codes, length};
+ghost use Rattle.std.specs.Prelude.{slice_get, Some};
 ghost use Rattle.std.specs.Prelude.{is_some, zip, decimal, if◌then◌else◌};
 ghost use Rattle.std.specs.List.{flat_map};
 ghost use Rattle.bench_net.specs.Scan.{cells};
@@ -12,7 +13,8 @@ ghost use Rattle.report.specs.Report.{cell_text, class_line};
 ghost use Rattle.report.specs.Report.{defect_text, fault_text, fault_lines, first_text, report};
 ghost use Rattle.report.specs.Report.{listing};
 ghost use Rattle.report.specs.Report.{class_coverage_line, class_firsts, coverage_of, first_at};
-ghost use Rattle.report.specs.Report.{contents_of, whole_report};
+ghost use Rattle.report.specs.Report.{contents_of, coverage_line, whole_report};
+ghost use Rattle.report.specs.Stretches.{lines_between};
 
 use crate::contents::{Contents, Lines};
 use bench_net::Circuit;
@@ -180,8 +182,38 @@ pub fn first_text(first: Option<u32>, number: &mut Buffer) -> &str
     }
 }
 
+/// Writes the requested faults of a stretch of the list, each with its first detecting test, or
+/// `none`. The stretch has the faults from one number up to another.
+pub(crate) fn put_lines<W: Out>(
+    circuit: &Circuit,
+    list: &Faults,
+    verdicts: &Verdicts,
+    lines: Lines,
+    start: u32,
+    end: u32,
+    out: &mut W,
+) -> Result<(), OutFailed>
+    requires list { list.now.list ≡ faults list.now.model circuit.now }
+    requires count { length verdicts.now.firsts ≡ length list.now.list }
+    requires order { start ≤ end }
+    requires within { end ≤ length list.now.list }
+    ensures { Writes result (W.seen out.old) (W.seen out.new)
+        (lines_between lines circuit.now list.now.list verdicts.now.firsts start end) }
+{
+    for fault in start..end {
+        let first = verdicts.first(fault);
+        if !lines.has(first) {
+            continue;
+        }
+        let mut number = Buffer::new();
+        let said = first_text(first, &mut number);
+        put_fault_line(circuit, list, fault, "", said, out)?;
+    }
+    Ok(())
+}
+
 /// Writes the requested faults of the list, each with its first detecting test, or `none`.
-fn put_firsts<W: Out>(
+pub(crate) fn put_firsts<W: Out>(
     circuit: &Circuit,
     list: &Faults,
     verdicts: &Verdicts,
@@ -193,16 +225,7 @@ fn put_firsts<W: Out>(
     ensures { Writes result (W.seen out.old) (W.seen out.new)
         (fault_lines lines list.now.model circuit.now verdicts.now.firsts) }
 {
-    for fault in 0..list.count() {
-        let first = verdicts.first(fault);
-        if !lines.has(first) {
-            continue;
-        }
-        let mut number = Buffer::new();
-        let said = first_text(first, &mut number);
-        put_fault_line(circuit, list, fault, "", said, out)?;
-    }
-    Ok(())
+    put_lines(circuit, list, verdicts, lines, 0, list.count(), out)
 }
 
 /// Returns whether a test detects a fault of this number.
@@ -256,17 +279,27 @@ fn put_report<W: Out>(
     ensures { Writes result (W.seen out.old) (W.seen out.new)
         (report job.now.list.model job.now.circuit verdicts.now.firsts lines) }
 {
-    let circuit = job.circuit();
-    let signals = circuit.signals();
+    put_firsts(job.circuit(), job.faults(), verdicts, lines, out)?;
+    put_total(job, verdicts, out)
+}
+
+/// Writes the coverage of all faults.
+pub(crate) fn put_total<W: Out>(
+    job: &Job,
+    verdicts: &Verdicts,
+    out: &mut W,
+) -> Result<(), OutFailed>
+    requires count { length verdicts.now.firsts ≡ length job.now.list.list }
+    ensures { Writes result (W.seen out.old) (W.seen out.new)
+        (coverage_line (detected_count verdicts.now.firsts) (length verdicts.now.firsts)) }
+{
+    let signals = job.circuit().signals();
     prove!(signals > 0);
-    let detected = verdicts.detected();
-    let total = verdicts.total();
-    put_firsts(circuit, job.faults(), verdicts, lines, out)?;
-    put_coverage(detected, total, "", out)
+    put_coverage(verdicts.detected(), verdicts.total(), "", out)
 }
 
 /// Writes the coverage of the classes, if it is requested.
-fn put_class_coverage<W: Out>(
+pub(crate) fn put_class_coverage<W: Out>(
     job: &Job,
     verdicts: &Verdicts,
     wanted: bool,

@@ -8,7 +8,7 @@ ghost use Rattle.report.specs.EndToEnd.{IsJobReportFault, IsReportOf, IsReportOf
 ghost use Rattle.report.specs.EndToEnd.{IsWatchedFault, IsWithin, WritesOneOf};
 
 use crate::contents::Contents;
-use crate::report::write_report_with;
+use crate::in_threads::write_report_in_threads;
 use block_sim::Job;
 use byte_output::Out;
 use fault_model::Model;
@@ -71,6 +71,6 @@ fn report_run<R: Threads + Wait, G: Watch + Sync, W: Out>(
     ensures within { OnOk result (ArePartsWithin job.now parts) }
 {
     let verdicts = run_watched(rt, alloc, job, parts, workers, gate)?;
-    write_report_with(job, &verdicts, contents, out)?;
+    write_report_in_threads(rt, alloc, job, &verdicts, contents, workers, out)?;
     Ok(())
 }

@@ -1,32 +1,19 @@
-use Rattle.std.proofs.Common.{length, arith}
+use Rattle.std.proofs.Common.{length}
 use Rattle.std.proofs.lemmas.Result.{err_from_is_err_and}
 use Rattle.workers.specs.Verdict.{detected_count}
 use Rattle.byte_output.proofs.Public.{writes_then, stopped_before}
-use Rattle.bench_net.proofs.Public.{some_signal}
 use Rattle.report.specs.Report.{coverage_line}
 use Rattle.report.proofs.report.put_report.Goals as goal
-
-pub prove-unreachable-requires : goal.prove-unreachable-requires
-prove-unreachable-requires g c = let some =
-    some_signal c.circuit-circuit.result.now c.signals-signals.ensures.circuit.well_formed in
-    omega (arith, some)
 
 pub returns-in_err-put_firsts : goal.returns-in_err-put_firsts
 returns-in_err-put_firsts g c =
     let p = err_from_is_err_and c.from_residual.result c.from_residual.ensures.1 in
-    let wrote = rw (
-      c.circuit-circuit.ensures.part,
-      c.faults.ensures.part,
-    ) at c.in_err-put_firsts.ensures in
+    let wrote = rw (c.circuit.ensures.part, c.faults.ensures.part) at c.in_err-put_firsts.ensures in
     rw (p.1)
     (stopped_before _ (coverage_line (detected_count c.args.verdicts.now.firsts)
     (length c.args.verdicts.now.firsts)) _ _ wrote)
 
 pub returns : goal.returns
 returns g c =
-    let wrote = rw (
-      c.circuit-circuit.ensures.part,
-      c.faults.ensures.part,
-    ) at c.in_ok-put_firsts.ensures in
-    rw (← c.total-total.ensures, ← c.detected-detected.ensures)
-    (writes_then _ _ _ _ _ _ wrote c.put_coverage.ensures)
+    let wrote = rw (c.circuit.ensures.part, c.faults.ensures.part) at c.in_ok-put_firsts.ensures in
+    writes_then _ _ _ _ _ _ wrote c.put_total.ensures

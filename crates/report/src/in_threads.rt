@@ -1,0 +1,330 @@
+//! The lines of the fault list, which threads put together in stretches of the list.
+
+ghost use Rattle.std.specs.Prelude.{◌≡◌, ◌<◌, ◌≤◌, IfOk, length};
+ghost use Rattle.fault_model.specs.Fault.{faults};
+ghost use Rattle.byte_output.specs.Output.{Writes};
+ghost use Rattle.report.specs.Report.{fault_lines, report, whole_report};
+ghost use Rattle.report.specs.Stretches.{HasStretch, HaveStretches, PutsFrom, PutsSome};
+
+use crate::contents::{Contents, Lines};
+use crate::report::{put_class_coverage, put_firsts, put_lines, put_total};
+use bench_net::Circuit;
+use block_sim::Job;
+use byte_output::{Out, OutFailed, Plain, put_all};
+use fault_model::Faults;
+use job_loading::ReportFault;
+use std::alloc::{AllocError, Global};
+use std::snapshot::Snapshot;
+use std::sync::Wait;
+use std::thread;
+use std::thread::{Promise, Threads};
+use workers::Verdicts;
+
+/// The greatest number of faults of a stretch. A thread puts their lines together in a few times
+/// the time of its start, and they take about 200 kB.
+const FAULTS_OF_A_STRETCH: u32 = 1 << 13;
+
+/// The greatest number of threads that put lines together.
+const MAX_THREADS: u32 = 64;
+
+/// The lines of consecutive faults.
+#[derive(Drop)]
+struct Stretch {
+    /// The number of the first of the faults.
+    start: u32,
+    /// The number after that of the last fault.
+    end: u32,
+    /// The lines.
+    text: Vec<u8>,
+}
+
+/// The promise of a thread: it returns lines of these faults.
+#[derive(Drop)]
+struct LinesOf {
+    circuit: Snapshot<Circuit>,
+    list: Snapshot<Faults>,
+    verdicts: Snapshot<Verdicts>,
+    lines: Lines,
+}
+
+impl Promise<Result<Stretch, OutFailed>> for LinesOf {
+    ghost use Rattle.report.specs.Stretches.{HasStretch};
+
+    ghost kept_by = { λ p r. HasStretch p.lines p.circuit.value p.list.value.list
+        p.verdicts.value.firsts r };
+}
+
+/// Writes the report of a job and of the verdicts of its faults, with the same bytes as
+/// [`crate::write_report_with`]. At most as many threads as there are workers put the lines of the
+/// list together, in stretches of the list, which are written in order. If a thread doesn't start,
+/// the caller's thread puts its lines together. If memory runs out, the caller's thread writes the
+/// lines one by one, without memory.
+///
+/// # Errors
+///
+/// [`ReportFault::Write`] if the output takes nothing more. It has a beginning of the report.
+pub fn write_report_in_threads<R: Threads + Wait, W: Out>(
+    rt: &R,
+    alloc: Global,
+    job: &Job,
+    verdicts: &Verdicts,
+    contents: Contents,
+    workers: u32,
+    out: &mut W,
+) -> Result<(), ReportFault>
+    requires count { length verdicts.now.firsts ≡ length job.now.list.list }
+    ensures { Writes result (W.seen out.old) (W.seen out.new)
+        (whole_report job.now.list.model job.now.circuit job.now.classes verdicts.now.firsts
+        contents) }
+{
+    put_report_in_threads(rt, alloc, job, verdicts, contents.lines, workers, out)?;
+    put_class_coverage(job, verdicts, contents.classes, out)?;
+    Ok(())
+}
+
+/// Writes the lines of the requested faults, and then the coverage line.
+fn put_report_in_threads<R: Threads + Wait, W: Out>(
+    rt: &R,
+    alloc: Global,
+    job: &Job,
+    verdicts: &Verdicts,
+    lines: Lines,
+    workers: u32,
+    out: &mut W,
+) -> Result<(), OutFailed>
+    requires count { length verdicts.now.firsts ≡ length job.now.list.list }
+    ensures { Writes result (W.seen out.old) (W.seen out.new)
+        (report job.now.list.model job.now.circuit verdicts.now.firsts lines) }
+{
+    let (circuit, list) = (job.circuit(), job.faults());
+    put_firsts_in_threads(rt, alloc, circuit, list, verdicts, lines, workers, out)?;
+    put_total(job, verdicts, out)
+}
+
+/// Writes the requested faults of the list, as [`put_firsts`] does and with the same bytes. At most
+/// as many threads as there are workers put the lines together, stretch by stretch, and the
+/// caller's thread is one of them. It also puts together the lines of a thread that doesn't start.
+/// If memory runs out, it writes lines one by one.
+fn put_firsts_in_threads<R: Threads + Wait, W: Out>(
+    rt: &R,
+    alloc: Global,
+    circuit: &Circuit,
+    list: &Faults,
+    verdicts: &Verdicts,
+    lines: Lines,
+    workers: u32,
+    out: &mut W,
+) -> Result<(), OutFailed>
+    requires list { list.now.list ≡ faults list.now.model circuit.now }
+    requires count { length verdicts.now.firsts ≡ length list.now.list }
+    ensures { Writes result (W.seen out.old) (W.seen out.new)
+        (fault_lines lines list.now.model circuit.now verdicts.now.firsts) }
+{
+    if lines == Lines::Omitted {
+        return put_firsts(circuit, list, verdicts, lines, out);
+    }
+    let count = list.count();
+    let threads = threads_for(count, workers);
+    let mut spare = Vec::new(alloc);
+    let mut place = 0;
+    while place < count {
+        let (end, texts) = put_round(
+            rt, alloc, circuit, list, verdicts, lines, place, threads, spare, out,
+        )?;
+        place = end;
+        spare = texts;
+    }
+    Ok(())
+}
+
+/// Returns the number of threads, the caller's included: no more than there are stretches.
+fn threads_for(faults: u32, workers: u32) -> u32 {
+    workers.min(MAX_THREADS).min(faults.div_ceil(FAULTS_OF_A_STRETCH))
+}
+
+/// Returns the end of the stretch that begins with a fault.
+fn end_of(list: &Faults, start: u32) -> u32
+    requires { start ≤ length list.now.list }
+    ensures order { start ≤ result }
+    ensures within { result ≤ length list.now.list }
+    ensures some { start < length list.now.list → start < result }
+{
+    let left = list.count() - start;
+    start + left.min(FAULTS_OF_A_STRETCH)
+}
+
+/// Writes the lines of some faults from one on, and returns the number after that of the last one,
+/// and buffers that the next call can use.
+fn put_round<R: Threads + Wait, W: Out>(
+    rt: &R,
+    alloc: Global,
+    circuit: &Circuit,
+    list: &Faults,
+    verdicts: &Verdicts,
+    lines: Lines,
+    place: u32,
+    threads: u32,
+    spare: Vec<Vec<u8>>,
+    out: &mut W,
+) -> Result<(u32, Vec<Vec<u8>>), OutFailed>
+    requires list { list.now.list ≡ faults list.now.model circuit.now }
+    requires count { length verdicts.now.firsts ≡ length list.now.list }
+    requires some { place < length list.now.list }
+    ensures { PutsSome lines circuit.now list.now.list verdicts.now.firsts place result
+        (W.seen out.old) (W.seen out.new) }
+{
+    let parts = parts_from(rt, alloc, circuit, list, verdicts, lines, place, threads, spare);
+    let (end, texts) = put_parts(alloc, circuit, list, verdicts, lines, place, parts, out)?;
+    if end > place {
+        return Ok((end, texts));
+    }
+    let end = end_of(list, place);
+    put_lines(circuit, list, verdicts, lines, place, end, out)?;
+    Ok((end, texts))
+}
+
+/// Writes stretches as long as each begins where the one before it ends, and returns the place
+/// after them, and their buffers.
+fn put_parts<W: Out>(
+    alloc: Global,
+    circuit: &Circuit,
+    list: &Faults,
+    verdicts: &Verdicts,
+    lines: Lines,
+    place: u32,
+    parts: Vec<Result<Stretch, OutFailed>>,
+    out: &mut W,
+) -> Result<(u32, Vec<Vec<u8>>), OutFailed>
+    requires place { place ≤ length list.now.list }
+    requires parts { HaveStretches lines circuit.now list.now.list verdicts.now.firsts parts.items }
+    ensures { PutsFrom lines circuit.now list.now.list verdicts.now.firsts place result
+        (W.seen out.old) (W.seen out.new) }
+{
+    let mut end = place;
+    let mut texts = Vec::new(alloc);
+    for part in parts {
+        let Ok(stretch) = part else {
+            continue;
+        };
+        let Stretch {
+            start,
+            end: next,
+            text,
+        } = stretch;
+        if start == end {
+            put_all(&text, out)?;
+            end = next;
+        }
+        // A buffer that finds no place is let go.
+        let _kept = texts.push(text);
+    }
+    Ok((end, texts))
+}
+
+/// Returns stretches of the list from a fault on, put together in at most this number of threads,
+/// the caller's included. None is there if memory runs out.
+fn parts_from<R: Threads + Wait>(
+    rt: &R,
+    alloc: Global,
+    circuit: &Circuit,
+    list: &Faults,
+    verdicts: &Verdicts,
+    lines: Lines,
+    place: u32,
+    threads: u32,
+    spare: Vec<Vec<u8>>,
+) -> Vec<Result<Stretch, OutFailed>>
+    requires list { list.now.list ≡ faults list.now.model circuit.now }
+    requires count { length verdicts.now.firsts ≡ length list.now.list }
+    requires place { place ≤ length list.now.list }
+    ensures { HaveStretches lines circuit.now list.now.list verdicts.now.firsts result.items }
+{
+    match share_lines(rt, alloc, circuit, list, verdicts, lines, place, threads, spare) {
+        Ok(parts) => parts,
+        Err(AllocError) => Vec::new(alloc),
+    }
+}
+
+/// Puts the lines of one stretch into a buffer.
+fn stretch_of(
+    circuit: &Circuit,
+    list: &Faults,
+    verdicts: &Verdicts,
+    lines: Lines,
+    start: u32,
+    text: Vec<u8>,
+) -> Result<Stretch, OutFailed>
+    requires list { list.now.list ≡ faults list.now.model circuit.now }
+    requires count { length verdicts.now.firsts ≡ length list.now.list }
+    requires place { start ≤ length list.now.list }
+    ensures { HasStretch lines circuit.now list.now.list verdicts.now.firsts result }
+{
+    let end = end_of(list, start);
+    let mut text = text;
+    text.clear();
+    let mut out = Plain::new(text);
+    put_lines(circuit, list, verdicts, lines, start, end, &mut out)?;
+    let text = out.into_writer();
+    Ok(Stretch { start, end, text })
+}
+
+/// Puts the lines of a stretch for each thread together, each in a thread of its own, and the last
+/// one in the caller's thread. If a thread cannot start, the caller's thread puts its lines
+/// together, and those of the following threads are missing.
+fn share_lines<R: Threads + Wait>(
+    rt: &R,
+    alloc: Global,
+    circuit: &Circuit,
+    list: &Faults,
+    verdicts: &Verdicts,
+    lines: Lines,
+    place: u32,
+    threads: u32,
+    spare: Vec<Vec<u8>>,
+) -> Result<Vec<Result<Stretch, OutFailed>>, AllocError>
+    requires list { list.now.list ≡ faults list.now.model circuit.now }
+    requires count { length verdicts.now.firsts ≡ length list.now.list }
+    requires place { place ≤ length list.now.list }
+    ensures { IfOk result (λ parts.
+        HaveStretches lines circuit.now list.now.list verdicts.now.firsts parts.items) }
+{
+    thread::scope(
+        thread::scope_env(),
+        rt,
+        move |scope| -> Result<Vec<Result<Stretch, OutFailed>>, AllocError>
+            requires list { list.now.list ≡ faults list.now.model circuit.now }
+            requires count { length verdicts.now.firsts ≡ length list.now.list }
+            requires place { place ≤ length list.now.list }
+            ensures { IfOk result (λ parts. HaveStretches lines circuit.entry.now
+                list.entry.now.list verdicts.entry.now.firsts parts.items) }
+        {
+            let mut buffers = spare.into_iter();
+            let mut handles = Vec::with_capacity(alloc, threads as usize)?;
+            let mut start = place;
+            for _thread in 1..threads {
+                let text = buffers.next().unwrap_or(Vec::new(alloc));
+                let promised = LinesOf {
+                    circuit: Snapshot::of(circuit),
+                    list: Snapshot::of(list),
+                    verdicts: Snapshot::of(verdicts),
+                    lines,
+                };
+                let Ok(handle) = scope.spawn_with(
+                    promised,
+                    move || stretch_of(circuit, list, verdicts, lines, start, text),
+                ) else {
+                    break;
+                };
+                handles.push(handle)?;
+                start = end_of(list, start);
+            }
+            let text = buffers.next().unwrap_or(Vec::new(alloc));
+            let own = stretch_of(circuit, list, verdicts, lines, start, text);
+            let Ok(mut parts) = thread::join_promised(rt, handles) else {
+                return Err(AllocError);
+            };
+            parts.push(own)?;
+            Ok(parts)
+        },
+    )
+}
