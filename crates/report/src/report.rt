@@ -295,7 +295,9 @@ pub(crate) fn put_total<W: Out>(
 {
     let signals = job.circuit().signals();
     prove!(signals > 0);
-    put_coverage(verdicts.detected(), verdicts.total(), "", out)
+    let detected = verdicts.detected();
+    let total = verdicts.total();
+    put_coverage(detected, total, "", out)
 }
 
 /// Writes the coverage of the classes, if it is requested.

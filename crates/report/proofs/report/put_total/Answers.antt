@@ -8,4 +8,4 @@ prove-unreachable-requires g c = let some =
     omega (arith, some)
 
 pub returns : goal.returns
-returns g c = rw (← c.total.ensures, ← c.detected.ensures) c.put_coverage.ensures
+returns g c = rw (← c.total-total.ensures, ← c.detected-detected.ensures) c.put_coverage.ensures
