@@ -25,7 +25,11 @@ fn chain(alloc: Global) -> Result<Vec<u8>, AllocError> {
 fn listed(alloc: Global) -> Result<Vec<u8>, AllocError> {
     let mut text = Vec::new(alloc);
     for at in 0..INVERTERS + 1 {
-        let (zero, one) = if at % 2 == 0 { ("0", "none") } else { ("none", "0") };
+        let (zero, one) = if at % 2 == 0 {
+            ("0", "none")
+        } else {
+            ("none", "0")
+        };
         let lines = format!(in alloc; "stem n{at} sa0 {zero}\nstem n{at} sa1 {one}\n")?;
         text.extend_from_slice(lines.as_bytes())?;
     }
@@ -34,17 +38,21 @@ fn listed(alloc: Global) -> Result<Vec<u8>, AllocError> {
 }
 
 /// Returns whether this number of workers lists the chain as it should.
-fn is_listed<R: Threads + Wait>(
-    rt: &R,
-    alloc: Global,
-    workers: u32,
-) -> Result<bool, AllocError> {
+fn is_listed<R: Threads + Wait>(rt: &R, alloc: Global, workers: u32) -> Result<bool, AllocError> {
     let bench = chain(alloc)?;
     let wanted = listed(alloc)?;
     let contents = Contents::of_list(true);
     let model = Model::StuckAt;
     Ok(
-        match report_bytes(rt, alloc, model, bench.as_slice(), b"1\n", workers, contents) {
+        match report_bytes(
+            rt,
+            alloc,
+            model,
+            bench.as_slice(),
+            b"1\n",
+            workers,
+            contents,
+        ) {
             Ok(text) => text.as_slice() == wanted.as_slice(),
             Err(_) => false,
         },

@@ -1,5 +1,6 @@
 -- The lines of a stretch of the fault list, as a thread returns them.
-use Rattle.std.specs.Prelude.{◌≡◌, ◌⊎◌, ℕ, ◌<◌, ◌≤◌, List, ◌++◌, Option, Result, Ok, Err, Some, IfOk}
+use Rattle.std.specs.Prelude.{◌≡◌, ◌⊎◌, ℕ, ◌<◌, ◌≤◌, List, ◌++◌}
+use Rattle.std.specs.Prelude.{Option, Result, Ok, Err, Some, IfOk}
 use Rattle.std.specs.Prelude.{length, slice_get, zip}
 use Rattle.std.specs.List.{flat_map, slice_range}
 use Rattle.bench_net.specs.Statement.{Statement}

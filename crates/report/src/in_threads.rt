@@ -139,7 +139,9 @@ fn put_firsts_in_threads<R: Threads + Wait, W: Out>(
 
 /// Returns the number of threads, the caller's included: no more than there are stretches.
 fn threads_for(faults: u32, workers: u32) -> u32 {
-    workers.min(MAX_THREADS).min(faults.div_ceil(FAULTS_OF_A_STRETCH))
+    workers
+        .min(MAX_THREADS)
+        .min(faults.div_ceil(FAULTS_OF_A_STRETCH))
 }
 
 /// Returns the end of the stretch that begins with a fault.
@@ -173,7 +175,9 @@ fn put_round<R: Threads + Wait, W: Out>(
     ensures { PutsSome lines circuit.now list.now.list verdicts.now.firsts place result
         (W.seen out.old) (W.seen out.new) }
 {
-    let parts = parts_from(rt, alloc, circuit, list, verdicts, lines, place, threads, spare);
+    let parts = parts_from(
+        rt, alloc, circuit, list, verdicts, lines, place, threads, spare,
+    );
     let (end, texts) = put_parts(alloc, circuit, list, verdicts, lines, place, parts, out)?;
     if end > place {
         return Ok((end, texts));
@@ -239,7 +243,9 @@ fn parts_from<R: Threads + Wait>(
     requires place { place ≤ length list.now.list }
     ensures { HaveStretches lines circuit.now list.now.list verdicts.now.firsts result.items }
 {
-    match share_lines(rt, alloc, circuit, list, verdicts, lines, place, threads, spare) {
+    match share_lines(
+        rt, alloc, circuit, list, verdicts, lines, place, threads, spare,
+    ) {
         Ok(parts) => parts,
         Err(AllocError) => Vec::new(alloc),
     }

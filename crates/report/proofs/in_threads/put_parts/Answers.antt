@@ -89,9 +89,14 @@ loop-part-preserved-after-start-end g c =
           (g.W.Out.seen c.args.out.now) (g.W.Out.seen o)) (sym w.out-is)
           (record { order = was.low; within = was.within; taken = was.taken }))
     ] in
-    record { left = λ k d lt.
+    record {
+      left = λ k d lt.
           let h = was.left (suc k) d (omega (arith, lt, step.1)) in
-          subst (HasStretch L C fs firsts) (ap (λ l. get_or l (suc k) d) step.0) h; low = put.order; within = put.within; taken = put.taken }
+          subst (HasStretch L C fs firsts) (ap (λ l. get_or l (suc k) d) step.0) h;
+      low = put.order;
+      within = put.within;
+      taken = put.taken;
+    }
 
 pub loop-part-preserved : goal.loop-part-preserved
 loop-part-preserved g c =
@@ -135,6 +140,11 @@ loop-part-preserved g c =
           (g.W.Out.seen c.args.out.now) (g.W.Out.seen o)) (sym w.out-is)
           (record { order = was.low; within = was.within; taken = was.taken }))
     ] in
-    record { left = λ k d lt.
+    record {
+      left = λ k d lt.
           let h = was.left (suc k) d (omega (arith, lt, step.1)) in
-          subst (HasStretch L C fs firsts) (ap (λ l. get_or l (suc k) d) step.0) h; low = put.order; within = put.within; taken = put.taken }
+          subst (HasStretch L C fs firsts) (ap (λ l. get_or l (suc k) d) step.0) h;
+      low = put.order;
+      within = put.within;
+      taken = put.taken;
+    }

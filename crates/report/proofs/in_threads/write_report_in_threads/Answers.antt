@@ -15,4 +15,5 @@ returns-in_err-put_class_coverage g c =
     c.in_err-put_class_coverage.ensures)
 
 pub returns : goal.returns
-returns g c = takes_more _ _ _ _ _ c.in_ok-put_report_in_threads.ensures c.in_ok-put_class_coverage.ensures
+returns g c = takes_more _ _ _ _ _ c.in_ok-put_report_in_threads.ensures
+    c.in_ok-put_class_coverage.ensures

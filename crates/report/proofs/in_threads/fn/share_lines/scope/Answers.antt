@@ -24,8 +24,7 @@ loop-thread-preserved g c =
           × (h.promise.verdicts.value ≡ c.captures.verdicts.now)
           × (h.promise.lines ≡ c.captures.lines)) old.items c.push.new.self.items c.in-Ok.handle
           c.in_ok-push.ensures.items
-          (λ i e less. was.each i e (omega (arith, less, old.ok.0)))
-          (
+          (λ i e less. was.each i e (omega (arith, less, old.ok.0))) (
             ap (λ (p : LinesOf). p.circuit.value) ok ∙ c.of.ensures,
             ap (λ (p : LinesOf). p.list.value) ok ∙ c.of-in-loop-thread.ensures,
             ap (λ (p : LinesOf). p.verdicts.value) ok ∙ c.of-in-loop-thread-2.ensures,
@@ -68,5 +67,5 @@ returns g c =
     (ap (λ (v : VerdictList). v.firsts) (ap (λ h. h.promise.verdicts.value) is ∙ at.2))
     k.kept) in
     λ i part at. each_and_one (HasStretch L C fs firsts) joined.parts.items
-        c.stretch_of-own.result theirs c.stretch_of-own.ensures i part
-        (subst (λ xs. slice_get xs i ≡ Some part) c.in_ok-push-2.ensures.items at)
+    c.stretch_of-own.result theirs c.stretch_of-own.ensures i part
+    (subst (λ xs. slice_get xs i ≡ Some part) c.in_ok-push-2.ensures.items at)
