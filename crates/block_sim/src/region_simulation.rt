@@ -171,7 +171,7 @@ impl RegionSimulation {
         );
         let all = followed.as_slice();
         let evaluations = &mut changes.evaluations;
-        turn_all(job, view, span, all, pack, evaluations, hits);
+        flip_all(job, view, span, all, pack, evaluations, hits);
         end
     }
 }
@@ -336,7 +336,7 @@ fn add_slot(stems: &mut Vec<Slot>, slot: Slot)
 
 /// Complements the stems of a pack at once, each in lanes of its own, and keeps the first tests of
 /// all classes that came to them.
-fn turn_all(
+fn flip_all(
     job: &Job,
     view: BlockView<'_>,
     span: BlockSpan,
@@ -372,20 +372,20 @@ fn turn_all(
     ensures clear { IsPackClear pack.new }
 {
     if span.first < span.last {
-        turn(job, view, span, Both {}, followed, pack, evaluations, hits);
+        flip_pack(job, view, span, Both {}, followed, pack, evaluations, hits);
         return;
     }
     if span.first % 2 == 0 {
-        turn(job, view, span, Low {}, followed, pack, evaluations, hits);
+        flip_pack(job, view, span, Low {}, followed, pack, evaluations, hits);
         return;
     }
-    turn(job, view, span, High {}, followed, pack, evaluations, hits);
+    flip_pack(job, view, span, High {}, followed, pack, evaluations, hits);
 }
 
 /// Complements the stems of a pack on copies of the tests of a span, and keeps the first tests of
 /// all classes that came to them.
 #[inline(never)]
-fn turn<C: Copies>(
+fn flip_pack<C: Copies>(
     job: &Job,
     view: BlockView<'_>,
     span: BlockSpan,

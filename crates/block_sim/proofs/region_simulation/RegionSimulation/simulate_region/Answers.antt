@@ -42,8 +42,8 @@ gather_regions-end-requires-clause-slots c =
       | inr is ↦ (omega (arith, is), omega (arith, is, eight))
     ]
 
-pub turn_all-requires-clause-places : goal.turn_all-requires-clause-places
-turn_all-requires-clause-places c = λ one there.
+pub flip_all-requires-clause-places : goal.flip_all-requires-clause-places
+flip_all-requires-clause-places c = λ one there.
     let own = c.gather_regions-end.ensures.gathered.at one
     (subst (λ l. Contains l one) c.as_slice-all.ensures.value there) in
     let low = own.1 in
@@ -56,8 +56,8 @@ turn_all-requires-clause-places c = λ one there.
     let whole = ap length c.as_mut_slice-hits.ensures.value in
     omega (arith, low, room, within, few, kept, whole)
 
-pub turn_all-requires-clause-room : goal.turn_all-requires-clause-room
-turn_all-requires-clause-room c =
+pub flip_all-requires-clause-room : goal.flip_all-requires-clause-room
+flip_all-requires-clause-room c =
     let circuit = c.args.job.now.circuit in
     let there = c.view_of-view.result.circuit.now.arranged in
     let view = c.view_of-view.ensures in
@@ -72,29 +72,29 @@ turn_all-requires-clause-room c =
       gates = omega (arith, many, waiting, same);
     }
 
-pub turn_all-requires-clause-clear : goal.turn_all-requires-clause-clear
-turn_all-requires-clause-clear c = record {
+pub flip_all-requires-clause-clear : goal.flip_all-requires-clause-clear
+flip_all-requires-clause-clear c = record {
   deltas = c.self.invariant.clear.deltas;
   gates = c.self.invariant.clear.gates;
 }
 
-pub turn_all-requires-clause-few : goal.turn_all-requires-clause-few
-turn_all-requires-clause-few c =
+pub flip_all-requires-clause-few : goal.flip_all-requires-clause-few
+flip_all-requires-clause-few c =
     let few = c.gather_regions-end.ensures.few in elim c.stems_at_once-room.ensures [
       | inl x ↦ let is = x.0 in inr (omega (arith, is, few), x.1)
       | inr is ↦ inl (omega (arith, is, few))
     ]
 
-pub turn_all-requires-clause-slots : goal.turn_all-requires-clause-slots
-turn_all-requires-clause-slots c =
+pub flip_all-requires-clause-slots : goal.flip_all-requires-clause-slots
+flip_all-requires-clause-slots c =
     subst (λ l. All (IsWithin l) c.gather_regions-end.new.stems.items) (sym
     c.as_slice-all.ensures.value)
     (all_slots (IsWithin c.gather_regions-end.new.followed.items)
     c.gather_regions-end.new.stems.items
     (λ slot there. (c.gather_regions-end.ensures.gathered.each slot there).within))
 
-pub turn_all-requires-clause-stems : goal.turn_all-requires-clause-stems
-turn_all-requires-clause-stems c =
+pub flip_all-requires-clause-stems : goal.flip_all-requires-clause-stems
+flip_all-requires-clause-stems c =
     all_slots (IsHiddenStem c.view_of-view.result.circuit.now.arranged)
     c.gather_regions-end.new.stems.items
     (λ slot there. (c.gather_regions-end.ensures.gathered.each slot there).hidden)
@@ -107,17 +107,17 @@ returns-clause-found c =
     let firsts = c.args.firsts.now in
     let end = c.gather_regions-end.result in
     let items = c.self.inside.hits.items in
-    let last = c.turn_all.new.hits in
+    let last = c.flip_all.new.hits in
     let all = c.as_slice-all.ensures.value in
     let here : span ≡ span_of (length job.tests.tests) c.args.block =
     c.from-span.ensures.span_is
     ∙ ap (λ (t : TestList). span_of (length t.tests) c.args.block) c.tests.ensures.part in
-    let found = c.turn_all.ensures.found rows firsts c.args.from end
+    let found = c.flip_all.ensures.found rows firsts c.args.from end
     (subst (λ l. AreGathered job c.view_of-view.result.circuit.now.arranged span rows firsts
     c.args.from end c.gather_regions-end.new.stems.items l c.gather_regions-end.new.hits) (sym all)
     c.gather_regions-end.ensures.gathered) in
     let long : length last ≡ c.self.inside.hits.len =
-    c.turn_all.ensures.places ∙ (c.gather_regions-end.ensures.places ∙
+    c.flip_all.ensures.places ∙ (c.gather_regions-end.ensures.places ∙
     c.as_mut_slice-hits.ensures.len) in
     subst (HaveFirsts job (span_of (length job.tests.tests) c.args.block) rows firsts c.args.from
     end) (sym (written c.self.inside.hits.len last (drop (length last) items) long))
@@ -126,10 +126,10 @@ returns-clause-found c =
 pub returns-clause-others : goal.returns-clause-others
 returns-clause-others c = λ place outside.
     let items = c.self.inside.hits.items in
-    let last = c.turn_all.new.hits in
+    let last = c.flip_all.new.hits in
     let all = c.as_slice-all.ensures.value in
     let long : length last ≡ c.self.inside.hits.len =
-    c.turn_all.ensures.places ∙ (c.gather_regions-end.ensures.places ∙
+    c.flip_all.ensures.places ∙ (c.gather_regions-end.ensures.places ∙
     c.as_mut_slice-hits.ensures.len) in
     let none : IsFollowedAt c.as_slice-all.result.now place → ⊥ = λ h.
     let own = c.gather_regions-end.ensures.gathered.at h.0 (subst (λ l. Contains l h.0) all h.1) in
@@ -142,7 +142,7 @@ returns-clause-others c = λ place outside.
     ] in
     ap (λ l. slice_get l place)
     (written c.self.inside.hits.len last (drop (length last) items) long)
-    ∙ (c.turn_all.ensures.kept place none ∙ (c.gather_regions-end.ensures.others place outside
+    ∙ (c.flip_all.ensures.kept place none ∙ (c.gather_regions-end.ensures.others place outside
     ∙ (ap (λ l. slice_get l place) c.as_mut_slice-hits.ensures.value
     ∙ ap (λ v. slice_get v.hits place) c.self.view_is)))
 
@@ -150,10 +150,10 @@ pub returns-clause-known : goal.returns-clause-known
 returns-clause-known c = λ place test e.
     let firsts = c.args.firsts.now in
     let items = c.self.inside.hits.items in
-    let last = c.turn_all.new.hits in
+    let last = c.flip_all.new.hits in
     let all = c.as_slice-all.ensures.value in
     let long : length last ≡ c.self.inside.hits.len =
-    c.turn_all.ensures.places ∙ (c.gather_regions-end.ensures.places ∙
+    c.flip_all.ensures.places ∙ (c.gather_regions-end.ensures.places ∙
     c.as_mut_slice-hits.ensures.len) in
     let none : IsFollowedAt c.as_slice-all.result.now place → ⊥ = λ h.
     let idle = c.gather_regions-end.ensures.gathered.idle h.0 (subst (λ l. Contains l h.0) all h.1)
@@ -162,7 +162,7 @@ returns-clause-known c = λ place test e.
     cc in
     ap (λ l. slice_get l place)
     (written c.self.inside.hits.len last (drop (length last) items) long)
-    ∙ (c.turn_all.ensures.kept place none ∙ (c.gather_regions-end.ensures.known place test e
+    ∙ (c.flip_all.ensures.kept place none ∙ (c.gather_regions-end.ensures.known place test e
     ∙ (ap (λ l. slice_get l place) c.as_mut_slice-hits.ensures.value
     ∙ ap (λ v. slice_get v.hits place) c.self.view_is)))
 
@@ -181,7 +181,7 @@ returns-clause-counted c = λ way gates ways active.
     c.from-span.ensures.span_is
     ∙ ap (λ (t : TestList). span_of (length t.tests) c.args.block) c.tests.ensures.part in
     let moved = map (place circuit there) gates in
-    let turned = c.turn_all.ensures.counted moved
+    let turned = c.flip_all.ensures.counted moved
     (λ slot at.
     let own = gathered.each slot at in
     subst (λ s. HasActiveByFlip there tests span s moved) (sym own.stem)

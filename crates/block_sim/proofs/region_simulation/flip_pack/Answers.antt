@@ -9,7 +9,7 @@ use Rattle.block_sim.proofs.ArrangedSignals.{reordered}
 use Rattle.block_sim.proofs.ArrangedWords.{circuit_there}
 use Rattle.block_sim.proofs.PackedRegions.{found_all, pack_active}
 use Rattle.block_sim.proofs.RegionHits.{member_at}
-use Rattle.block_sim.proofs.region_simulation.turn.Goals as goal
+use Rattle.block_sim.proofs.region_simulation.flip_pack.Goals as goal
 
 pub propagate-seen-requires-clause-words : goal.propagate-seen-requires-clause-words
 propagate-seen-requires-clause-words g c =
