@@ -87,8 +87,8 @@ IsFoundOrFollowed job span row place was followed old hits =
     ⊎ ((hits ≡ old) × (one : Followed) × (one.class ≡ row.class) × (one.place ≡ place)
     × HasArrived job span row.stem one.class one.lanes × (followed ≡ was ++ one ∷ []))
 
--- what is kept at each place of those that are followed is told by the lanes in which one of them
--- came and those in which the stem is seen
+-- At each place of a followed class the result has the first of the lanes in which such a class
+-- reached the stem and in which the complemented stem is detected.
 abbrev pub AreConcluded : BlockSpan → ℕ → List Followed → List (Option ℕ) → Type 0
 AreConcluded span seen followed hits = (place : ℕ) → IsFollowedAt followed place
     → (one : Followed) × Contains followed one × (one.place ≡ place)
@@ -214,8 +214,8 @@ pub record IsInSlot (followed : List Followed) (stems : List Slot) (count place 
   pub listed : slice_get followed at ≡ Some one
   pub there : one.place ≡ place
 
--- what is kept at a place is told by the lanes of a class there and by those that its slot has in a
--- wide word
+-- At a place the result has the first of the lanes that a followed class there shares with its slot
+-- of a wide word.
 pub record IsSlotConcluded (layout : Layout) (span : BlockSpan) (seen : ℕ)
     (followed : List Followed) (stems : List Slot) (count : ℕ) (hits : List (Option ℕ))
     (place : ℕ) : Type 0 where

@@ -463,7 +463,7 @@ pub fn propagate<C: Copies>(
     requires room { HasPackRoom circuit.now.arranged pack.old }
     requires clear { IsPackClear pack.old }
     requires slots { AreSlots C.layout circuit.now.arranged pack.old.slots.items followed.now }
-    ensures told { (tests : List Test) (group : ℕ)
+    ensures detected { (tests : List Test) (group : ℕ)
         → AreWords circuit.now.arranged tests group None good.now
         → TellsPack C.layout circuit.now.arranged tests group pack.old.slots.items followed.now
         (number result) }

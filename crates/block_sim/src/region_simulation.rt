@@ -438,7 +438,7 @@ fn conclude_slots<C: Copies>(
     requires slots { length stems.now ≤ slots C.layout }
     requires within { All (IsWithin followed.now) stems.now }
     ensures places { length hits.new ≡ length hits.old }
-    ensures told { AreSlotsConcluded C.layout span (number seen) followed.now stems.now
+    ensures concluded { AreSlotsConcluded C.layout span (number seen) followed.now stems.now
         (length stems.now) hits.old hits.new }
 {
     for slot in 0..stems.len() {

@@ -234,8 +234,8 @@ clear-requires-clause-low g c =
     (c.loop-gate.invariant.state w.0 w.1 c.requires.words.circuit.well_formed
     c.signals-signals.ensures.rising w.2).not_below
 
-pub returns-clause-told : goal.returns-clause-told
-returns-clause-told g c = λ tests group free.
+pub returns-clause-detected : goal.returns-clause-detected
+returns-clause-detected g c = λ tests group free.
     let last = c.loop-gate.invariant in
     subst (λ slots. TellsPack g.C.Copies.layout c.args.circuit.now.arranged tests group slots
     c.args.followed.now (number c.loop-gate.found.seen)) c.as_slice-stems.ensures.value

@@ -53,14 +53,14 @@ returns-clause-found g c = λ rows firsts from to gathered.
     found_all job there c.args.span rows firsts from to stems followed c.args.hits.now last layout
     g.C.Copies.sized wide well (reordered job.circuit there well view.arranged) c.requires.span
     c.requires.slots.few c.requires.copied
-    (c.propagate-seen.ensures.told job.tests.tests (group_of c.args.span) view.fault_free)
+    (c.propagate-seen.ensures.detected job.tests.tests (group_of c.args.span) view.fault_free)
     (subst (λ l. AreSlotsConcluded layout c.args.span wide followed l (length l) c.args.hits.now
     last) (c.as_slice-stems.ensures.value ∙ ap (λ v. v.items) c.propagate-seen.ensures.slots)
-    c.conclude_slots.ensures.told)
+    c.conclude_slots.ensures.concluded)
     gathered
 
 pub returns-clause-kept : goal.returns-clause-kept
-returns-clause-kept g c = λ place none. c.conclude_slots.ensures.told.others place
+returns-clause-kept g c = λ place none. c.conclude_slots.ensures.concluded.others place
     (λ h. none (h.one, member_at c.args.followed.now h.at h.one h.listed, h.there))
 
 pub returns-clause-counted : goal.returns-clause-counted
