@@ -1,7 +1,7 @@
 //! A circuit: the statement list of a bench file, with its tables.
 
 ghost use Rattle.std.specs.Prelude.{◌≡◌, ◌≢◌, ◌<◌, ◌≤◌, ℕ, List, length, map, option_map};
-ghost use Rattle.std.specs.Prelude.{slice_get, string_bytes, IfOk, IfErr, IfSome, IfNone, ◌⊎◌};
+ghost use Rattle.std.specs.Prelude.{slice_get, IfOk, IfErr, IfSome, IfNone, ◌⊎◌};
 ghost use Rattle.bench_net.specs.declared.Kind.{Kind};
 ghost use Rattle.bench_net.specs.Scan.{names, signal, name_of, gate_of, inputs, outputs, cells};
 ghost use Rattle.bench_net.specs.Scan.{sources, sinks};
@@ -10,6 +10,7 @@ ghost use Rattle.bench_net.specs.Level.{HasLevel, HasDepth, IsLevelOrder};
 ghost use Rattle.bench_net.specs.Stored.{statements_of, AreStatements, AreRefused};
 
 use crate::line::{NumberedLine, line_of};
+use crate::name_table::NameTable;
 use crate::read::Lines;
 use crate::tables::{Tables, tables_of};
 use crate::{BenchFault, GateLine, ScanCell, Sink};
@@ -19,13 +20,13 @@ use std::marker::Model;
 /// A circuit, seen by contracts as its statement list.
 #[derive(Drop)]
 pub struct Circuit {
-    names: Vec<String>,
+    names: NameTable,
     lines: Vec<NumberedLine>,
     tables: Tables,
 }
 
 impl Model for Circuit {
-    ghost use Rattle.std.specs.Prelude.{List, map, string_bytes};
+    ghost use Rattle.std.specs.Prelude.{List};
     ghost use Rattle.bench_net.specs.Statement.{Statement};
 
     ghost Value = { List Statement };
@@ -33,11 +34,11 @@ impl Model for Circuit {
     ghost use Rattle.bench_net.specs.Stored.{statements_of};
     ghost use Rattle.bench_net.specs.Inside.{IsInside};
 
-    ghost view = { λ c. statements_of (map string_bytes c.names.items) c.lines.items };
+    ghost view = { λ c. statements_of c.names c.lines.items };
 
     ghost invariant = { λ c.
-        IsInside (statements_of (map string_bytes c.names.items) c.lines.items)
-        (map string_bytes c.names.items) c.lines.items c.tables };
+        IsInside (statements_of c.names c.lines.items)
+        c.names c.lines.items c.tables };
 }
 
 impl Circuit {
@@ -97,7 +98,7 @@ impl Circuit {
         requires { signal < length (names self.now) }
         ensures { Some result.now ≡ name_of self.now signal }
     {
-        self.names[signal as usize].as_str()
+        self.names.get(signal as usize)
     }
 
     /// Returns the gate that drives a signal; `None` for a source.
@@ -148,11 +149,11 @@ impl Circuit {
 /// Makes the circuit of numbered statements. It fails if there are no lines, or if a gate is on a
 /// cycle of gates or fed by one: with the number of the lowest such line.
 pub fn circuit_of(alloc: Global, lines: Lines) -> Result<Circuit, BenchFault>
-    requires { AreStatements (map string_bytes lines.names.items) lines.lines.items lines.at.items }
+    requires { AreStatements lines.names lines.lines.items lines.at.items }
     ensures accepted { IfOk result (λ c.
-        (c ≡ statements_of (map string_bytes lines.names.items) lines.lines.items) × IsCircuit c) }
+        (c ≡ statements_of lines.names lines.lines.items) × IsCircuit c) }
     ensures refused { IfErr result (λ fault. (fault ≡ BenchFault.Memory)
-        ⊎ AreRefused (map string_bytes lines.names.items) lines.lines.items lines.at.items fault) }
+        ⊎ AreRefused lines.names lines.lines.items lines.at.items fault) }
 {
     let Lines { names, lines, at } = lines;
     if lines.is_empty() {

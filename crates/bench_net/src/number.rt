@@ -2,7 +2,6 @@
 
 ghost use Rattle.std.specs.Prelude.{◌≡◌, ◌≢◌, ◌<◌, ◌≤◌, ◌+◌, [], ◌∷◌, ◌++◌, length, map, filter};
 ghost use Rattle.std.specs.Prelude.{false, not, AllPairs, IfOk, IfErr, option_map, if◌then◌else◌};
-ghost use Rattle.std.specs.Prelude.{string_bytes};
 ghost use Rattle.std.specs.List.{All, list_all};
 ghost use Rattle.bench_net.specs.Circuit.{max_signals};
 ghost use Rattle.bench_net.specs.Stored.{name_at};
@@ -168,18 +167,6 @@ pub fn number_lines(
         next += defined_count(&line.statement);
     }
     Ok(lines)
-}
-
-/// Returns the names as strings that own their bytes.
-pub fn own_names(alloc: Global, names: &Names) -> Result<Vec<String>, BenchFault>
-    ensures named { IfOk result (λ owned. map string_bytes owned.items ≡ names_of names.now.keys) }
-    ensures refused { IfErr result (λ fault. fault ≡ BenchFault.Memory) }
-{
-    let mut owned = Vec::with_capacity(alloc, names.len())?;
-    for name in names.iter() {
-        owned.push(String::from_str(alloc, *name)?)?;
-    }
-    Ok(owned)
 }
 
 /// Returns whether a statement defines a name: every statement but an OUTPUT does.

@@ -6,7 +6,7 @@
 //! definitions, and names that are read. A pass ends at the first line with its error, so the
 //! errors come in this order and name the lowest line.
 
-ghost use Rattle.std.specs.Prelude.{◌≡◌, ◌≤◌, length, map, string_bytes};
+ghost use Rattle.std.specs.Prelude.{◌≡◌, ◌≤◌, length};
 ghost use Rattle.std.specs.Prelude.{IfOk, IfErr, IfSome, IfNone};
 ghost use Rattle.text_lines.specs.Lines.{lines};
 ghost use Rattle.bench_net.specs.Circuit.{max_bytes};
@@ -17,9 +17,8 @@ ghost use Rattle.bench_net.specs.Statement.{read};
 ghost use Rattle.bench_net.specs.Stored.{AreLinesOf};
 
 use crate::line::NumberedLine;
-use crate::number::{
-    StatedLine, defined_count, line_numbers, number_lines, number_names, own_names,
-};
+use crate::name_table::NameTable;
+use crate::number::{StatedLine, defined_count, line_numbers, number_lines, number_names};
 use crate::statement::{Stated, read_line};
 use crate::{BenchFault, Limit};
 use std::alloc::Global;
@@ -38,7 +37,7 @@ const MAX_SINKS: usize = 4_000_000;
 /// numbers. Each name has the number, from 1, of the line that defines it.
 #[derive(Drop)]
 pub struct Lines {
-    pub names: Vec<String>,
+    pub names: NameTable,
     pub lines: Vec<NumberedLine>,
     pub at: Vec<u64>,
 }
@@ -96,7 +95,7 @@ fn past_limit(stated: &[StatedLine]) -> Option<Limit>
 /// a file without statements.
 pub fn read_lines(alloc: Global, text: &[u8]) -> Result<Lines, BenchFault>
     ensures lines { IfOk result (λ r.
-        AreLinesOf text.now (map string_bytes r.names.items) r.lines.items r.at.items) }
+        AreLinesOf text.now r.names r.lines.items r.at.items) }
     ensures refused { IfErr result (MayBe text.now) }
 {
     if text.len() > MAX_BYTES {
@@ -110,6 +109,6 @@ pub fn read_lines(alloc: Global, text: &[u8]) -> Result<Lines, BenchFault>
     let numbers = number_names(alloc, stated)?;
     let lines = number_lines(alloc, stated, &numbers)?;
     let at = line_numbers(alloc, stated)?;
-    let names = own_names(alloc, &numbers)?;
+    let names = NameTable::new(alloc, &numbers)?;
     Ok(Lines { names, lines, at })
 }

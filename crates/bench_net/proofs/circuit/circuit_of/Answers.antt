@@ -1,6 +1,5 @@
 use Rattle.std.proofs.lemmas.Result.{err_from_is_err_and}
-use Rattle.std.proofs.Common.{◌∙◌, sym, ◌≡◌, ◌∙◌, List, arith, ap, refl, [], length, map}
-use Rattle.std.proofs.Common.{string_bytes}
+use Rattle.std.proofs.Common.{◌∙◌, sym, ◌≡◌, ◌∙◌, List, arith, ap, refl, [], length}
 use Rattle.std.specs.Prelude.{false, ◌==◌, vec_len}
 use Rattle.std.proofs.lemmas.Bool.{false≢true, eq-eqb}
 use Rattle.bench_net.specs.declared.read.Lines.{Lines}
@@ -9,7 +8,7 @@ use Rattle.bench_net.proofs.CircuitTables.{table_lines, count, circuit, inside, 
 use Rattle.bench_net.proofs.circuit.circuit_of.Goals as goal
 
 abbrev ns_of : Lines → List Name
-ns_of read = map string_bytes read.names.items
+ns_of read = read.names
 
 some : (read : Lines) → false ≡ (vec_len read.lines == 0)
     → vec_len read.lines ≡ length read.lines.items → read.lines.items ≡ [] → ⊥
