@@ -67,6 +67,7 @@ pub fn propagate_fault(
 
 /// Returns the lanes, among the requested ones, in which a fault on a pin of a gate changes the
 /// gate's word.
+#[inline(always)]
 pub fn gate_change(
     view: BlockView<'_>,
     fault: Stuck,

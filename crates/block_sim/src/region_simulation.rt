@@ -121,6 +121,7 @@ impl RegionSimulation {
     /// At most it evaluates the gates on the ways of the open classes to their stems, and once each
     /// the gates that one of the complemented stems makes active: gates with a pin that then sees
     /// another bit, under some test of these blocks.
+    #[inline(never)]
     pub fn simulate_region(
         &mut self,
         job: &Job,

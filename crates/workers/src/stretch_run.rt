@@ -195,6 +195,7 @@ fn run_block<G: Gate>(
 
 /// Simulates the region whose first open class is at a place, unless that is done: this number of
 /// first classes of the list is done. Returns the number of classes that are done then.
+#[inline(always)]
 fn region_from(
     job: &Job,
     rows: &[ListedClass],
