@@ -3,7 +3,7 @@
 use Rattle.std.proofs.Common.{◌≡◌, ◌<◌, ◌≤◌, ℕ, zero, suc, ◌+◌, ◌-◌, ◌≢◌, refl, sym, ◌∙◌, ap, subst}
 use Rattle.std.proofs.Common.{Bool, true, false, not, ◌&&◌, List, [], ◌∷◌, ◌++◌, length, take}
 use Rattle.std.proofs.Common.{arith, inl, inr, ◌⊎◌}
-use Rattle.std.specs.Prelude.{Option, map, slice_index_or, bit_and, bit_xor, nat_lt, if◌then◌else◌}
+use Rattle.std.specs.Prelude.{Option, None, map, slice_index_or, bit_and, bit_xor, nat_lt, if◌then◌else◌}
 use Rattle.std.specs.List.{enumerate_from, list_all}
 use Rattle.std.proofs.lemmas.Bool.{cases_eq, lt-ltb}
 use Rattle.std.proofs.lemmas.List.{take_all, take_more}
@@ -69,6 +69,11 @@ inverted_there true true = refl
 inverted_there true false = refl
 inverted_there false true = refl
 inverted_there false false = refl
+
+pub turned_lane : (word flips k : ℕ) (turn : Bool) → lane flips k ≡ turn
+    → lane (bit_xor word flips) k ≡ inverted_if turn (lane word k)
+turned_lane word flips k turn flip = lane_xor word flips k
+    ∙ (ap (unlike (lane word k)) flip ∙ inverted_there (lane word k) turn)
 
 -- the end of a loop from 1 to the last of n pins
 pub at_last : (n i : ℕ) → 0 < i → i ≤ n → n - 1 ≤ i → (1 ≤ n - 1 → i ≤ n - 1)
@@ -242,6 +247,46 @@ module _ (f : Option Fault) (gate : ℕ) (pins words delta : List ℕ) where
 
     pub folds_odd : (k : ℕ) → k < 128 → lane odd k ≡ is_odd (pin_bits f gate pins words delta k)
     folds_odd k lt = h.odd_is k lt ∙ ap is_odd (whole k)
+
+-- without a fault, and if no signal differs, the pins see the bits of their signals
+pub plain_pins : (gate : ℕ) (pins words : List ℕ) (k : ℕ)
+    → map (λ s. lane (slice_index_or words s 0) k) pins ≡ pin_bits None gate pins words [] k
+plain_pins gate pins words k = go 0 pins
+  where
+    unlike_false : (b : Bool) → b ≡ unlike b false
+    unlike_false true = refl
+    unlike_false false = refl
+
+    plain : (s : ℕ) → lane (slice_index_or words s 0) k ≡ lane (word_over words [] s) k
+    plain s = unlike_false (lane (slice_index_or words s 0) k)
+        ∙ (ap (unlike (lane (slice_index_or words s 0) k)) (sym (lane_zero k))
+        ∙ sym (lane_xor (slice_index_or words s 0) 0 k))
+
+    go : (from : ℕ) (rest : List ℕ)
+        → map (λ s. lane (slice_index_or words s 0) k) rest
+        ≡ map (λ at. under None (line.Pin gate at.0) (lane (word_over words [] at.1) k))
+        (enumerate_from from rest)
+    go from [] = refl
+    go from (s ∷ rest) = rw (plain s, go (from + 1) rest) refl
+
+-- the word of a form, if the fold that it takes is known
+pub chosen_lane : (kind : Kind) (form : GateForm) (bits : List Bool) (core flips k : ℕ)
+    → IsFormOf kind form → lane flips k ≡ form.inverts_output
+    → ((form.is_xor ≡ true) × (lane core k ≡ is_odd bits))
+    ⊎ ((form.is_xor ≡ false)
+    × (lane core k ≡ list_all (λ b. inverted_if form.inverts_inputs b) bits))
+    → lane (bit_xor core flips) k ≡ value kind bits
+chosen_lane kind form bits core flips k formed flip chosen =
+    turned_lane core flips k form.inverts_output flip
+    ∙ (ap (inverted_if form.inverts_output) (go chosen) ∙ formed bits)
+  where
+    go : ((form.is_xor ≡ true) × (lane core k ≡ is_odd bits))
+        ⊎ ((form.is_xor ≡ false)
+        × (lane core k ≡ list_all (λ b. inverted_if form.inverts_inputs b) bits))
+        → lane core k ≡ (if form.is_xor then is_odd bits else list_all
+        (λ b. inverted_if form.inverts_inputs b) bits)
+    go (inl (xor, e)) = e ∙ rw xor refl
+    go (inr (and, e)) = e ∙ rw and refl
 
 -- the word of a form
 pub form_lane : (kind : Kind) (form : GateForm) (bits : List Bool) (all odd core flips k : ℕ)

@@ -102,12 +102,10 @@ fn rows_between(
         (map (λ row. row.items) rows.items)) }
 {
     let signals = circuit.signals() as usize;
-    let same = vec![in alloc; 0u128; signals]?;
-    let mut evaluations = 0;
     let mut rows = Vec::new(alloc);
     for group in first..end {
         let mut row = vec![in alloc; 0u128; signals]?;
-        evaluate(circuit, tests, group, &mut row, &same, &mut evaluations);
+        evaluate(circuit, tests, group, &mut row);
         rows.push(row)?;
     }
     Ok(rows)

@@ -408,13 +408,10 @@ fn follow_on<C: Copies>(
         → lane (number result.kept) k ≡ false
         → AreHitIn C.layout stems.now followed.now (number result.seen) k }
 {
-    let seen = found.seen.or(fresh);
     if fresh.is_none() {
-        return PackFound {
-            kept: found.kept,
-            seen,
-        };
+        return found;
     }
+    let seen = found.seen.or(fresh);
     let kept = kept_after(copies, followed, stems, found.kept, fresh, seen);
     PackFound { kept, seen }
 }

@@ -42,12 +42,11 @@ fn response_rows(alloc: Global, circuit: &FlatCircuit, tests: &Tests) -> Result<
     let signals = circuit.signals() as usize;
     let shown = observed_signals(alloc, circuit.circuit())?;
     let observed = circuit.placed(alloc, &shown)?;
-    let same = vec![in alloc; 0u128; signals]?;
     let mut words = vec![in alloc; 0u128; signals]?;
     let mut row = vec![in alloc; false; observed.len()]?;
     let mut rows = Tests::new(alloc, observed.len() as u32);
     add_groups(
-        alloc, circuit, tests, &observed, &same, &mut words, &mut row, &mut rows,
+        alloc, circuit, tests, &observed, &mut words, &mut row, &mut rows,
     )?;
     let _width = rows.width();
     Ok(rows)
@@ -76,7 +75,6 @@ fn add_groups(
     circuit: &FlatCircuit,
     tests: &Tests,
     observed: &[u32],
-    same: &[u128],
     words: &mut [u128],
     row: &mut [bool],
     rows: &mut Tests,
@@ -86,8 +84,6 @@ fn add_groups(
     requires observed { observed.now
         ≡ map (λ o. signal circuit.now.arranged o.1) (observers circuit.now.arranged) }
     requires within { All (λ s. s < length (names circuit.now.arranged)) observed.now }
-    requires same { All (λ word. word ≡ 0) same.now }
-    requires room { length same.now ≡ length (names circuit.now.arranged) }
     requires words { length words.old ≡ length (names circuit.now.arranged) }
     requires row { length row.old ≡ length observed.now }
     requires width { rows.old.width ≡ length observed.now }
@@ -95,9 +91,8 @@ fn add_groups(
     ensures { OnOk result (AreResponses circuit.now.arranged tests.now.tests rows.new) }
 {
     let _width = tests.width();
-    let mut evaluations = 0;
     for group in 0..tests.blocks().div_ceil(2) {
-        evaluate(circuit, tests, group, words, same, &mut evaluations);
+        evaluate(circuit, tests, group, words);
         let size = (tests.count() - 128 * group).min(128);
         add_lanes(alloc, observed, words, size, row, rows)?;
     }

@@ -4,7 +4,7 @@
 //! Bit `k` of a word is the bit of test `128 * group + k`. A gate is evaluated on a whole word at
 //! once (parallel-pattern simulation: Bushnell and Agrawal, Essentials of Electronic Testing).
 
-ghost use Rattle.std.specs.Prelude.{◌≡◌, ℕ, ◌+◌, ◌-◌, ◌^◌, ◌<◌, ◌≤◌, All, min, length, None};
+ghost use Rattle.std.specs.Prelude.{◌≡◌, ℕ, ◌+◌, ◌-◌, ◌^◌, ◌<◌, ◌≤◌, All, min, length, map, None};
 ghost use Rattle.std.specs.Prelude.{Some, slice_get, slice_index_or};
 ghost use Rattle.std.specs.List.{list_all};
 ghost use Rattle.bench_net.specs.Statement.{Name};
@@ -147,7 +147,7 @@ fn folds_of(
     }
 }
 
-/// Evaluates a gate on a word, and counts it. No other function evaluates a gate.
+/// Evaluates a gate on a word, with differing signals or a fault on a pin, and counts it.
 #[inline(always)]
 pub fn evaluate_gate(
     gate: FlatGate<'_>,
@@ -214,54 +214,99 @@ fn source_word(circuit: &FlatCircuit, tests: &Tests, group: u32, signal: u32) ->
     }
 }
 
+/// Returns the lanes in which the signals that a gate reads are all 1, each inverted if its form
+/// inverts inputs. It reads the first pin and the last apart from the others, as [`folds_of`] does.
+#[inline(always)]
+fn all_of(gate: FlatGate<'_>, words: &[u128]) -> u128
+    requires some { 0 < length gate.pins.now }
+    requires pins_in { All (λ p. p < length words.now) gate.pins.now }
+    requires ends { HasEnds gate.pins.now gate.first gate.last }
+    ensures { (k : ℕ) → k < 128 → lane result k
+        ≡ list_all (λ b. inverted_if gate.entry.form.inverts_inputs b)
+        (map (λ s. lane (slice_index_or words.now s 0) k) gate.entry.pins.now) }
+{
+    let inverted = in_each_lane(gate.form.inverts_inputs);
+    let last = gate.pins.len() - 1;
+    let mut all = words[gate.first as usize] ^ inverted;
+    for place in 1..last {
+        all &= words[gate.pins[place] as usize] ^ inverted;
+    }
+    all & (words[gate.last as usize] ^ inverted)
+}
+
+/// Returns the lanes in which an odd number of the signals that a gate reads are 1.
+#[inline(always)]
+fn odd_of(gate: FlatGate<'_>, words: &[u128]) -> u128
+    requires some { 0 < length gate.pins.now }
+    requires pins_in { All (λ p. p < length words.now) gate.pins.now }
+    requires ends { HasEnds gate.pins.now gate.first gate.last }
+    ensures { (k : ℕ) → k < 128 → lane result k
+        ≡ is_odd (map (λ s. lane (slice_index_or words.now s 0) k) gate.entry.pins.now) }
+{
+    let last = gate.pins.len() - 1;
+    let mut odd = words[gate.first as usize];
+    for place in 1..last {
+        odd ^= words[gate.pins[place] as usize];
+    }
+    if last == 0 {
+        return odd;
+    }
+    odd ^ words[gate.last as usize]
+}
+
+/// Returns the fault-free word of a gate's signal, from those of the signals that it reads.
+#[inline(always)]
+fn gate_word(gate: FlatGate<'_>, words: &[u128]) -> u128
+    requires form { IsFormOf gate.kind gate.form }
+    requires some { 0 < length gate.pins.now }
+    requires pins_in { All (λ p. p < length words.now) gate.pins.now }
+    requires ends { HasEnds gate.pins.now gate.first gate.last }
+    ensures { (k : ℕ) → k < 128 → lane result k ≡ value gate.entry.kind
+        (map (λ s. lane (slice_index_or words.now s 0) k) gate.entry.pins.now) }
+{
+    let word = if gate.form.is_xor {
+        odd_of(gate, words)
+    } else {
+        all_of(gate, words)
+    };
+    word ^ in_each_lane(gate.form.inverts_output)
+}
+
 /// Returns the fault-free word of one signal, from the tests or from the words of the signals that
-/// its gate reads. No word differs from itself: `same` is all 0.
+/// its gate reads.
 fn signal_word(
     circuit: &FlatCircuit,
     tests: &Tests,
     group: u32,
     words: &[u128],
-    same: &[u128],
     signal: u32,
-    evaluations: &mut u64,
 ) -> u128
     requires circuit { IsCircuit circuit.now.arranged }
     requires signal { signal < length (names circuit.now.arranged) }
     requires words { length (names circuit.now.arranged) ≤ length words.now }
-    requires room { length words.now ≤ length same.now }
-    requires same { All (λ word. word ≡ 0) same.now }
     requires width { tests.now.width ≡ length (sources circuit.now.arranged) }
     requires group { group < groups (length tests.now.tests) }
     ensures { IsSignalWord circuit.now.arranged tests.now.tests group None words.now signal
         result }
 {
     match circuit.gate_of(signal) {
-        Some(gate) => evaluate_gate(gate, signal, None, words, same, evaluations),
+        Some(gate) => gate_word(gate, words),
         None => source_word(circuit, tests, group, signal),
     }
 }
 
 /// Writes the fault-free word of every signal on a group, at the signal's place. It goes in level
 /// order, so a gate comes after the signals that it reads.
-pub fn evaluate(
-    circuit: &FlatCircuit,
-    tests: &Tests,
-    group: u32,
-    words: &mut [u128],
-    same: &[u128],
-    evaluations: &mut u64,
-)
+pub fn evaluate(circuit: &FlatCircuit, tests: &Tests, group: u32, words: &mut [u128])
     requires circuit { IsCircuit circuit.now.arranged }
     requires words { length (names circuit.now.arranged) ≤ length words.old }
-    requires room { length words.old ≤ length same.now }
-    requires same { All (λ word. word ≡ 0) same.now }
     requires width { tests.now.width ≡ length (sources circuit.now.arranged) }
     requires group { group < groups (length tests.now.tests) }
     ensures words { AreWords circuit.now.arranged tests.now.tests group None words.new }
     ensures room { length words.new ≡ length words.old }
 {
     for signal in 0..circuit.signals() {
-        let word = signal_word(circuit, tests, group, words, same, signal, evaluations);
+        let word = signal_word(circuit, tests, group, words, signal);
         words[signal as usize] = word;
     }
 }

@@ -1,14 +1,19 @@
-use Rattle.std.proofs.Common.{◌≡◌, ◌∙◌, ap}
+use Rattle.std.proofs.Common.{◌≡◌, ◌∙◌, ◌||◌, Bool, true, false, ap, refl, sym}
 use Rattle.wide_words.specs.Wide.{number}
 use Rattle.block_sim.specs.Words.{lane}
-use Rattle.block_sim.proofs.Lanes.{lane_or}
+use Rattle.block_sim.proofs.Lanes.{lane_or, lane_zero}
 use Rattle.block_sim.proofs.PackKept.{kept_hit, kept_narrow}
 use Rattle.block_sim.proofs.pack.follow_on.Goals as goal
 
 pub returns-then-is_none-clause-seen : goal.returns-then-is_none-clause-seen
 returns-then-is_none-clause-seen g c = λ k lt.
-    ap (λ w. lane w k) c.or-seen.ensures ∙ lane_or (number c.args.found.seen) (number c.args.fresh)
-    k
+    with_none (lane (number c.args.found.seen) k)
+    ∙ ap (λ b. lane (number c.args.found.seen) k || b) (sym (lane_zero k)
+    ∙ ap (λ w. lane w k) (sym (c.is_none.ensures.0 c.if-is_none.true)))
+  where
+    with_none : (b : Bool) → b ≡ (b || false)
+    with_none true = refl
+    with_none false = refl
 
 pub returns-clause-seen : goal.returns-clause-seen
 returns-clause-seen g c = λ k lt.

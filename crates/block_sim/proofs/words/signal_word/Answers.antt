@@ -1,37 +1,34 @@
-use Rattle.std.proofs.Common.{refl, sym, arith}
+use Rattle.std.proofs.Common.{◌∙◌, [], refl, sym, ap, arith}
 use Rattle.std.specs.Prelude.{None}
-use Rattle.event_queue.proofs.Public.{index_zero}
-use Rattle.block_sim.proofs.Equations.{pins_within, pins_few, pins_some, source_equation}
-use Rattle.block_sim.proofs.Equations.{gate_equation}
+use Rattle.fault_model.specs.Solution.{value}
+use Rattle.block_sim.proofs.Equations.{gate_equation, pins_within, pins_some, source_equation}
+use Rattle.block_sim.proofs.GateLanes.{plain_pins}
 use Rattle.block_sim.proofs.words.signal_word.Goals as goal
 
-pub evaluate_gate-requires-clause-pins_in : goal.evaluate_gate-requires-clause-pins_in
-evaluate_gate-requires-clause-pins_in c =
+pub gate_word-requires-clause-pins_in : goal.gate_word-requires-clause-pins_in
+gate_word-requires-clause-pins_in c =
     λ k d lt.
     let within = pins_within c.args.circuit.now.arranged c.args.signal c.in-Some.gate.kind
     c.in-Some.gate.pins.now c.requires.circuit.well_formed (sym c.in-Some.ensures.gate) k d
     lt in
     omega (arith, within, c.requires.words)
 
-pub evaluate_gate-requires-clause-some : goal.evaluate_gate-requires-clause-some
-evaluate_gate-requires-clause-some c =
+pub gate_word-requires-clause-some : goal.gate_word-requires-clause-some
+gate_word-requires-clause-some c =
     pins_some c.args.circuit.now.arranged c.args.signal c.in-Some.gate.kind c.in-Some.gate.pins.now
-    c.requires.circuit (sym c.in-Some.ensures.gate)
-
-pub evaluate_gate-requires-clause-few : goal.evaluate_gate-requires-clause-few
-evaluate_gate-requires-clause-few c =
-    pins_few c.args.circuit.now.arranged c.args.signal c.in-Some.gate.kind c.in-Some.gate.pins.now
     c.requires.circuit (sym c.in-Some.ensures.gate)
 
 pub returns-in-Some : goal.returns-in-Some
 returns-in-Some c =
     gate_equation c.args.circuit.now.arranged c.args.tests.now.tests c.args.group None
     c.args.words.now
-    c.args.signal c.evaluate_gate.result c.evaluate_gate.result
+    c.args.signal c.gate_word.result c.gate_word.result
     c.requires.circuit.well_formed (λ k lt. refl) c.in-Some.gate.kind c.in-Some.gate.pins.now
-    c.args.same.now (λ t. index_zero c.args.same.now t c.requires.same)
+    [] (λ t. refl)
     (sym c.in-Some.ensures.gate)
-    c.evaluate_gate.ensures.value
+    (λ k lt. c.gate_word.ensures k lt
+    ∙ ap (value c.in-Some.gate.kind)
+    (plain_pins c.args.signal c.in-Some.gate.pins.now c.args.words.now k))
 
 pub returns-in-None : goal.returns-in-None
 returns-in-None c =
