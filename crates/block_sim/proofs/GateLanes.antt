@@ -3,7 +3,7 @@
 use Rattle.std.proofs.Common.{◌≡◌, ◌<◌, ◌≤◌, ℕ, zero, suc, ◌+◌, ◌-◌, ◌≢◌, refl, sym, ◌∙◌, ap, subst}
 use Rattle.std.proofs.Common.{Bool, true, false, not, ◌&&◌, List, [], ◌∷◌, ◌++◌, length, take}
 use Rattle.std.proofs.Common.{arith, inl, inr, ◌⊎◌}
-use Rattle.std.specs.Prelude.{Option, None, map, slice_index_or, bit_and, bit_xor, nat_lt, if◌then◌else◌}
+use Rattle.std.specs.Prelude.{Option, None, Some, map, slice_index_or, bit_and, bit_xor, nat_lt, if◌then◌else◌}
 use Rattle.std.specs.List.{enumerate_from, list_all}
 use Rattle.std.proofs.lemmas.Bool.{cases_eq, lt-ltb}
 use Rattle.std.proofs.lemmas.List.{take_all, take_more}
@@ -12,6 +12,7 @@ use Rattle.bench_net.specs.declared.Kind.{Kind}
 use Rattle.fault_model.specs.declared.Line.TheVariants as line
 use Rattle.fault_model.specs.Fault.{Fault}
 use Rattle.fault_model.specs.Solution.{under, is_odd, value}
+use Rattle.patterns.specs.Least.{below, from_up}
 use Rattle.block_sim.specs.declared.gate_form.GateForm.{GateForm}
 use Rattle.block_sim.specs.GateForms.{IsFormOf, inverted_if}
 use Rattle.block_sim.specs.Words.{lane, word_over, pin_bits}
@@ -248,26 +249,73 @@ module _ (f : Option Fault) (gate : ℕ) (pins words delta : List ℕ) where
     pub folds_odd : (k : ℕ) → k < 128 → lane odd k ≡ is_odd (pin_bits f gate pins words delta k)
     folds_odd k lt = h.odd_is k lt ∙ ap is_odd (whole k)
 
+unlike_false : (b : Bool) → b ≡ unlike b false
+unlike_false true = refl
+unlike_false false = refl
+
+-- the bit of a signal, if no signal differs
+pub plain_word : (words : List ℕ) (s k : ℕ)
+    → lane (slice_index_or words s 0) k ≡ lane (word_over words [] s) k
+plain_word words s k = unlike_false (lane (slice_index_or words s 0) k)
+    ∙ (ap (unlike (lane (slice_index_or words s 0) k)) (sym (lane_zero k))
+    ∙ sym (lane_xor (slice_index_or words s 0) 0 k))
+
 -- without a fault, and if no signal differs, the pins see the bits of their signals
 pub plain_pins : (gate : ℕ) (pins words : List ℕ) (k : ℕ)
     → map (λ s. lane (slice_index_or words s 0) k) pins ≡ pin_bits None gate pins words [] k
 plain_pins gate pins words k = go 0 pins
   where
-    unlike_false : (b : Bool) → b ≡ unlike b false
-    unlike_false true = refl
-    unlike_false false = refl
-
-    plain : (s : ℕ) → lane (slice_index_or words s 0) k ≡ lane (word_over words [] s) k
-    plain s = unlike_false (lane (slice_index_or words s 0) k)
-        ∙ (ap (unlike (lane (slice_index_or words s 0) k)) (sym (lane_zero k))
-        ∙ sym (lane_xor (slice_index_or words s 0) 0 k))
-
     go : (from : ℕ) (rest : List ℕ)
         → map (λ s. lane (slice_index_or words s 0) k) rest
         ≡ map (λ at. under None (line.Pin gate at.0) (lane (word_over words [] at.1) k))
         (enumerate_from from rest)
     go from [] = refl
-    go from (s ∷ rest) = rw (plain s, go (from + 1) rest) refl
+    go from (s ∷ rest) = rw (plain_word words s k, go (from + 1) rest) refl
+
+-- words that differ nowhere change no pin
+pub clear_pins : (f : Option Fault) (gate : ℕ) (pins words delta : List ℕ) (k : ℕ)
+    → ((s : ℕ) → slice_index_or delta s 0 ≡ 0)
+    → pin_bits f gate pins words delta k ≡ pin_bits f gate pins words [] k
+clear_pins f gate pins words delta k clear = go 0 pins
+  where
+    same : (s : ℕ) → word_over words delta s ≡ word_over words [] s
+    same s = ap (bit_xor (slice_index_or words s 0)) (clear s)
+
+    go : (from : ℕ) (rest : List ℕ)
+        → map (λ at. under f (line.Pin gate at.0) (lane (word_over words delta at.1) k))
+        (enumerate_from from rest)
+        ≡ map (λ at. under f (line.Pin gate at.0) (lane (word_over words [] at.1) k))
+        (enumerate_from from rest)
+    go from [] = refl
+    go from (s ∷ rest) = rw (same s, go (from + 1) rest) refl
+
+-- the bit that a pin sees, by its place and the signal that it reads, if no signal differs
+abbrev pub pin_seen : Fault → ℕ → List ℕ → ℕ → ℕ → ℕ → Bool
+pin_seen f gate words k place s = under (Some f) (line.Pin gate place) (lane (word_over words [] s) k)
+
+abbrev pub pin_bit : Fault → ℕ → List ℕ → List ℕ → ℕ → ℕ → Bool
+pin_bit f gate pins words k place = pin_seen f gate words k place (slice_index_or pins place 0)
+
+pub pins_by_place : (f : Fault) (gate : ℕ) (pins words : List ℕ) (k : ℕ)
+    → pin_bits (Some f) gate pins words [] k
+    ≡ map (pin_bit f gate pins words k) (below (length pins))
+pins_by_place f gate pins words k = go 0 pins (λ i lt. ap (λ n. slice_index_or pins n 0) (omega arith))
+  where
+    go : (from : ℕ) (rest : List ℕ)
+        → ((i : ℕ) → i < length rest → slice_index_or rest i 0 ≡ slice_index_or pins (from + i) 0)
+        → map (λ at. under (Some f) (line.Pin gate at.0) (lane (word_over words [] at.1) k))
+        (enumerate_from from rest)
+        ≡ map (pin_bit f gate pins words k) (from_up from (length rest))
+    go from [] same = refl
+    go from (s ∷ rest) same =
+        let here : s ≡ slice_index_or pins from 0 = same 0 (omega arith)
+        ∙ ap (λ n. slice_index_or pins n 0) (omega arith) in
+        ap (λ x. pin_seen f gate words k from x
+        ∷ map (λ at. under (Some f) (line.Pin gate at.0) (lane (word_over words [] at.1) k))
+        (enumerate_from (from + 1) rest)) here
+        ∙ ap (λ more. pin_bit f gate pins words k from ∷ more)
+        (go (from + 1) rest (λ i lt. same (suc i) (omega (arith, lt))
+        ∙ ap (λ n. slice_index_or pins n 0) (omega arith)))
 
 -- the word of a form, if the fold that it takes is known
 pub chosen_lane : (kind : Kind) (form : GateForm) (bits : List Bool) (core flips k : ℕ)

@@ -5,6 +5,7 @@ ghost use Rattle.std.specs.Prelude.{◌≡◌, ℕ, ◌+◌, ◌<◌, ◌≤◌,
 ghost use Rattle.std.specs.Prelude.{length, bit_xor, slice_index_or};
 ghost use Rattle.bench_net.specs.declared.Kind.{Kind};
 ghost use Rattle.bench_net.specs.Scan.{names, gate_of};
+ghost use Rattle.fault_model.specs.declared.Line.TheVariants.{Pin};
 ghost use Rattle.fault_model.specs.Fault.{faults};
 ghost use Rattle.fault_model.specs.Solution.{Test, value};
 ghost use Rattle.block_sim.specs.PropagationState.{HasRoomFor, IsAsLarge, IsClear};
@@ -17,7 +18,7 @@ use crate::block_view::BlockView;
 use crate::line_signals::carried;
 use crate::propagation::{Extent, propagate};
 use crate::propagation_state::PropagationState;
-use crate::words::{Stuck, evaluate_gate};
+use crate::words::{Stuck, evaluate_stuck};
 use fault_model::Line;
 
 /// Returns the lanes, among the requested ones, in which some observer shows another bit with the
@@ -57,8 +58,8 @@ pub fn propagate_fault(
     }
     match fault.line {
         Line::Stem(start) => propagate(view, extent, start, excited, changes),
-        Line::Pin { gate, pin: _ } => {
-            let diff = gate_change(view, fault, gate, changes);
+        Line::Pin { gate, pin } => {
+            let diff = gate_change(view, fault, gate, pin, changes);
             propagate(view, extent, gate, diff, changes)
         }
         Line::Data { .. } | Line::Out { .. } => excited,
@@ -72,10 +73,13 @@ pub fn gate_change(
     view: BlockView<'_>,
     fault: Stuck,
     gate: u32,
+    pin: u32,
     changes: &mut PropagationState,
 ) -> u128
     requires view { HasWords view.circuit.now.arranged view.good.now }
     requires room { HasRoomFor view.circuit.now.arranged changes.old }
+    requires clear { IsClear changes.old }
+    requires line { fault.line ≡ Pin gate pin }
     requires gate { gate < length (names view.circuit.now.arranged) }
     requires driven { (line : Kind × List ℕ)
         × (gate_of view.circuit.now.arranged gate ≡ Some line) }
@@ -95,7 +99,7 @@ pub fn gate_change(
         Some(driver) => {
             let delta = changes.overlay.words();
             let evaluations = &mut changes.evaluations;
-            let word = evaluate_gate(driver, gate, Some(fault), view.good, delta, evaluations);
+            let word = evaluate_stuck(driver, gate, pin, fault, view.good, delta, evaluations);
             (word ^ view.good[gate as usize]) & view.lanes
         }
         None => unreachable!(),

@@ -170,8 +170,8 @@ pub fn set_out(view: BlockView<'_>, origin: Origin, changes: &mut PropagationSta
                 lanes: excited,
             })
         }
-        Line::Pin { gate, pin: _ } => {
-            let lanes = gate_change(view, fault, gate, changes);
+        Line::Pin { gate, pin } => {
+            let lanes = gate_change(view, fault, gate, pin, changes);
             Reach::Stem(Arrival {
                 signal: gate,
                 lanes,

@@ -5,13 +5,14 @@
 //! once (parallel-pattern simulation: Bushnell and Agrawal, Essentials of Electronic Testing).
 
 ghost use Rattle.std.specs.Prelude.{◌≡◌, ℕ, ◌+◌, ◌-◌, ◌^◌, ◌<◌, ◌≤◌, All, min, length, map, None};
-ghost use Rattle.std.specs.Prelude.{Some, slice_get, slice_index_or};
+ghost use Rattle.std.specs.Prelude.{Some, [], slice_get, slice_index_or};
 ghost use Rattle.std.specs.List.{list_all};
 ghost use Rattle.bench_net.specs.Statement.{Name};
 ghost use Rattle.bench_net.specs.Scan.{names, sources, name_of, gate_of};
 ghost use Rattle.bench_net.specs.Circuit.{IsCircuit, max_sinks};
 ghost use Rattle.fault_model.specs.declared.Line.TheVariants.{Pin};
 ghost use Rattle.fault_model.specs.Detection.{name_on};
+ghost use Rattle.fault_model.specs.Fault.{Fault};
 ghost use Rattle.fault_model.specs.Reordered.{moved_fault};
 ghost use Rattle.fault_model.specs.Solution.{is_odd, value, under};
 ghost use Rattle.patterns.specs.Tests.{IsWord, blocks};
@@ -176,6 +177,80 @@ pub fn evaluate_gate(
     } else {
         folds.all
     };
+    word ^ in_each_lane(gate.form.inverts_output)
+}
+
+/// Returns the word that a pin of a gate reads if one pin is stuck, and no signal differs.
+#[inline(always)]
+fn word_at_pin(place: usize, read: u32, pin: u32, stuck: u128, words: &[u128]) -> u128
+    requires place { place < 2 ^ 32 }
+    requires read { read < length words.now }
+    ensures { (f : Fault) (signal k : ℕ) → f.line ≡ Pin signal pin → lane stuck k ≡ f.stuck
+        → lane result k ≡ under (Some f) (Pin signal place)
+        (lane (word_over words.now [] read) k) }
+{
+    if place as u32 == pin {
+        stuck
+    } else {
+        words[read as usize]
+    }
+}
+
+/// Returns the AND of the words that the pins of a gate read if one of them is stuck, each inverted
+/// if the form inverts inputs. No signal differs.
+#[inline(always)]
+fn all_with_stuck(gate: FlatGate<'_>, pin: u32, stuck: u128, words: &[u128]) -> u128
+    requires some { 0 < length gate.pins.now }
+    requires pins_in { All (λ p. p < length words.now) gate.pins.now }
+    requires few { length gate.pins.now ≤ max_sinks }
+    requires ends { HasEnds gate.pins.now gate.first gate.last }
+    ensures { (f : Fault) (signal k : ℕ) → k < 128 → f.line ≡ Pin signal pin
+        → lane stuck k ≡ f.stuck → lane result k
+        ≡ list_all (λ b. inverted_if gate.entry.form.inverts_inputs b)
+        (pin_bits (Some f) signal gate.entry.pins.now words.now [] k) }
+{
+    let inverted = in_each_lane(gate.form.inverts_inputs);
+    let last = gate.pins.len() - 1;
+    let mut all = word_at_pin(0, gate.first, pin, stuck, words) ^ inverted;
+    for place in 1..last {
+        let word = word_at_pin(place, gate.pins[place], pin, stuck, words);
+        all &= word ^ inverted;
+    }
+    let word = word_at_pin(last, gate.last, pin, stuck, words);
+    all & (word ^ inverted)
+}
+
+/// Evaluates a gate on a word with a fault on one of its pins, while no signal differs, and counts
+/// it. An XOR is evaluated as [`evaluate_gate`] does.
+#[inline(always)]
+pub fn evaluate_stuck(
+    gate: FlatGate<'_>,
+    signal: u32,
+    pin: u32,
+    fault: Stuck,
+    words: &[u128],
+    delta: &[u128],
+    evaluations: &mut u64,
+) -> u128
+    requires form { IsFormOf gate.kind gate.form }
+    requires some { 0 < length gate.pins.now }
+    requires pins_in { All (λ p. p < length words.now) gate.pins.now }
+    requires same { length words.now ≤ length delta.now }
+    requires few { length gate.pins.now ≤ max_sinks }
+    requires ends { HasEnds gate.pins.now gate.first gate.last }
+    requires line { fault.line ≡ Pin signal pin }
+    requires clear { All (λ word. word ≡ 0) delta.now }
+    ensures value { (k : ℕ) → k < 128
+        → lane result k ≡ value gate.entry.kind
+        (pin_bits (Some (stuck_fault fault)) signal gate.entry.pins.now words.now delta.now k) }
+    ensures grown { evaluations.old ≤ evaluations.new }
+    ensures counted { evaluations.new ≡ min (evaluations.old + 1) (2 ^ 64 - 1) }
+{
+    if gate.form.is_xor {
+        return evaluate_gate(gate, signal, Some(fault), words, delta, evaluations);
+    }
+    *evaluations = evaluations.saturating_add(1);
+    let word = all_with_stuck(gate, pin, fault.word(), words);
     word ^ in_each_lane(gate.form.inverts_output)
 }
 
