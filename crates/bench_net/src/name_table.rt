@@ -17,7 +17,7 @@ use std::str;
 pub struct NameTable {
     /// The bytes of all names.
     text: Vec<u8>,
-    /// For each name the place in the text behind its last byte.
+    /// For each name the place in the text after its last byte.
     ends: Vec<usize>,
 }
 
@@ -61,7 +61,7 @@ impl NameTable {
     }
 }
 
-/// Returns the bytes of names, one after another, and for each name the place behind its last byte.
+/// Returns the bytes of names, one after another, and for each name the place after its last byte.
 fn joined(alloc: Global, names: &Names) -> Result<(Vec<u8>, Vec<usize>), BenchFault>
     ensures named { IfOk result (λ r. cut_names r.0.items 0 r.1.items ≡ names_of names.now.keys) }
     ensures ends { IfOk result (λ r. AreEnds (length r.0.items) 0 r.1.items) }
@@ -77,7 +77,7 @@ fn joined(alloc: Global, names: &Names) -> Result<(Vec<u8>, Vec<usize>), BenchFa
     Ok((text, ends))
 }
 
-/// Returns the place in the text where a name begins: behind the name before it.
+/// Returns the place in the text where a name begins: after the name before it.
 fn start_of(ends: &[usize], place: usize) -> usize
     requires { place < length ends.now }
     ensures { result ≡ start_of 0 ends.now place }

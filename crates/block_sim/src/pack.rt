@@ -29,6 +29,7 @@ ghost use Rattle.block_sim.specs.Words.{AreWords, HasWords, lane};
 use crate::block_lanes::in_each_lane;
 use crate::flat::{FlatCircuit, FlatGate};
 use crate::propagation::{Followed, below_hits, schedule_fanout};
+use crate::words::count_evaluation;
 use event_queue::Places;
 use std::alloc::{AllocError, Global};
 use wide_words::{Copies, Wide, WideOverlay};
@@ -433,15 +434,6 @@ fn next_gate(kept: Wide, from: u32, waiting: &mut Places) -> Option<u32>
         return None;
     }
     waiting.take(from)
-}
-
-/// Counts an evaluation of a gate. The count stays at the greatest u64.
-#[inline(always)]
-fn count_evaluation(evaluations: &mut u64)
-    ensures few { evaluations.new ≤ evaluations.old + 1 }
-    ensures grown { evaluations.old ≤ evaluations.new }
-{
-    *evaluations = evaluations.saturating_add(1);
 }
 
 /// Complements the stems of a pack, none of which is observed, and returns lanes in which an

@@ -148,6 +148,16 @@ fn folds_of(
     }
 }
 
+/// Counts an evaluation of a gate. The count stays at the greatest u64.
+#[inline(always)]
+pub fn count_evaluation(evaluations: &mut u64)
+    ensures few { evaluations.new ≤ evaluations.old + 1 }
+    ensures grown { evaluations.old ≤ evaluations.new }
+    ensures counted { evaluations.new ≡ min (evaluations.old + 1) (2 ^ 64 - 1) }
+{
+    *evaluations = evaluations.saturating_add(1);
+}
+
 /// Evaluates a gate on a word, with differing signals or a fault on a pin, and counts it.
 #[inline(always)]
 pub fn evaluate_gate(
@@ -170,7 +180,7 @@ pub fn evaluate_gate(
     ensures grown { evaluations.old ≤ evaluations.new }
     ensures counted { evaluations.new ≡ min (evaluations.old + 1) (2 ^ 64 - 1) }
 {
-    *evaluations = evaluations.saturating_add(1);
+    count_evaluation(evaluations);
     let folds = folds_of(gate, signal, fault, words, delta);
     let word = if gate.form.is_xor {
         folds.odd
@@ -249,7 +259,7 @@ pub fn evaluate_stuck(
     if gate.form.is_xor {
         return evaluate_gate(gate, signal, Some(fault), words, delta, evaluations);
     }
-    *evaluations = evaluations.saturating_add(1);
+    count_evaluation(evaluations);
     let word = all_with_stuck(gate, pin, fault.word(), words);
     word ^ in_each_lane(gate.form.inverts_output)
 }
