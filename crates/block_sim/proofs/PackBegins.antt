@@ -1,12 +1,12 @@
 -- The stems of a pack, slot by slot: each differs in the lanes of its slot in which a class came.
 use Rattle.std.proofs.Common.{◌≡◌, ◌≢◌, ◌<◌, ◌≤◌, ◌⊎◌, ℕ, ◌+◌, refl, sym, ◌∙◌, ap, arith, inl, inr}
-use Rattle.std.proofs.Common.{Bool, true, false, ◌||◌, List, length, map, min, set, subst}
+use Rattle.std.proofs.Common.{Bool, true, false, ◌||◌, List, length, map, set, subst}
 use Rattle.std.specs.Prelude.{All, Contains, Some, bit_or, slice_get, slice_index_or, slice_range}
 use Rattle.std.specs.Prelude.{unwrap_or}
 use Rattle.std.specs.Bool.{Decides}
 use Rattle.std.proofs.lemmas.Bool.{cases_eq, false≢true, or_cases, or_left}
 use Rattle.std.proofs.lemmas.List.{get_or-set_same, get_or-set_other}
-use Rattle.std.proofs.lemmas.Nat.{le_or_l, le_or_r}
+use Rattle.std.proofs.lemmas.Nat.{le_or_l}
 use Rattle.bench_net.specs.Statement.{Statement}
 use Rattle.event_queue.proofs.Public.{index_zero}
 use Rattle.list_lemmas.proofs.Members.{contained}
@@ -19,7 +19,6 @@ use Rattle.block_sim.specs.Pack.{AreStarted, HaveLane, IsIn, stem_at}
 use Rattle.block_sim.specs.Words.{lane}
 use Rattle.block_sim.proofs.Lanes.{lane_or, lane_zero}
 use Rattle.block_sim.proofs.ListPlaces.{mapped_at}
-use Rattle.block_sim.proofs.OneLane.{bit_cases}
 use Rattle.block_sim.proofs.PackRanges.{in_range, range_from}
 use Rattle.block_sim.proofs.ScheduledGates.{at_end}
 

@@ -2,15 +2,14 @@
 -- class that came has a hit.
 use Rattle.std.proofs.Common.{◌≡◌, ◌≢◌, ◌<◌, ◌≤◌, ◌⊎◌, ℕ, zero, suc}
 use Rattle.std.proofs.Common.{◌+◌, sym, ◌∙◌, ap, arith, inl, inr}
-use Rattle.std.proofs.Common.{Bool, true, false, ◌&&◌, List, length, subst}
-use Rattle.std.specs.Prelude.{Contains, Some, slice_get, slice_range, ◌==◌}
-use Rattle.std.specs.Bool.{Decides}
+use Rattle.std.proofs.Common.{Bool, true, false, ◌&&◌, List, length}
+use Rattle.std.specs.Prelude.{Contains, slice_range, ◌==◌}
 use Rattle.std.proofs.lemmas.Bool.{and_from, cases_eq, cases_lt, eq-eqb, eqb-true, false≢true}
 use Rattle.list_lemmas.proofs.Places.{place_within, within_place}
 use Rattle.wide_words.specs.Lanes.{IsLayout, Layout, lane_in, slot_of}
 use Rattle.block_sim.specs.declared.propagation.Followed.{Followed}
 use Rattle.block_sim.specs.declared.pack.Slot.{Slot}
-use Rattle.block_sim.specs.Pack.{AreHitIn, AreKeptAfter, HasLaneBeside, HaveHitsIn, IsIn}
+use Rattle.block_sim.specs.Pack.{AreKeptAfter, HaveHitsIn, IsIn}
 use Rattle.block_sim.specs.Words.{lane}
 use Rattle.block_sim.proofs.OneLane.{bit_cases}
 use Rattle.block_sim.proofs.PackRanges.{in_range}

@@ -1,5 +1,5 @@
 -- The part of a list that a slot has.
-use Rattle.std.proofs.Common.{◌≡◌, ◌<◌, ◌≤◌, ℕ, zero, suc, ◌+◌, ◌-◌, refl, sym, ◌∙◌, ap, arith}
+use Rattle.std.proofs.Common.{◌≡◌, ◌<◌, ◌≤◌, ℕ, zero, suc, ◌+◌, ◌-◌, ◌∙◌, ap, arith}
 use Rattle.std.proofs.Common.{List, [], ◌∷◌, drop, take, inl, inr}
 use Rattle.std.specs.Prelude.{Contains, None, Some, slice_get, slice_range, unwrap_or}
 use Rattle.list_lemmas.proofs.Members.{Among, among, contained}

@@ -2,34 +2,32 @@
 use Rattle.std.proofs.Common.{◌≡◌, ◌≢◌, ◌<◌, ◌≤◌, ℕ, ◌+◌, refl, sym, ◌∙◌, ap, subst}
 use Rattle.std.proofs.Common.{Bool, true, false, not, ◌&&◌, ◌||◌, List, []}
 use Rattle.std.proofs.Common.{◌∷◌, length, set, arith, inl, inr, ◌⊎◌}
-use Rattle.std.specs.Prelude.{Contains, Option, Some, None, slice_get}
+use Rattle.std.specs.Prelude.{Contains, Option, Some, None}
 use Rattle.std.specs.Prelude.{slice_index_or, count_by, map, ◌==◌}
 use Rattle.std.specs.Prelude.{unwrap_or}
-use Rattle.std.proofs.lemmas.Bool.{cases_eq, false≢true, lt-ltb}
-use Rattle.bench_net.specs.declared.Kind.{Kind}
+use Rattle.std.proofs.lemmas.Bool.{cases_eq, false≢true}
 use Rattle.bench_net.specs.Statement.{Name, Statement, Gate, Input, Output, Dff}
 use Rattle.bench_net.specs.Scan.{names, signal, name_of, definition, gate_of, gate_line, sources}
 use Rattle.bench_net.specs.Circuit.{IsWellFormed}
 use Rattle.bench_net.proofs.Public.{signal-name_of}
-use Rattle.list_lemmas.proofs.Members.{Among, among, contained}
+use Rattle.list_lemmas.proofs.Members.{Among, contained}
 use Rattle.list_lemmas.proofs.Places.{at_place, within_place, place_within as listed_within}
 use Rattle.fault_model.specs.declared.Line.TheVariants as line
-use Rattle.fault_model.specs.Fault.{Fault}
 use Rattle.fault_model.specs.Detection.{HasBit}
-use Rattle.fault_model.specs.Solution.{Test, Solves, Detects, value}
+use Rattle.fault_model.specs.Solution.{Test, Detects, value}
 use Rattle.fault_model.proofs.Public.{IsSource, source_definition}
 use Rattle.wide_words.specs.Lanes.{IsLayout, Layout, lane_in, slot_of}
-use Rattle.block_sim.specs.Events.{AreScheduled, HasEquation, IsLive, IsRising, Reads}
+use Rattle.block_sim.specs.Events.{AreScheduled, HasEquation, IsRising, Reads}
 use Rattle.block_sim.specs.Pack.{AreGateWords, AreHitIn, HasActiveByPack, IsIn, TellsPack, stem_at}
 use Rattle.block_sim.specs.Propagation.{is_pending}
 use Rattle.block_sim.specs.Regions.{DetectsFlip, flip}
-use Rattle.block_sim.specs.Words.{AreWords, lane, lane_bits, test_of}
+use Rattle.block_sim.specs.Words.{AreWords, lane, lane_bits}
 use Rattle.block_sim.specs.declared.pack.Slot.{Slot}
 use Rattle.block_sim.specs.declared.propagation.Followed.{Followed}
 use Rattle.block_sim.proofs.EnteredGates.{free_pins}
 use Rattle.block_sim.proofs.Equations.{gate_at, nothing}
 use Rattle.block_sim.proofs.Flips.{bit_is}
-use Rattle.block_sim.proofs.Lanes.{lane_zero, unlike}
+use Rattle.block_sim.proofs.Lanes.{unlike}
 use Rattle.block_sim.proofs.Moments.{place_within}
 use Rattle.block_sim.proofs.OneLane.{bit_cases, differing, self}
 use Rattle.block_sim.proofs.PackLanes.{ArePropagating, Lanes, LanesMoment, evaluated}
@@ -37,7 +35,7 @@ use Rattle.block_sim.proofs.PackLanes.{fewer, higher, narrower}
 use Rattle.block_sim.proofs.PackLanes.{seen_detects, unseen_misses, waits_active}
 use Rattle.block_sim.proofs.PackStarts.{pack_moment, stem_bit, stem_lanes}
 use Rattle.block_sim.proofs.PackSteps.{IsStep, wide_bits}
-use Rattle.block_sim.proofs.PackWords.{differs_in, has_word, is_some, lane_some}
+use Rattle.block_sim.proofs.PackWords.{differs_in, is_some, lane_some}
 use Rattle.block_sim.proofs.PendingGates.{pending_higher}
 use Rattle.block_sim.proofs.SignalEquations.{equation_elsewhere, gate_named}
 

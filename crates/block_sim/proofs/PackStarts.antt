@@ -1,22 +1,20 @@
 -- The start of a simulation by events of a pack, and what its end shows.
-use Rattle.std.proofs.Common.{◌≡◌, ◌≢◌, ◌<◌, ◌≤◌, ℕ, ◌+◌, refl, sym, ◌∙◌, ap, subst}
-use Rattle.std.proofs.Common.{Bool, true, false, not, ◌&&◌, ◌||◌, List, []}
-use Rattle.std.proofs.Common.{length, set, arith, inl, inr, ◌⊎◌}
-use Rattle.std.specs.Prelude.{All, Contains, Some, None, slice_get, slice_index_or, count_by, map}
-use Rattle.std.proofs.lemmas.Bool.{cases_eq, false≢true}
-use Rattle.bench_net.specs.declared.Sink.{Sink}
-use Rattle.bench_net.specs.Statement.{Name, Statement, Gate}
-use Rattle.bench_net.specs.Scan.{names, signal, observers}
+use Rattle.std.proofs.Common.{◌≡◌, ◌≢◌, ◌<◌, ℕ, refl, sym, ◌∙◌, ap, subst}
+use Rattle.std.proofs.Common.{Bool, true, false, not, List}
+use Rattle.std.proofs.Common.{length, arith}
+use Rattle.std.specs.Prelude.{All, Contains, Some, None, slice_index_or}
+use Rattle.std.proofs.lemmas.Bool.{false≢true}
+use Rattle.bench_net.specs.Statement.{Name, Statement}
+use Rattle.bench_net.specs.Scan.{names, signal}
 use Rattle.bench_net.specs.Circuit.{IsWellFormed}
 use Rattle.list_lemmas.proofs.Members.{among}
 use Rattle.list_lemmas.proofs.Places.{within_place}
 use Rattle.fault_model.specs.declared.Line.TheVariants as line
-use Rattle.fault_model.specs.Fault.{Fault, branch}
-use Rattle.fault_model.specs.Solution.{Test, Solves, Detects, under, value}
+use Rattle.fault_model.specs.Solution.{Test, Solves}
 use Rattle.fault_model.proofs.Public.{observes, under_own}
 use Rattle.wide_words.specs.Lanes.{IsLayout, Layout, lane_in, slot_of}
-use Rattle.block_sim.specs.Events.{AreScheduled, HasEquation, IsElsewhere, IsLive}
-use Rattle.block_sim.specs.Events.{IsObserved, IsRising, Reads}
+use Rattle.block_sim.specs.Events.{HasEquation, IsElsewhere}
+use Rattle.block_sim.specs.Events.{IsObserved, IsRising}
 use Rattle.block_sim.specs.Pack.{AreStarted, stem_at}
 use Rattle.block_sim.specs.Regions.{flip}
 use Rattle.block_sim.specs.Words.{AreWords, lane, lane_bits, test_of}
@@ -25,7 +23,7 @@ use Rattle.block_sim.specs.declared.propagation.Followed.{Followed}
 use Rattle.block_sim.proofs.Flips.{stem_stuck}
 use Rattle.block_sim.proofs.ListPlaces.{index_of, mapped_at}
 use Rattle.block_sim.proofs.Lanes.{unlike}
-use Rattle.block_sim.proofs.OneLane.{IsLane, bit_cases, differing, lane_first, turned_bit}
+use Rattle.block_sim.proofs.OneLane.{IsLane, differing, lane_first, turned_bit}
 use Rattle.block_sim.proofs.PackGates.{in_group}
 use Rattle.block_sim.proofs.PackLanes.{ArePropagating, Lanes, LanesMoment}
 use Rattle.block_sim.proofs.PackWords.{differs_in, has_word, is_some, lane_some, some_is}

@@ -1,6 +1,6 @@
 -- One evaluation of a pack, lane by lane.
-use Rattle.std.proofs.Common.{◌≡◌, ◌≢◌, ◌<◌, ◌≤◌, ◌⊎◌, ℕ, refl, sym, ◌∙◌, ap, arith, inl, inr}
-use Rattle.std.proofs.Common.{Bool, true, false, ◌&&◌, ◌||◌, List, [], ◌∷◌, length, map, set, subst}
+use Rattle.std.proofs.Common.{◌≡◌, ◌≢◌, ◌<◌, ◌⊎◌, ℕ, refl, sym, ◌∙◌, ap, arith, inl, inr}
+use Rattle.std.proofs.Common.{Bool, true, false, ◌&&◌, ◌||◌, List, [], ◌∷◌, length, map}
 use Rattle.std.specs.Prelude.{Contains, bit_and, bit_or, slice_index_or}
 use Rattle.std.specs.Bool.{Decides}
 use Rattle.std.proofs.lemmas.List.{get_or-set_same, get_or-set_other}
@@ -13,7 +13,7 @@ use Rattle.fault_model.specs.Solution.{value}
 use Rattle.wide_words.specs.Lanes.{Layout, lane_in}
 use Rattle.block_sim.specs.Events.{AreScheduled, IsObserved}
 use Rattle.block_sim.specs.GateForms.{inverted_if}
-use Rattle.block_sim.specs.Pack.{IsDifference, IsEvaluated, wide_bit}
+use Rattle.block_sim.specs.Pack.{IsEvaluated, wide_bit}
 use Rattle.block_sim.specs.Words.{lane}
 use Rattle.block_sim.proofs.Lanes.{lane_and, lane_or, unlike}
 use Rattle.block_sim.proofs.PackGates.{unlike_is}

@@ -1,6 +1,6 @@
 -- Words of a pack: in which lanes a signal differs, and whether it does in some.
 use Rattle.std.proofs.Common.{◌≡◌, ◌≢◌, ℕ, sym, ◌∙◌, ap, Bool, true, false, not, List, refl}
-use Rattle.std.proofs.Common.{length, subst}
+use Rattle.std.proofs.Common.{subst}
 use Rattle.std.specs.Prelude.{All, Contains, slice_index_or, ◌==◌}
 use Rattle.std.proofs.lemmas.Bool.{eq-eqb, eqb-true, false≢true}
 use Rattle.list_lemmas.proofs.Members.{among}

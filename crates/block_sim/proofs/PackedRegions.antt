@@ -1,5 +1,5 @@
 -- Several regions that are followed in one pack, and what is found of all of their classes.
-use Rattle.std.proofs.Common.{◌≡◌, ◌≢◌, ◌+◌, ◌*◌, ◌-◌, ◌<◌, ◌≤◌, ◌⊎◌, inl, inr, ℕ, zero, suc}
+use Rattle.std.proofs.Common.{◌≡◌, ◌+◌, ◌*◌, ◌-◌, ◌<◌, ◌≤◌, ◌⊎◌, inl, inr, ℕ}
 use Rattle.std.proofs.Common.{refl, sym, ◌∙◌, ap, subst, List, [], ◌∷◌, ◌++◌, length, arith}
 use Rattle.std.proofs.Common.{All, Option, Some, None, true, false, map}
 use Rattle.std.specs.Prelude.{Contains, bit_and, slice_get, slice_index_or}
@@ -13,8 +13,6 @@ use Rattle.list_lemmas.proofs.Members.{contained}
 use Rattle.bench_net.specs.Statement.{Statement}
 use Rattle.bench_net.specs.Scan.{names}
 use Rattle.bench_net.specs.Circuit.{IsWellFormed}
-use Rattle.fault_model.specs.declared.Line.TheVariants as line
-use Rattle.fault_model.specs.Detection.{HasBit}
 use Rattle.fault_model.specs.Reordered.{IsReordered, place}
 use Rattle.fault_model.specs.Solution.{Test}
 use Rattle.wide_words.specs.Lanes.{IsLayout, Layout, lane_in, slot_of, slots}
@@ -24,16 +22,16 @@ use Rattle.block_sim.specs.declared.pack.Slot.{Slot}
 use Rattle.block_sim.specs.declared.propagation.Followed.{Followed}
 use Rattle.block_sim.specs.ActiveGates.{IsActiveBy}
 use Rattle.block_sim.specs.Events.{IsObserved}
-use Rattle.block_sim.specs.BlockSpans.{AreInSpan, IsInSpan, IsSpan, group_of}
+use Rattle.block_sim.specs.BlockSpans.{AreInSpan, IsSpan, group_of}
 use Rattle.block_sim.specs.OpenPlaces.{AreSettled}
-use Rattle.block_sim.specs.Pack.{HasActiveByPack, IsIn, IsWithin, TellsPack, stem_at}
+use Rattle.block_sim.specs.Pack.{HasActiveByPack, IsIn, TellsPack, stem_at}
 use Rattle.block_sim.specs.Parts.{Parts}
 use Rattle.block_sim.specs.RegionHits.{AreCopied, AreFollowedAt, AreGathered, AreOpen}
 use Rattle.block_sim.specs.RegionHits.{AreSlotsConcluded, HasAdded, HasFirst, HaveFirsts}
 use Rattle.block_sim.specs.RegionHits.{HaveFirstsBut, IsFirstOn, IsFollowedAt, IsFoundOrFollowed}
-use Rattle.block_sim.specs.RegionHits.{IsGathered, IsHiddenStem, IsInSlot, IsOpenAt, IsPart}
+use Rattle.block_sim.specs.RegionHits.{IsGathered, IsInSlot, IsPart}
 use Rattle.block_sim.specs.Regions.{DetectsFlip, TellsFirstFlips, flip}
-use Rattle.block_sim.specs.Simulation.{AreFollowed, HasArrived}
+use Rattle.block_sim.specs.Simulation.{HasArrived}
 use Rattle.block_sim.specs.Ways.{HasActiveByFlip}
 use Rattle.block_sim.specs.Words.{AreWords, lane, test_of}
 use Rattle.block_sim.proofs.FlipLanes.{has_bit}

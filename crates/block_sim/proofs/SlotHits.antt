@@ -1,16 +1,15 @@
 -- What is found of the classes of one slot after the other.
 use Rattle.std.proofs.Common.{◌≡◌, ◌+◌, ◌-◌, ◌<◌, ◌≤◌, ◌⊎◌, inl, inr, ℕ, zero, suc}
-use Rattle.std.proofs.Common.{refl, sym, ◌∙◌, ap, subst, List, [], ◌∷◌, ◌++◌, length, arith}
+use Rattle.std.proofs.Common.{refl, sym, ◌∙◌, ap, List, [], ◌∷◌, ◌++◌, length, arith}
 use Rattle.std.proofs.Common.{take, drop, Option, Some, None}
-use Rattle.std.specs.Prelude.{Contains, bit_and, slice_get, slice_range}
+use Rattle.std.specs.Prelude.{slice_get, slice_range}
 use Rattle.std.proofs.lemmas.Bool.{cases_lt}
-use Rattle.std.proofs.lemmas.Option.{slice_get_within}
 use Rattle.wide_words.specs.Lanes.{Layout}
 use Rattle.block_sim.specs.declared.block_span.BlockSpan.{BlockSpan}
 use Rattle.block_sim.specs.declared.pack.Slot.{Slot}
 use Rattle.block_sim.specs.declared.propagation.Followed.{Followed}
 use Rattle.block_sim.specs.RegionHits.{AreConcluded, AreSlotsConcluded, IsFollowedAt, IsInSlot}
-use Rattle.block_sim.specs.RegionHits.{IsPart, IsSlotConcluded, IsTestOf}
+use Rattle.block_sim.specs.RegionHits.{IsPart, IsSlotConcluded}
 use Rattle.block_sim.proofs.RegionHits.{followed_or_not, member_at, place_of_member}
 
 -- ---- places in parts of a list

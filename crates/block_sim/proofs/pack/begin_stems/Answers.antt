@@ -1,6 +1,6 @@
 use Rattle.std.proofs.Common.{◌≡◌, ◌≢◌, ◌<◌, ◌≤◌, ◌+◌, ℕ, ◌∙◌, List}
-use Rattle.std.proofs.Common.{ap, arith, length, set, subst, sym}
-use Rattle.std.specs.Prelude.{Some, bit_or, slice_get, slice_index_or}
+use Rattle.std.proofs.Common.{ap, arith, length, subst, sym}
+use Rattle.std.specs.Prelude.{Some, slice_get, slice_index_or}
 use Rattle.std.proofs.lemmas.Bool.{false≢true}
 use Rattle.std.proofs.lemmas.List.{length-set}
 use Rattle.bench_net.specs.Scan.{names}

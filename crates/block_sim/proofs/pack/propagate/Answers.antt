@@ -1,22 +1,19 @@
-use Rattle.std.proofs.Common.{◌≡◌, ◌≢◌, ◌<◌, ◌≤◌, ◌⊎◌, ℕ, ◌+◌, ◌∙◌}
-use Rattle.std.proofs.Common.{refl, Bool, true, false, ◌&&◌, ◌||◌}
-use Rattle.std.proofs.Common.{List, ap, arith, inl, inr, length, subst, sym}
-use Rattle.std.specs.Prelude.{All, Contains, None, Some, count_by, map, slice_index_or}
-use Rattle.std.proofs.lemmas.Bool.{cases_eq, false≢true}
+use Rattle.std.proofs.Common.{◌≡◌, ◌≢◌, ◌<◌, ◌≤◌, ◌⊎◌, ℕ, ◌∙◌}
+use Rattle.std.proofs.Common.{refl, true, false}
+use Rattle.std.proofs.Common.{ap, arith, inl, inr, length, subst, sym}
+use Rattle.std.specs.Prelude.{All, map, slice_index_or}
+use Rattle.std.proofs.lemmas.Bool.{false≢true}
 use Rattle.std.proofs.lemmas.List.{length-set}
 use Rattle.bench_net.specs.Scan.{names, signal}
-use Rattle.event_queue.proofs.Public.{index_zero}
-use Rattle.fault_model.specs.Solution.{Test}
 use Rattle.wide_words.specs.Wide.{number}
 use Rattle.block_sim.specs.Events.{IsObserved, Reads}
 use Rattle.block_sim.specs.Pack.{AreHitIn, AreSlots, HasActiveByPack, TellsPack}
 use Rattle.block_sim.specs.Propagation.{is_pending}
-use Rattle.block_sim.specs.Words.{AreWords, lane}
+use Rattle.block_sim.specs.Words.{lane}
 use Rattle.block_sim.proofs.Lanes.{lane_zero}
 use Rattle.block_sim.proofs.OneLane.{bit_cases, self}
 use Rattle.block_sim.proofs.PackRuns.{gate_words, goes_on, listed, more_hits, one_less}
 use Rattle.block_sim.proofs.PackRuns.{or_on, stays_inside, told}
-use Rattle.block_sim.proofs.PackLanes.{ArePropagating}
 use Rattle.block_sim.proofs.PackStarts.{started, stem_low}
 use Rattle.block_sim.proofs.PackSteps.{stepped}
 use Rattle.block_sim.proofs.PackWords.{differs_in, each}

@@ -1,16 +1,15 @@
-use Rattle.std.proofs.Common.{◌≡◌, ◌⊎◌, ◌+◌, ◌<◌, ◌≤◌, ◌∙◌, ap, arith, inl, inr, length, refl}
+use Rattle.std.proofs.Common.{◌≡◌, ◌⊎◌, ◌<◌, ◌∙◌, ap, arith, length}
 use Rattle.std.proofs.Common.{subst, sym}
-use Rattle.std.specs.Prelude.{Option, unwrap_or, vec_capacity}
+use Rattle.std.specs.Prelude.{Option, unwrap_or}
 use Rattle.bench_net.specs.Scan.{names}
 use Rattle.fault_model.specs.Fault.{Fault}
 use Rattle.fault_model.specs.Reordered.{place}
 use Rattle.block_sim.specs.Events.{IsObserved}
-use Rattle.block_sim.specs.OpenPlaces.{AreSettled}
 use Rattle.block_sim.specs.Regions.{IsStem, IsStemOfLine}
 use Rattle.block_sim.proofs.ArrangedSignals.{count_there, reordered}
 use Rattle.block_sim.proofs.ArrangedWords.{circuit_there}
 use Rattle.block_sim.proofs.PackedRegions.{gathered_more, gathered_over}
-use Rattle.block_sim.proofs.RegionHits.{listed_at, others_over, settled_from, ways_over}
+use Rattle.block_sim.proofs.RegionHits.{listed_at, settled_from, ways_over}
 use Rattle.block_sim.proofs.ReorderedReaders.{same_stems}
 use Rattle.block_sim.proofs.region_simulation.add_region.Goals as goal
 

@@ -1,10 +1,8 @@
-use Rattle.std.proofs.Common.{◌≡◌, ◌<◌, ◌∙◌, ◌+◌, arith, length}
+use Rattle.std.proofs.Common.{◌≡◌, ◌+◌, arith}
 use Rattle.std.specs.Prelude.{Some, slice_get, slice_index_or, slice_range}
 use Rattle.list_lemmas.proofs.Places.{within_place}
-use Rattle.wide_words.specs.Lanes.{slots}
 use Rattle.wide_words.specs.Wide.{number}
 use Rattle.block_sim.specs.declared.pack.Slot.{Slot}
-use Rattle.block_sim.specs.declared.propagation.Followed.{Followed}
 use Rattle.block_sim.proofs.ListPlaces.{index_of}
 use Rattle.block_sim.proofs.RegionHits.{member_at, place_of_member}
 use Rattle.block_sim.proofs.SlotHits.{no_slots, out_of_range, slot_more}

@@ -1,4 +1,4 @@
-use Rattle.std.proofs.Common.{◌≡◌, ◌≤◌, ◌∙◌, ap, length, subst, sym}
+use Rattle.std.proofs.Common.{◌≤◌, ◌∙◌, ap, length, subst, sym}
 use Rattle.std.specs.Prelude.{All, vec_capacity}
 use Rattle.wide_words.specs.Lanes.{slots}
 use Rattle.wide_words.specs.Wide.{number}

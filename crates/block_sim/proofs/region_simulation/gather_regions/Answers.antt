@@ -1,6 +1,4 @@
-use Rattle.std.proofs.Common.{◌≡◌, ◌⊎◌, ◌+◌, ◌<◌, ◌≤◌, ◌∙◌, ap, arith, inl, inr, length, refl}
-use Rattle.std.proofs.Common.{subst, sym}
-use Rattle.std.specs.Prelude.{vec_capacity}
+use Rattle.std.proofs.Common.{◌∙◌, ap, arith, inl, inr, length, refl}
 use Rattle.block_sim.proofs.Moments.{large_enough, large_on}
 use Rattle.block_sim.proofs.PackedRegions.{gathered_none}
 use Rattle.block_sim.proofs.RegionHits.{ways_none}

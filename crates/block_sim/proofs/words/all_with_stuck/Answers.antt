@@ -1,5 +1,5 @@
-use Rattle.std.proofs.Common.{◌≡◌, ◌<◌, ◌-◌, ◌+◌, ◌∙◌, ap, arith, length, map, subst, sym}
-use Rattle.std.specs.Prelude.{bit_xor, slice_index_or}
+use Rattle.std.proofs.Common.{◌≡◌, ◌<◌, ◌-◌, ◌+◌, ◌∙◌, ap, arith, length, subst, sym}
+use Rattle.std.specs.Prelude.{bit_xor}
 use Rattle.std.specs.List.{list_all}
 use Rattle.patterns.specs.Least.{below}
 use Rattle.patterns.proofs.Public.{get_or-below, length-below}

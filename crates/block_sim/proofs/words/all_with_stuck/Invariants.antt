@@ -1,9 +1,7 @@
-use Rattle.std.proofs.Common.{◌≡◌, ◌<◌, ◌≤◌, ℕ, [], length, map, take}
-use Rattle.std.specs.Prelude.{Some, slice_index_or}
+use Rattle.std.proofs.Common.{◌≡◌, ◌<◌, ◌≤◌, ℕ, length, map, take}
 use Rattle.std.specs.List.{list_all}
 use Rattle.fault_model.specs.declared.Line.TheVariants as line
 use Rattle.fault_model.specs.Fault.{Fault}
-use Rattle.fault_model.specs.Solution.{under}
 use Rattle.patterns.specs.Least.{below}
 use Rattle.block_sim.specs.GateForms.{inverted_if}
 use Rattle.block_sim.specs.Words.{lane}

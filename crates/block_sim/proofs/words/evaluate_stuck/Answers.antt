@@ -1,4 +1,4 @@
-use Rattle.std.proofs.Common.{◌≡◌, ◌∙◌, [], ap, inr, sym}
+use Rattle.std.proofs.Common.{◌∙◌, [], ap, inr, sym}
 use Rattle.std.specs.Prelude.{Some}
 use Rattle.event_queue.proofs.Public.{index_zero}
 use Rattle.fault_model.specs.Solution.{value}

@@ -1,4 +1,4 @@
-use Rattle.std.proofs.Common.{◌≡◌, ◌∙◌, ap, sym}
+use Rattle.std.proofs.Common.{◌∙◌, ap, sym}
 use Rattle.fault_model.specs.declared.Line.TheVariants as line
 use Rattle.fault_model.proofs.Public.{under_other, under_own}
 use Rattle.block_sim.proofs.GateLanes.{plain_word}

@@ -1,17 +1,16 @@
-use Rattle.std.proofs.Common.{◌≡◌, ◌⊎◌, ◌+◌, ◌<◌, ◌≤◌, ◌∙◌, All, ap, arith, drop, inl, inr, length}
-use Rattle.std.proofs.Common.{List, map, subst, sym}
+use Rattle.std.proofs.Common.{◌≡◌, ◌∙◌, All, ap, arith, drop, inl, inr, length}
+use Rattle.std.proofs.Common.{map, subst, sym}
 use Rattle.std.specs.Prelude.{Contains, None, Some, slice_get}
 use Rattle.std.proofs.lemmas.List.{length-map}
-use Rattle.bench_net.specs.Scan.{names}
 use Rattle.fault_model.specs.Reordered.{place}
 use Rattle.patterns.specs.Tests.{TestList}
-use Rattle.block_sim.specs.BlockSpans.{AreInSpan, IsSpan, span_of}
+use Rattle.block_sim.specs.BlockSpans.{span_of}
 use Rattle.block_sim.specs.Pack.{IsWithin}
 use Rattle.block_sim.specs.RegionHits.{AreGathered, HaveFirsts, IsFollowedAt, IsHiddenStem}
 use Rattle.block_sim.specs.RegionHits.{ServesRegions}
 use Rattle.block_sim.specs.Ways.{HasActiveByFlip}
 use Rattle.block_sim.proofs.ArrangedSignals.{count_there, reordered}
-use Rattle.block_sim.proofs.KeptOutcomes.{arrived_within, room_at_rest}
+use Rattle.block_sim.proofs.KeptOutcomes.{room_at_rest}
 use Rattle.block_sim.proofs.KnownWords.{written}
 use Rattle.block_sim.proofs.PackedRegions.{all_slots, in_span}
 use Rattle.block_sim.proofs.ReorderedGates.{same_active}
