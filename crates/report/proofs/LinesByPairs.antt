@@ -1,7 +1,7 @@
 -- Pairs of a list, of faults or of their names, and of another list; and lines that are written for
 -- each pair, one after another.
 use Rattle.std.proofs.Common.{◌≡◌, ◌≤◌, ◌<◌, ℕ, zero, suc, ◌+◌, List, [], ◌∷◌, length, take, ap}
-use Rattle.std.proofs.Common.{get_or, arith, refl, sym, ◌∙◌, append-nil}
+use Rattle.std.proofs.Common.{get_or, arith, refl, sym, ◌∙◌}
 use Rattle.std.specs.Prelude.{Some, None, slice_get, zip, unwrap_or}
 use Rattle.std.specs.List.{flat_map}
 use Rattle.list_lemmas.proofs.Places.{within_place}
@@ -53,20 +53,6 @@ line_stopped line fs xs i x text a b c lt has is before wrote =
     let pair = zipped_by fs xs i at.0 x (at.0, x) at.1 has in
     stopped _ (text at.0) _ _ a b c before (wrote at.0 at.1)
     (flat_map_cut line (zip fs xs) i (at.0, x) (text at.0) pair.0 (is at.0 ∙ ap line pair.1))
-
--- it is empty, so nothing had to be taken
-pub line_skipped : {F X : Type 0} (line : F × X → List ℕ) (fs : List F) (xs : List X) (i : ℕ)
-    (x : X) (a b : Output) → i < length fs → slice_get xs i ≡ Some x
-    → ((f : F) → line (f, x) ≡ []) → TakesAll a b (flat_map line (take i (zip fs xs)))
-    → TakesAll a b (flat_map line (take (i + 1) (zip fs xs)))
-line_skipped line fs xs i x a b lt has none before =
-    let at = within_place fs i lt in
-    let pair = zipped_by fs xs i at.0 x (at.0, x) at.1 has in
-    rw (
-      flat_map_taken line (zip fs xs) i (at.0, x) [] pair.0
-          (sym (none at.0) ∙ ap line pair.1),
-      append-nil,
-    ) before
 
 -- the lines of all pairs were taken
 pub lines_taken : {F X : Type 0} (line : F × X → List ℕ) (fs : List F) (xs : List X) (i : ℕ)

@@ -1,15 +1,18 @@
 -- The lines of stretches of a list, one stretch after another.
 use Rattle.std.proofs.Common.{◌≡◌, ◌≤◌, ◌<◌, ℕ, zero, suc, ◌+◌, ◌-◌}
 use Rattle.std.proofs.Common.{List, [], ◌∷◌, ◌++◌, length, take}
-use Rattle.std.proofs.Common.{drop, ap, get_or, arith, refl, sym}
+use Rattle.std.proofs.Common.{drop, take_all, ap, get_or, arith, refl, sym}
 use Rattle.std.proofs.Common.{subst, ◌∙◌, append-nil, append_assoc}
 use Rattle.std.proofs.lemmas.List.{take-append-drop, take-take, drop-take, append_cancel_left}
+use Rattle.std.proofs.lemmas.List.{drop-map, take-map}
 use Rattle.std.proofs.lemmas.List.Concat.{flat_map-append}
-use Rattle.std.specs.Prelude.{Some, None, slice_get, zip, unwrap_or}
+use Rattle.std.proofs.lemmas.List.Folds.{flat_map-map}
+use Rattle.std.specs.Prelude.{Some, None, slice_get, map, zip, unwrap_or}
 use Rattle.std.specs.List.{flat_map, slice_range}
 use Rattle.list_lemmas.proofs.Places.{place_within, within_place}
 use Rattle.byte_output.specs.Output.{Output, TakesAll, TakesFront}
 use Rattle.byte_output.proofs.Public.{takes_more, stopped, stopped_after, flat_map_taken}
+use Rattle.report.specs.Texts.{joined, text_between}
 use Rattle.report.proofs.LinesByPairs.{zipped_by, all_zipped}
 
 -- what is before a place, and then up to another
@@ -168,24 +171,44 @@ pub each_of_pushed : {X : Type 0} (P : X → Type 0) (xs ys : List X) (y : X) �
 each_of_pushed P xs ys y is each own i d lt =
     subst (λ l. P (get_or l i d)) (sym is) (each_pushed P xs y each own i d lt)
 
--- the lines of all pairs were taken, as those of one stretch
-pub all_put : {F X : Type 0} (line : F × X → List ℕ) (fs : List F) (xs : List X) (n : ℕ)
-    (p q : Output) → length xs ≡ length fs → n ≡ length fs
-    → TakesAll p q (flat_map line (slice_range (zip fs xs) 0 n))
-    → TakesAll p q (flat_map line (zip fs xs))
-all_put line fs xs n p q same is put =
-    subst (λ text. TakesAll p q text) (whole_stretch line fs xs n same is) put
+-- the lines of a whole list are those of one stretch
+pub all_lines : {X : Type 0} (f : X → List ℕ) (xs : List X) (n : ℕ) → n ≡ length xs
+    → flat_map f (slice_range xs 0 n) ≡ flat_map f xs
+all_lines f xs n is =
+    let all : take n xs ≡ xs = take_all n xs (omega (arith, is)) in
+    sym (lines_by f xs 0 n (omega arith)) ∙ ap (λ l. flat_map f l) all
+
+-- texts that are made of the items of a list, one after another
+pub all_mapped : {X : Type 0} (f : X → List ℕ) (xs : List X) → joined (map f xs) ≡ flat_map f xs
+all_mapped f xs = flat_map-map (λ text. text) f xs
+
+-- those of a stretch
+pub mapped_between : {X : Type 0} (f : X → List ℕ) (xs : List X) (a b : ℕ)
+    → text_between (map f xs) a b ≡ flat_map f (slice_range xs a b)
+mapped_between f xs a b =
+    rw (drop-map f a xs, take-map f (b - a) (drop a xs)) (all_mapped f (slice_range xs a b))
+
+-- as many as there are pairs
+pub mapped_count : {F X : Type 0} (line : F × X → List ℕ) (fs : List F) (xs : List X)
+    → length xs ≡ length fs → length (map line (zip fs xs)) ≡ length fs
+mapped_count line [] xs same = refl
+mapped_count line (f ∷ fs) [] same = absurd (omega (arith, same))
+mapped_count line (f ∷ fs) (x ∷ xs) same =
+    ap suc (mapped_count line fs xs (omega (arith, same)))
+
+-- they were taken, as those of one stretch
+pub all_put : {X : Type 0} (f : X → List ℕ) (xs : List X) (n : ℕ) (p q : Output) → n ≡ length xs
+    → TakesAll p q (flat_map f (slice_range xs 0 n)) → TakesAll p q (flat_map f xs)
+all_put f xs n p q is put = subst (λ text. TakesAll p q text) (all_lines f xs n is) put
 
 -- those of a stretch were taken, and then a beginning of the rest
-pub all_cut : {F X : Type 0} (line : F × X → List ℕ) (fs : List F) (xs : List X) (i : ℕ)
-    (p q r : Output) → length xs ≡ length fs → i ≤ length fs
-    → TakesAll p q (flat_map line (slice_range (zip fs xs) 0 i))
-    → TakesFront q r (flat_map line (slice_range (zip fs xs) i (length fs)))
-    → TakesFront p r (flat_map line (zip fs xs))
-all_cut line fs xs i p q r same le first second =
-    subst (λ text. TakesFront p r text) (whole_stretch line fs xs (length fs) same refl)
-    (stretch_cut line (zip fs xs) 0 i (length fs) (length fs) p q r (omega arith) le (omega arith)
-    first second)
+pub all_cut : {X : Type 0} (f : X → List ℕ) (xs : List X) (i : ℕ) (p q r : Output)
+    → i ≤ length xs → TakesAll p q (flat_map f (slice_range xs 0 i))
+    → TakesFront q r (flat_map f (slice_range xs i (length xs)))
+    → TakesFront p r (flat_map f xs)
+all_cut f xs i p q r le first second =
+    subst (λ text. TakesFront p r text) (all_lines f xs (length xs) refl)
+    (stretch_cut f xs 0 i (length xs) (length xs) p q r (omega arith) le (omega arith) first second)
 
 -- the text of a stretch was taken after those before it
 pub text_put : {X : Type 0} (f : X → List ℕ) (xs : List X) (a b s c : ℕ) (text : List ℕ)

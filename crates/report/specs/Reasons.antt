@@ -1,6 +1,7 @@
 -- The text of the undetected faults with their reasons.
 use Rattle.std.specs.Prelude.{◌≡◌, ℕ, Bool, true, false, List, [], ◌++◌, codes, count_by, decimal}
 use Rattle.std.specs.Prelude.{flat_map, length, Option, Some, None, zip}
+use Rattle.std.specs.List.{slice_range}
 use Rattle.bench_net.specs.Statement.{Statement}
 use Rattle.bench_net.specs.Refusal.{IsAccepted}
 use Rattle.bench_net.specs.Scan.{sources}
@@ -28,6 +29,11 @@ reason_line c (f, None) = []
 reason_line c (f, Some reason) =
     fault_text c f ++ (codes " none " ++ reason_text reason ++ codes "\n")
 
+-- the lines of the faults of a list from one number up to another
+abbrev pub reasons_between : List Statement → List Fault → List (Option Reason) → ℕ → ℕ → List ℕ
+reasons_between c fs reasons start end =
+    flat_map (reason_line c) (slice_range (zip fs reasons) start end)
+
 -- whether this is the reason
 abbrev pub has_reason : Reason → Option Reason → Bool
 has_reason NoPath (Some NoPath) = true
@@ -45,14 +51,19 @@ reasons_line reasons = decimal (reason_count NoPath reasons) ++ codes " no path,
     ++ decimal (reason_count NotActivated reasons) ++ codes " not activated, "
     ++ decimal (reason_count NotObserved reasons) ++ codes " not observed\n"
 
--- the report: the line of each fault that has a reason, the report without lines of faults, and the
--- number of faults for each reason
+-- the report without lines of faults, and the number of faults for each reason
+abbrev pub reason_totals : Model → List Statement → Collapsed → List (Option ℕ)
+    → List (Option Reason) → Bool → List ℕ
+reason_totals m c classes firsts reasons wanted =
+    whole_report m c classes firsts (record { lines = Omitted; classes = wanted })
+    ++ reasons_line reasons
+
+-- the report: the line of each fault that has a reason, and the totals
 abbrev pub reason_report : Model → List Statement → Collapsed → List (Option ℕ)
     → List (Option Reason) → Bool → List ℕ
 reason_report m c classes firsts reasons wanted =
     flat_map (reason_line c) (zip (faults m c) reasons)
-    ++ (whole_report m c classes firsts (record { lines = Omitted; classes = wanted })
-    ++ reasons_line reasons)
+    ++ reason_totals m c classes firsts reasons wanted
 
 -- the bytes are this report of a bench file and a test file under a model: each fault that no test
 -- detects has its reason

@@ -2,6 +2,7 @@
 use Rattle.std.specs.Prelude.{⊤, ℕ, ◌<◌, ◌+◌, ◌*◌, ◌/◌, ◌%◌, Bool, true, false, List, [], ◌∷◌, ◌++◌}
 use Rattle.std.specs.Prelude.{length, map, zip, flat_map, Option, Some, None, if◌then◌else◌}
 use Rattle.std.specs.Prelude.{is_none, slice_get, slice_index_or, unwrap_or, codes, decimal}
+use Rattle.std.specs.List.{slice_range}
 use Rattle.bench_net.specs.Statement.{Statement}
 use Rattle.bench_net.specs.Scan.{names, name_of, cells}
 use Rattle.fault_model.specs.declared.Line.{Line}
@@ -96,6 +97,11 @@ wanted_line lines c at = wanted_name lines (fault_text c at.0, at.1)
 -- the fault lines of a model, in the order of the faults
 abbrev pub fault_lines : Lines → Model → List Statement → List (Option ℕ) → List ℕ
 fault_lines lines m c firsts = flat_map (wanted_line lines c) (zip (faults m c) firsts)
+
+-- those of the faults of a list from one number up to another
+abbrev pub lines_between : Lines → List Statement → List Fault → List (Option ℕ) → ℕ → ℕ → List ℕ
+lines_between lines c fs firsts start end =
+    flat_map (wanted_line lines c) (slice_range (zip fs firsts) start end)
 
 -- the report: the requested fault lines, and the coverage line
 abbrev pub report : Model → List Statement → List (Option ℕ) → Lines → List ℕ

@@ -1,13 +1,15 @@
-//! The lines of the fault list, which threads put together in stretches of the list.
+//! The lines of a fault list, which threads put together in stretches of the list.
 
 ghost use Rattle.std.specs.Prelude.{◌≡◌, ◌<◌, ◌≤◌, IfOk, length};
 ghost use Rattle.fault_model.specs.Fault.{faults};
 ghost use Rattle.byte_output.specs.Output.{Writes};
 ghost use Rattle.report.specs.Report.{fault_lines, report, whole_report};
 ghost use Rattle.report.specs.Stretches.{HasStretch, HaveStretches, PutsFrom, PutsSome};
+ghost use Rattle.report.specs.Texts.{joined};
 
 use crate::contents::{Contents, Lines};
-use crate::report::{put_class_coverage, put_firsts, put_lines, put_total};
+use crate::fault_lines::{FaultLines, FirstLines};
+use crate::report::{put_class_coverage, put_firsts, put_total};
 use bench_net::Circuit;
 use block_sim::Job;
 use byte_output::{Out, OutFailed, Plain, put_all};
@@ -40,18 +42,14 @@ struct Stretch {
 
 /// The promise of a thread: it returns lines of these faults.
 #[derive(Drop)]
-struct LinesOf {
-    circuit: Snapshot<Circuit>,
-    list: Snapshot<Faults>,
-    verdicts: Snapshot<Verdicts>,
-    lines: Lines,
+struct LinesOf<L> {
+    lines: Snapshot<L>,
 }
 
-impl Promise<Result<Stretch, OutFailed>> for LinesOf {
+impl<L: FaultLines> Promise<Result<Stretch, OutFailed>> for LinesOf<L> {
     ghost use Rattle.report.specs.Stretches.{HasStretch};
 
-    ghost kept_by = { λ p r. HasStretch p.lines p.circuit.value p.list.value.list
-        p.verdicts.value.firsts r };
+    ghost kept_by = { λ p r. HasStretch (L.texts p.lines.value) r };
 }
 
 /// Writes the report of a job and of the verdicts of its faults, with the same bytes as
@@ -101,10 +99,8 @@ fn put_report_in_threads<R: Threads + Wait, W: Out>(
     put_total(job, verdicts, out)
 }
 
-/// Writes the requested faults of the list, as [`put_firsts`] does and with the same bytes. At most
-/// as many threads as there are workers put the lines together, stretch by stretch, and the
-/// caller's thread is one of them. It also puts together the lines of a thread that doesn't start.
-/// If memory runs out, it writes lines one by one.
+/// Writes the requested faults of the list, as [`put_firsts`] does and with the same bytes, by
+/// [`put_in_threads`].
 fn put_firsts_in_threads<R: Threads + Wait, W: Out>(
     rt: &R,
     alloc: Global,
@@ -123,14 +119,33 @@ fn put_firsts_in_threads<R: Threads + Wait, W: Out>(
     if lines == Lines::Omitted {
         return put_firsts(circuit, list, verdicts, lines, out);
     }
-    let count = list.count();
+    let first_lines = FirstLines {
+        circuit,
+        list,
+        verdicts,
+        lines,
+    };
+    put_in_threads(rt, alloc, &first_lines, workers, out)
+}
+
+/// Writes the lines of a fault list. At most as many threads as there are workers put the lines
+/// together, stretch by stretch, and the caller's thread is one of them. It also puts together the
+/// lines of a thread that doesn't start. If memory runs out, it writes lines one by one.
+pub(crate) fn put_in_threads<R: Threads + Wait, L: FaultLines + Sync, W: Out>(
+    rt: &R,
+    alloc: Global,
+    lines: &L,
+    workers: u32,
+    out: &mut W,
+) -> Result<(), OutFailed>
+    ensures { Writes result (W.seen out.old) (W.seen out.new) (joined (L.texts lines.now)) }
+{
+    let count = lines.count();
     let threads = threads_for(count, workers);
     let mut spare = Vec::new(alloc);
     let mut place = 0;
     while place < count {
-        let (end, texts) = put_round(
-            rt, alloc, circuit, list, verdicts, lines, place, threads, spare, out,
-        )?;
+        let (end, texts) = put_round(rt, alloc, lines, place, threads, spare, out)?;
         place = end;
         spare = texts;
     }
@@ -144,65 +159,53 @@ fn threads_for(faults: u32, workers: u32) -> u32 {
         .min(faults.div_ceil(FAULTS_OF_A_STRETCH))
 }
 
-/// Returns the end of the stretch that begins with a fault.
-fn end_of(list: &Faults, start: u32) -> u32
-    requires { start ≤ length list.now.list }
+/// Returns the end of the stretch that begins with a fault of a list with this number of faults.
+fn end_of(count: u32, start: u32) -> u32
+    requires { start ≤ count }
     ensures order { start ≤ result }
-    ensures within { result ≤ length list.now.list }
-    ensures some { start < length list.now.list → start < result }
+    ensures within { result ≤ count }
+    ensures some { start < count → start < result }
 {
-    let left = list.count() - start;
+    let left = count - start;
     start + left.min(FAULTS_OF_A_STRETCH)
 }
 
 /// Writes the lines of some faults from one on, and returns the number after that of the last one,
 /// and buffers that the next call can use.
-fn put_round<R: Threads + Wait, W: Out>(
+fn put_round<R: Threads + Wait, L: FaultLines + Sync, W: Out>(
     rt: &R,
     alloc: Global,
-    circuit: &Circuit,
-    list: &Faults,
-    verdicts: &Verdicts,
-    lines: Lines,
+    lines: &L,
     place: u32,
     threads: u32,
     spare: Vec<Vec<u8>>,
     out: &mut W,
 ) -> Result<(u32, Vec<Vec<u8>>), OutFailed>
-    requires list { list.now.list ≡ faults list.now.model circuit.now }
-    requires count { length verdicts.now.firsts ≡ length list.now.list }
-    requires some { place < length list.now.list }
-    ensures { PutsSome lines circuit.now list.now.list verdicts.now.firsts place result
-        (W.seen out.old) (W.seen out.new) }
+    requires some { place < length (L.texts lines.now) }
+    ensures { PutsSome (L.texts lines.now) place result (W.seen out.old) (W.seen out.new) }
 {
-    let parts = parts_from(
-        rt, alloc, circuit, list, verdicts, lines, place, threads, spare,
-    );
-    let (end, texts) = put_parts(alloc, circuit, list, verdicts, lines, place, parts, out)?;
+    let parts = parts_from(rt, alloc, lines, place, threads, spare);
+    let (end, texts) = put_parts(alloc, lines, place, parts, out)?;
     if end > place {
         return Ok((end, texts));
     }
-    let end = end_of(list, place);
-    put_lines(circuit, list, verdicts, lines, place, end, out)?;
+    let end = end_of(lines.count(), place);
+    lines.put(place, end, out)?;
     Ok((end, texts))
 }
 
 /// Writes stretches as long as each begins where the one before it ends, and returns the place
 /// after them, and their buffers.
-fn put_parts<W: Out>(
+fn put_parts<L: FaultLines, W: Out>(
     alloc: Global,
-    circuit: &Circuit,
-    list: &Faults,
-    verdicts: &Verdicts,
-    lines: Lines,
+    lines: &L,
     place: u32,
     parts: Vec<Result<Stretch, OutFailed>>,
     out: &mut W,
 ) -> Result<(u32, Vec<Vec<u8>>), OutFailed>
-    requires place { place ≤ length list.now.list }
-    requires parts { HaveStretches lines circuit.now list.now.list verdicts.now.firsts parts.items }
-    ensures { PutsFrom lines circuit.now list.now.list verdicts.now.firsts place result
-        (W.seen out.old) (W.seen out.new) }
+    requires place { place ≤ length (L.texts lines.now) }
+    requires parts { HaveStretches (L.texts lines.now) parts.items }
+    ensures { PutsFrom (L.texts lines.now) place result (W.seen out.old) (W.seen out.new) }
 {
     let mut end = place;
     let mut texts = Vec::new(alloc);
@@ -227,49 +230,33 @@ fn put_parts<W: Out>(
 
 /// Returns stretches of the list from a fault on, put together in at most this number of threads,
 /// the caller's included. None is there if memory runs out.
-fn parts_from<R: Threads + Wait>(
+fn parts_from<R: Threads + Wait, L: FaultLines + Sync>(
     rt: &R,
     alloc: Global,
-    circuit: &Circuit,
-    list: &Faults,
-    verdicts: &Verdicts,
-    lines: Lines,
+    lines: &L,
     place: u32,
     threads: u32,
     spare: Vec<Vec<u8>>,
 ) -> Vec<Result<Stretch, OutFailed>>
-    requires list { list.now.list ≡ faults list.now.model circuit.now }
-    requires count { length verdicts.now.firsts ≡ length list.now.list }
-    requires place { place ≤ length list.now.list }
-    ensures { HaveStretches lines circuit.now list.now.list verdicts.now.firsts result.items }
+    requires place { place ≤ length (L.texts lines.now) }
+    ensures { HaveStretches (L.texts lines.now) result.items }
 {
-    match share_lines(
-        rt, alloc, circuit, list, verdicts, lines, place, threads, spare,
-    ) {
+    match share_lines(rt, alloc, lines, place, threads, spare) {
         Ok(parts) => parts,
         Err(AllocError) => Vec::new(alloc),
     }
 }
 
 /// Puts the lines of one stretch into a buffer.
-fn stretch_of(
-    circuit: &Circuit,
-    list: &Faults,
-    verdicts: &Verdicts,
-    lines: Lines,
-    start: u32,
-    text: Vec<u8>,
-) -> Result<Stretch, OutFailed>
-    requires list { list.now.list ≡ faults list.now.model circuit.now }
-    requires count { length verdicts.now.firsts ≡ length list.now.list }
-    requires place { start ≤ length list.now.list }
-    ensures { HasStretch lines circuit.now list.now.list verdicts.now.firsts result }
+fn stretch_of<L: FaultLines>(lines: &L, start: u32, text: Vec<u8>) -> Result<Stretch, OutFailed>
+    requires place { start ≤ length (L.texts lines.now) }
+    ensures { HasStretch (L.texts lines.now) result }
 {
-    let end = end_of(list, start);
+    let end = end_of(lines.count(), start);
     let mut text = text;
     text.clear();
     let mut out = Plain::new(text);
-    put_lines(circuit, list, verdicts, lines, start, end, &mut out)?;
+    lines.put(start, end, &mut out)?;
     let text = out.into_writer();
     Ok(Stretch { start, end, text })
 }
@@ -277,32 +264,23 @@ fn stretch_of(
 /// Puts the lines of a stretch for each thread together, each in a thread of its own, and the last
 /// one in the caller's thread. If a thread cannot start, the caller's thread puts its lines
 /// together, and those of the following threads are missing.
-fn share_lines<R: Threads + Wait>(
+fn share_lines<R: Threads + Wait, L: FaultLines + Sync>(
     rt: &R,
     alloc: Global,
-    circuit: &Circuit,
-    list: &Faults,
-    verdicts: &Verdicts,
-    lines: Lines,
+    lines: &L,
     place: u32,
     threads: u32,
     spare: Vec<Vec<u8>>,
 ) -> Result<Vec<Result<Stretch, OutFailed>>, AllocError>
-    requires list { list.now.list ≡ faults list.now.model circuit.now }
-    requires count { length verdicts.now.firsts ≡ length list.now.list }
-    requires place { place ≤ length list.now.list }
-    ensures { IfOk result (λ parts.
-        HaveStretches lines circuit.now list.now.list verdicts.now.firsts parts.items) }
+    requires place { place ≤ length (L.texts lines.now) }
+    ensures { IfOk result (λ parts. HaveStretches (L.texts lines.now) parts.items) }
 {
     thread::scope(
         thread::scope_env(),
         rt,
         move |scope| -> Result<Vec<Result<Stretch, OutFailed>>, AllocError>
-            requires list { list.now.list ≡ faults list.now.model circuit.now }
-            requires count { length verdicts.now.firsts ≡ length list.now.list }
-            requires place { place ≤ length list.now.list }
-            ensures { IfOk result (λ parts. HaveStretches lines circuit.entry.now
-                list.entry.now.list verdicts.entry.now.firsts parts.items) }
+            requires place { place ≤ length (L.texts lines.now) }
+            ensures { IfOk result (λ parts. HaveStretches (L.texts lines.entry.now) parts.items) }
         {
             let mut buffers = spare.into_iter();
             let mut handles = Vec::with_capacity(alloc, threads as usize)?;
@@ -310,22 +288,17 @@ fn share_lines<R: Threads + Wait>(
             for _thread in 1..threads {
                 let text = buffers.next().unwrap_or(Vec::new(alloc));
                 let promised = LinesOf {
-                    circuit: Snapshot::of(circuit),
-                    list: Snapshot::of(list),
-                    verdicts: Snapshot::of(verdicts),
-                    lines,
+                    lines: Snapshot::of(lines),
                 };
-                let Ok(handle) = scope.spawn_with(
-                    promised,
-                    move || stretch_of(circuit, list, verdicts, lines, start, text),
-                ) else {
+                let Ok(handle) = scope.spawn_with(promised, move || stretch_of(lines, start, text))
+                else {
                     break;
                 };
                 handles.push(handle)?;
-                start = end_of(list, start);
+                start = end_of(lines.count(), start);
             }
             let text = buffers.next().unwrap_or(Vec::new(alloc));
-            let own = stretch_of(circuit, list, verdicts, lines, start, text);
+            let own = stretch_of(lines, start, text);
             let Ok(mut parts) = thread::join_promised(rt, handles) else {
                 return Err(AllocError);
             };

@@ -13,6 +13,7 @@ mod contents;
 mod counts;
 mod curve;
 mod detected;
+mod fault_lines;
 mod histogram;
 mod in_threads;
 mod launched;
@@ -39,7 +40,9 @@ pub use job_loading::{
 };
 pub use launched::pairs_text_in;
 pub use laws::class_firsts_are;
-pub use reasoned::{reason_counts, reasons_text_watched, words_of, write_reasons};
+pub use reasoned::{
+    reason_counts, reasons_text_watched, words_of, write_reasons, write_reasons_in_threads,
+};
 pub use report::{
     detected_classes, first_text, put_coverage, put_fault_line, write_fault, write_listing,
     write_report, write_report_with,

@@ -1,6 +1,6 @@
 //! The report of the undetected faults with their reasons.
 
-ghost use Rattle.std.specs.Prelude.{◌≡◌, ◌<◌, ◌≤◌, ◌++◌, IfErr, OnOk, Some, codes};
+ghost use Rattle.std.specs.Prelude.{◌≡◌, ◌<◌, ◌≤◌, IfErr, OnOk, Some};
 ghost use Rattle.std.specs.Prelude.{count_by, length, slice_get, zip};
 ghost use Rattle.std.specs.List.{flat_map};
 ghost use Rattle.fault_model.specs.Fault.{faults};
@@ -11,9 +11,12 @@ ghost use Rattle.workers.specs.Refused.{ArePartsWithin, IsPartsFault};
 ghost use Rattle.report.specs.Counts.{reason_counts_of};
 ghost use Rattle.report.specs.EndToEnd.{IsJobTextFault, IsWatchedFault, IsWithin, WritesOneOf};
 ghost use Rattle.report.specs.Reasons.{IsReasonReportOf, IsReasonReportOfJob, has_reason};
-ghost use Rattle.report.specs.Reasons.{reason_line, reason_report, reason_text, reasons_line};
+ghost use Rattle.report.specs.Reasons.{reason_line, reason_report, reason_text, reason_totals};
+ghost use Rattle.report.specs.Reasons.{reasons_between, reasons_line};
 
 use crate::contents::{Contents, Lines};
+use crate::fault_lines::ReasonLines;
+use crate::in_threads::put_in_threads;
 use crate::report::{put_fault_line, write_report_with};
 use bench_net::Circuit;
 use block_sim::Job;
@@ -93,7 +96,16 @@ fn report_reasons<R: Threads + Wait, G: Watch + Sync, W: Out>(
     let verdicts = run_watched(rt, alloc, job, parts, workers, gate)?;
     let reasons = reasons(alloc, job, &verdicts)?;
     gate.explains(reason_counts(&reasons));
-    write_reasons(job, &verdicts, reasons.as_slice(), classes, out)?;
+    write_reasons_in_threads(
+        rt,
+        alloc,
+        job,
+        &verdicts,
+        reasons.as_slice(),
+        classes,
+        workers,
+        out,
+    )?;
     Ok(())
 }
 
@@ -118,14 +130,84 @@ pub fn write_reasons<W: Out>(
         (reason_report job.now.list.model job.now.circuit job.now.classes verdicts.now.firsts
         reasons.now classes) }
 {
+    put_reasons(job.circuit(), job.faults(), reasons, out)?;
+    write_totals(job, verdicts, reasons, classes, out)
+}
+
+/// Writes the report of the undetected faults of a job with their reasons, with the same bytes as
+/// [`write_reasons`]. At most as many threads as there are workers put the lines together, in
+/// stretches of the list, which are written in order. If a thread doesn't start, the caller's thread
+/// puts its lines together. If memory runs out, the caller's thread writes the lines one by one,
+/// without memory.
+///
+/// # Errors
+///
+/// [`ReportFault::Write`] if the output takes nothing more. It has a beginning of the report.
+pub fn write_reasons_in_threads<R: Threads + Wait, W: Out>(
+    rt: &R,
+    alloc: Global,
+    job: &Job,
+    verdicts: &Verdicts,
+    reasons: &[Option<Reason>],
+    classes: bool,
+    workers: u32,
+    out: &mut W,
+) -> Result<(), ReportFault>
+    requires verdicts { length verdicts.now.firsts ≡ length job.now.list.list }
+    requires reasons { length reasons.now ≡ length job.now.list.list }
+    ensures { Writes result (W.seen out.old) (W.seen out.new)
+        (reason_report job.now.list.model job.now.circuit job.now.classes verdicts.now.firsts
+        reasons.now classes) }
+{
+    let (circuit, list) = (job.circuit(), job.faults());
+    put_reasons_in_threads(rt, alloc, circuit, list, reasons, workers, out)?;
+    write_totals(job, verdicts, reasons, classes, out)
+}
+
+/// Writes the report without lines of faults, and then the number of faults for each reason.
+fn write_totals<W: Out>(
+    job: &Job,
+    verdicts: &Verdicts,
+    reasons: &[Option<Reason>],
+    classes: bool,
+    out: &mut W,
+) -> Result<(), ReportFault>
+    requires { length verdicts.now.firsts ≡ length job.now.list.list }
+    ensures { Writes result (W.seen out.old) (W.seen out.new)
+        (reason_totals job.now.list.model job.now.circuit job.now.classes verdicts.now.firsts
+        reasons.now classes) }
+{
     let contents = Contents {
         lines: Lines::Omitted,
         classes,
     };
-    put_reasons(job.circuit(), job.faults(), reasons, out)?;
     write_report_with(job, verdicts, contents, out)?;
     put_reason_counts(reasons, out)?;
     Ok(())
+}
+
+/// Writes a line for each fault that has a reason, by [`put_in_threads`].
+fn put_reasons_in_threads<R: Threads + Wait, W: Out>(
+    rt: &R,
+    alloc: Global,
+    circuit: &Circuit,
+    list: &Faults,
+    reasons: &[Option<Reason>],
+    workers: u32,
+    out: &mut W,
+) -> Result<(), OutFailed>
+    requires list { list.now.list ≡ faults list.now.model circuit.now }
+    requires count { length reasons.now ≡ length list.now.list }
+    ensures { Writes result (W.seen out.old) (W.seen out.new)
+        (flat_map (reason_line circuit.now)
+        (zip (faults list.now.model circuit.now) reasons.now)) }
+{
+    let lines = ReasonLines {
+        circuit,
+        list,
+        reasons,
+    };
+    put_in_threads(rt, alloc, &lines, workers, out)
 }
 
 /// Writes a line for each fault that has a reason.
@@ -141,7 +223,27 @@ fn put_reasons<W: Out>(
         (flat_map (reason_line circuit.now)
         (zip (faults list.now.model circuit.now) reasons.now)) }
 {
-    for fault in 0..list.count() {
+    put_reason_lines(circuit, list, reasons, 0, list.count(), out)
+}
+
+/// Writes a line for each fault of a stretch of the list that has a reason. The stretch has the
+/// faults from one number up to another.
+pub(crate) fn put_reason_lines<W: Out>(
+    circuit: &Circuit,
+    list: &Faults,
+    reasons: &[Option<Reason>],
+    start: u32,
+    end: u32,
+    out: &mut W,
+) -> Result<(), OutFailed>
+    requires list { list.now.list ≡ faults list.now.model circuit.now }
+    requires count { length reasons.now ≡ length list.now.list }
+    requires order { start ≤ end }
+    requires within { end ≤ length list.now.list }
+    ensures { Writes result (W.seen out.old) (W.seen out.new)
+        (reasons_between circuit.now list.now.list reasons.now start end) }
+{
+    for fault in start..end {
         let Some(reason) = reason_at(reasons, fault) else {
             continue;
         };

@@ -13,13 +13,12 @@ ghost use Rattle.report.specs.Report.{cell_text, class_line};
 ghost use Rattle.report.specs.Report.{defect_text, fault_text, fault_lines, first_text, report};
 ghost use Rattle.report.specs.Report.{listing};
 ghost use Rattle.report.specs.Report.{class_coverage_line, class_firsts, coverage_of, first_at};
-ghost use Rattle.report.specs.Report.{contents_of, coverage_line, whole_report};
-ghost use Rattle.report.specs.Stretches.{lines_between};
+ghost use Rattle.report.specs.Report.{contents_of, coverage_line, lines_between, whole_report};
 
 use crate::contents::{Contents, Lines};
 use bench_net::Circuit;
 use block_sim::Job;
-use byte_output::{Out, OutFailed, put_pieces};
+use byte_output::{Out, OutFailed, put_all, put_pieces};
 use fault_model::laws::stems;
 use fault_model::{Classes, Faults, Line, Model};
 use itoa::Buffer;
@@ -94,8 +93,26 @@ pub fn put_coverage<'a, W: Out>(
     put_pieces(&pieces, out)
 }
 
+/// Writes a text.
+#[inline(always)]
+fn put_text<'a, W: Out>(text: &'a str, out: &mut W) -> Result<(), OutFailed>
+    ensures { Writes result (W.seen out.old) (W.seen out.new) text.now }
+{
+    put_all(text.as_bytes(), out)
+}
+
+/// Writes two texts, one after the other.
+#[inline(always)]
+fn put_both<'a, W: Out>(first: &'a str, second: &'a str, out: &mut W) -> Result<(), OutFailed>
+    ensures { Writes result (W.seen out.old) (W.seen out.new) (first.now ++ second.now) }
+{
+    put_text(first, out)?;
+    put_text(second, out)
+}
+
 /// Writes a fault: a line of the circuit by its kind, its name and, after a gap, its place, then
 /// the stuck bit or the slow edge.
+#[inline(always)]
 fn put_words<'a, W: Out>(
     kind: &'a str,
     name: &'a str,
@@ -107,11 +124,14 @@ fn put_words<'a, W: Out>(
     ensures { Writes result (W.seen out.old) (W.seen out.new)
         (kind.now ++ (name.now ++ (gap.now ++ (place.now ++ defect.now)))) }
 {
-    put_pieces(&[kind, name, gap, place, defect], out)
+    put_both(kind, name, out)?;
+    put_both(gap, place, out)?;
+    put_text(defect, out)
 }
 
 /// Writes a fault of a list: its line, and the stuck bit or the slow edge. Pins and OUTPUT lines
 /// count from 1 in the text.
+#[inline(always)]
 fn put_fault<W: Out>(
     circuit: &Circuit,
     list: &Faults,
@@ -153,6 +173,7 @@ fn put_fault<W: Out>(
 /// # Errors
 ///
 /// [`OutFailed`] if the output takes nothing more. It has a beginning of the line.
+#[inline(always)]
 pub fn put_fault_line<'a, W: Out>(
     circuit: &Circuit,
     list: &Faults,
@@ -168,7 +189,8 @@ pub fn put_fault_line<'a, W: Out>(
         (fault_text circuit.now f ++ (codes " " ++ word.now ++ said.now ++ codes "\n")) }
 {
     put_fault(circuit, list, fault, out)?;
-    put_pieces(&[" ", word, said, "\n"], out)
+    put_both(" ", word, out)?;
+    put_both(said, "\n", out)
 }
 
 /// Returns the text of a fault's first test: its number, from 0, or `none`. The digits are in the

@@ -1,5 +1,5 @@
 use Rattle.std.proofs.lemmas.Result.{err_from_is_err_and}
-use Rattle.byte_output.proofs.Public.{stopped_after, stopped_before, takes_more}
+use Rattle.byte_output.proofs.Public.{stopped_before, writes_then}
 use Rattle.report.proofs.reasoned.write_reasons.Goals as goal
 
 pub returns-in_err-put_reasons : goal.returns-in_err-put_reasons
@@ -9,25 +9,8 @@ returns-in_err-put_reasons g c =
     c.in_err-put_reasons.ensures in
     rw (p.1) (stopped_before _ _ _ _ wrote)
 
-pub returns-in_err-write_report_with : goal.returns-in_err-write_report_with
-returns-in_err-write_report_with g c =
-    let p = err_from_is_err_and c.from_residual-in_err-write_report_with.result
-    c.from_residual-in_err-write_report_with.ensures.1 in
-    let wrote = rw (c.circuit.ensures.part, c.faults.ensures.part) at c.in_ok-put_reasons.ensures in
-    rw (p.1) (stopped_after _ _ _ _ _ wrote
-    (stopped_before _ _ _ _ c.in_err-write_report_with.ensures))
-
-pub returns-in_err-put_reason_counts : goal.returns-in_err-put_reason_counts
-returns-in_err-put_reason_counts g c =
-    let p = err_from_is_err_and c.from_residual-in_err-put_reason_counts.result
-    c.from_residual-in_err-put_reason_counts.ensures.1 in
-    let wrote = rw (c.circuit.ensures.part, c.faults.ensures.part) at c.in_ok-put_reasons.ensures in
-    rw (p.1) (stopped_after _ _ _ _ _ wrote
-    (stopped_after _ _ _ _ _ c.in_ok-write_report_with.ensures
-    c.in_err-put_reason_counts.ensures))
-
 pub returns : goal.returns
 returns g c =
-    let wrote = rw (c.circuit.ensures.part, c.faults.ensures.part) at c.in_ok-put_reasons.ensures in
-    takes_more _ _ _ _ _ wrote
-    (takes_more _ _ _ _ _ c.in_ok-write_report_with.ensures c.in_ok-put_reason_counts.ensures)
+    let wrote = rw (c.circuit.ensures.part, c.faults.ensures.part) at
+    c.in_ok-put_reasons.ensures in
+    writes_then _ _ _ _ _ _ wrote c.write_totals.ensures

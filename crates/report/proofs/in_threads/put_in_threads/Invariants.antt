@@ -1,14 +1,14 @@
 use Rattle.std.proofs.Common.{◌-◌, ◌≤◌, length}
 use Rattle.byte_output.specs.Output.{TakesAll}
-use Rattle.report.specs.Stretches.{lines_between}
-use Rattle.report.proofs.in_threads.put_firsts_in_threads.Given as goal
+use Rattle.report.specs.Texts.{text_between}
+use Rattle.report.proofs.in_threads.put_in_threads.Given as goal
 
 -- the lines of the faults so far were taken whole
 abbrev pub invariant-loop-place : goal.invariant-loop-place
 invariant-loop-place g l = record {
-  low : l.place ≤ length l.list.list;
+  low : l.place ≤ length (g.L.FaultLines.texts l.lines);
   taken : TakesAll (g.W.Out.seen l.initial.out) (g.W.Out.seen l.out)
-      (lines_between l.lines l.circuit l.list.list l.verdicts.firsts 0 l.place);
+      (text_between (g.L.FaultLines.texts l.lines) 0 l.place);
 }
 
 abbrev pub decreases-loop-place : goal.decreases-loop-place
