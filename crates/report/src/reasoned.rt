@@ -135,10 +135,8 @@ pub fn write_reasons<W: Out>(
 }
 
 /// Writes the report of the undetected faults of a job with their reasons, with the same bytes as
-/// [`write_reasons`]. At most as many threads as there are workers put the lines together, in
-/// stretches of the list, which are written in order. If a thread doesn't start, the caller's thread
-/// puts its lines together. If memory runs out, the caller's thread writes the lines one by one,
-/// without memory.
+/// [`write_reasons`]. At most as many threads as there are workers put the lines together, as in
+/// [`crate::write_report_in_threads`].
 ///
 /// # Errors
 ///

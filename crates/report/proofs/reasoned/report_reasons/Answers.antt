@@ -3,7 +3,8 @@ use Rattle.std.proofs.lemmas.Result.{err_from_is_err_and}
 use Rattle.report.specs.Reasons.{reason_report}
 use Rattle.report.proofs.reasoned.report_reasons.Goals as goal
 
-pub returns-in_err-write_reasons_in_threads-clause-written : goal.returns-in_err-write_reasons_in_threads-clause-written
+pub returns-in_err-write_reasons_in_threads-clause-written :
+    goal.returns-in_err-write_reasons_in_threads-clause-written
 returns-in_err-write_reasons_in_threads-clause-written g c =
     let p = err_from_is_err_and c.from_residual-in_err-write_reasons_in_threads.result
     c.from_residual-in_err-write_reasons_in_threads.ensures.1 in

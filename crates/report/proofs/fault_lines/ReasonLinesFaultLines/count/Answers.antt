@@ -4,5 +4,7 @@ use Rattle.report.proofs.LinesOfStretches.{mapped_count}
 use Rattle.report.proofs.fault_lines.ReasonLinesFaultLines.count.Goals as goal
 
 pub returns : goal.returns
-returns c = c.count.ensures ∙ sym (mapped_count (reason_line c.args.self.now.circuit.now)
-    c.args.self.now.list.now.list c.args.self.now.reasons.now c.args.self.now.counted)
+returns c =
+    let own = c.args.self.now in
+    c.count.ensures ∙ sym (mapped_count (reason_line own.circuit.now) own.list.now.list
+    own.reasons.now own.counted)
