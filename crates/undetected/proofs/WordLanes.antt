@@ -160,6 +160,16 @@ seconds_decide block k lt = (there, back)
     back : IsSecondOfPair (64 * block + k) → lane 12297829382473034410 k ≡ true
     back h = let odd = second_odd (64 * block + k) h in is ∙ eq-eqb (k % 2) 1 (omega (arith, odd))
 
+-- a word without a lane that is 1 has no such test
+pub no_lane : (P : ℕ → Type 0) (block word size : ℕ)
+    → ((k : ℕ) → k < size → Decides (lane word k) (P (64 * block + k))) → word ≡ 0 → (t : ℕ)
+    → 64 * block ≤ t → t < 64 * block + size → P t → ⊥
+no_lane P block word size decides none t from lt h =
+    let k = t - 64 * block in
+    let is : t ≡ 64 * block + k = omega (arith, from) in
+    let shown : lane word k ≡ true = (decides k (omega (arith, from, lt))).1 (subst P is h) in
+    false≢true (sym (ap (λ w. lane w k) none ∙ ap (λ x. x == 1) (bit_at-zero k)) ∙ shown)
+
 module _ (P : ℕ → Type 0) (block word size : ℕ) (few : word < 2 ^ 64)
     (decides : (k : ℕ) → k < size → Decides (lane word k) (P (64 * block + k))) where
   -- a word with a lane below the size of the block has such a test

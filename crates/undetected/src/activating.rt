@@ -39,6 +39,9 @@ fn activates(job: &Job, block: u32, signal: u32, bit: bool) -> bool
 {
     let _circuit = job.circuit();
     let opposite = lanes_with(job.word(block, signal), !bit);
+    if opposite == 0 {
+        return false;
+    }
     let lanes = opposite & launch_lanes(job, block, signal, bit);
     lanes.trailing_zeros() < job.tests().size_of(block)
 }

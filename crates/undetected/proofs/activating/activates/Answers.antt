@@ -1,9 +1,10 @@
 use Rattle.std.proofs.Common.{◌≡◌, ◌<◌, ◌+◌, ◌*◌, ◌-◌, ◌^◌, ◌∙◌, ℕ, ap, arith, length, min}
-use Rattle.std.proofs.Common.{not}
+use Rattle.std.proofs.Common.{not, subst, sym}
 use Rattle.std.specs.Prelude.{[], bit_and, slice_index_or}
 use Rattle.std.specs.Bool.{Decides}
-use Rattle.std.proofs.lemmas.Bool.{lt-ltb, ltb-true}
+use Rattle.std.proofs.lemmas.Bool.{false≢true, lt-ltb, ltb-true}
 use Rattle.std.proofs.lemmas.Nat.{and_le_l}
+use Rattle.std.proofs.lemmas.Option.{get_or_from_slice_get}
 use Rattle.fault_model.specs.declared.Line.TheVariants as line
 use Rattle.fault_model.specs.Detection.{HasBit, LooksBack}
 use Rattle.list_lemmas.proofs.Places.{place_within}
@@ -11,8 +12,29 @@ use Rattle.block_sim.specs.Activation.{ActivatesAt}
 use Rattle.block_sim.specs.Words.{lane}
 use Rattle.undetected.specs.Activated.{stem_fault}
 use Rattle.undetected.proofs.BitsBefore.{activating_lane, word_bit}
-use Rattle.undetected.proofs.WordLanes.{both_decide, lane_below, some_lane}
+use Rattle.undetected.proofs.WordLanes.{both_decide, lane_below, no_lane, some_lane}
 use Rattle.undetected.proofs.activating.activates.Goals as goal
+
+pub returns-then-opposite-eq0 : goal.returns-then-opposite-eq0
+returns-then-opposite-eq0 c =
+    let job = c.args.job.now in
+    let block = c.args.block in
+    let s = c.args.signal in
+    let turned = not c.args.bit in
+    let carries = λ (t : ℕ). HasBit job.circuit (slice_index_or job.tests.tests t []) (line.Stem s)
+    turned in
+    let decides : (k : ℕ) → k < 64
+    → Decides (lane c.lanes_with-opposite.result k) (carries (64 * block + k)) = λ k few.
+    let own = c.lanes_with-opposite.ensures k few in
+    let bits = word_bit job.circuit job.tests.tests block s c.word.result k turned
+    c.circuit-circuit.ensures.together.circuit.well_formed c.requires.signal c.word.ensures few in
+    (λ e. bits.0 (own.0 e), λ h. own.1 (bits.1 h)) in (
+      λ h. absurd (false≢true h),
+      λ h. absurd (no_lane carries block c.lanes_with-opposite.result 64 decides
+          c.if-opposite-eq0.true h.0 h.1 (omega (arith, h.2))
+          (subst (λ x. HasBit job.circuit x (line.Stem s) turned)
+          (sym (get_or_from_slice_get job.tests.tests h.0 h.3.0 [] h.3.1)) h.3.2)),
+    )
 
 pub returns : goal.returns
 returns c =
