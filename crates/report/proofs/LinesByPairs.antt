@@ -1,7 +1,7 @@
 -- Pairs of a list, of faults or of their names, and of another list; and lines that are written for
 -- each pair, one after another.
 use Rattle.std.proofs.Common.{◌≡◌, ◌≤◌, ◌<◌, ℕ, zero, suc, ◌+◌, List, [], ◌∷◌, length, take, ap}
-use Rattle.std.proofs.Common.{get_or, arith, refl, sym, ◌∙◌}
+use Rattle.std.proofs.Common.{get_or, arith, refl, ◌∙◌}
 use Rattle.std.specs.Prelude.{Some, None, slice_get, zip, unwrap_or}
 use Rattle.std.specs.List.{flat_map}
 use Rattle.list_lemmas.proofs.Places.{within_place}

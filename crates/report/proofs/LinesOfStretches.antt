@@ -11,7 +11,7 @@ use Rattle.std.specs.Prelude.{Some, None, slice_get, map, zip, unwrap_or}
 use Rattle.std.specs.List.{flat_map, slice_range}
 use Rattle.list_lemmas.proofs.Places.{place_within, within_place}
 use Rattle.byte_output.specs.Output.{Output, TakesAll, TakesFront}
-use Rattle.byte_output.proofs.Public.{takes_more, stopped, stopped_after, flat_map_taken}
+use Rattle.byte_output.proofs.Public.{takes_more, stopped, flat_map_taken}
 use Rattle.report.specs.Texts.{joined, text_between}
 use Rattle.report.proofs.LinesByPairs.{zipped_by, all_zipped}
 

@@ -1,4 +1,4 @@
-use Rattle.std.proofs.Common.{◌≡◌, ◌≤◌, arith, length}
+use Rattle.std.proofs.Common.{◌≡◌, arith, length}
 use Rattle.std.proofs.lemmas.Result.{err_from_is_err_and}
 use Rattle.report.proofs.LinesOfStretches.{all_cut, all_put, stretch_put}
 use Rattle.report.proofs.in_threads.put_in_threads.Goals as goal
