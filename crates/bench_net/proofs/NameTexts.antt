@@ -39,7 +39,8 @@ names_more text more start next (end ∷ ends) h is =
     let at : start ≤ length text = omega arith in
     let size = length-drop start text in
     let fits : end - start ≤ length (drop start text) = omega arith in
-    let head : take (end - start) (drop start (text ++ more)) ≡ take (end - start) (drop start text) =
+    let head : take (end - start) (drop start (text ++ more))
+    ≡ take (end - start) (drop start text) =
     rw (drop-append-le start text more at, take-append-le (end - start) (drop start text) more fits)
     refl in
     rw (head, names_more text more end next ends h.1 is) refl

@@ -1,5 +1,6 @@
 -- The names of a circuit in one text.
-use Rattle.std.specs.Prelude.{◌≡◌, ◌≤◌, ◌-◌, ℕ, zero, suc, ⊤, List, [], ◌∷◌, take, drop, slice_index}
+use Rattle.std.specs.Prelude.{◌≡◌, ◌≤◌, ◌-◌, ℕ, zero, suc, ⊤, List, [], ◌∷◌, take}
+use Rattle.std.specs.Prelude.{drop, slice_index}
 use Rattle.std.specs.Str.{IsUtf8}
 use Rattle.bench_net.specs.Statement.{Name}
 

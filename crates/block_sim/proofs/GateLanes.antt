@@ -3,7 +3,8 @@
 use Rattle.std.proofs.Common.{◌≡◌, ◌<◌, ◌≤◌, ℕ, zero, suc, ◌+◌, ◌-◌, ◌≢◌, refl, sym, ◌∙◌, ap, subst}
 use Rattle.std.proofs.Common.{Bool, true, false, not, ◌&&◌, List, [], ◌∷◌, ◌++◌, length, take}
 use Rattle.std.proofs.Common.{arith, inl, inr, ◌⊎◌}
-use Rattle.std.specs.Prelude.{Option, None, Some, map, slice_index_or, bit_and, bit_xor, nat_lt, if◌then◌else◌}
+use Rattle.std.specs.Prelude.{Option, None, Some, map, slice_index_or, bit_and, bit_xor}
+use Rattle.std.specs.Prelude.{nat_lt, if◌then◌else◌}
 use Rattle.std.specs.List.{enumerate_from, list_all}
 use Rattle.std.proofs.lemmas.Bool.{cases_eq, lt-ltb}
 use Rattle.std.proofs.lemmas.List.{take_all, take_more}
@@ -291,7 +292,8 @@ clear_pins f gate pins words delta k clear = go 0 pins
 
 -- the bit that a pin sees, by its place and the signal that it reads, if no signal differs
 abbrev pub pin_seen : Fault → ℕ → List ℕ → ℕ → ℕ → ℕ → Bool
-pin_seen f gate words k place s = under (Some f) (line.Pin gate place) (lane (word_over words [] s) k)
+pin_seen f gate words k place s =
+    under (Some f) (line.Pin gate place) (lane (word_over words [] s) k)
 
 abbrev pub pin_bit : Fault → ℕ → List ℕ → List ℕ → ℕ → ℕ → Bool
 pin_bit f gate pins words k place = pin_seen f gate words k place (slice_index_or pins place 0)
@@ -299,7 +301,8 @@ pin_bit f gate pins words k place = pin_seen f gate words k place (slice_index_o
 pub pins_by_place : (f : Fault) (gate : ℕ) (pins words : List ℕ) (k : ℕ)
     → pin_bits (Some f) gate pins words [] k
     ≡ map (pin_bit f gate pins words k) (below (length pins))
-pins_by_place f gate pins words k = go 0 pins (λ i lt. ap (λ n. slice_index_or pins n 0) (omega arith))
+pins_by_place f gate pins words k =
+    go 0 pins (λ i lt. ap (λ n. slice_index_or pins n 0) (omega arith))
   where
     go : (from : ℕ) (rest : List ℕ)
         → ((i : ℕ) → i < length rest → slice_index_or rest i 0 ≡ slice_index_or pins (from + i) 0)

@@ -12,6 +12,8 @@ returns c = λ k lt.
     c.if-gate.word c.in_each_lane.result k
     c.requires.form (c.in_each_lane.ensures k lt)
     (elim c.if-gate.branch [
-      | then-gate w ↦ inl (w.if-gate.true, ap (λ x. lane x k) w.word-is ∙ w.odd_of-word.ensures k lt)
-      | else-gate w ↦ inr (w.if-gate.false, ap (λ x. lane x k) w.word-is ∙ w.all_of-word.ensures k lt)
+      | then-gate w ↦
+          inl (w.if-gate.true, ap (λ x. lane x k) w.word-is ∙ w.odd_of-word.ensures k lt)
+      | else-gate w ↦
+          inr (w.if-gate.false, ap (λ x. lane x k) w.word-is ∙ w.all_of-word.ensures k lt)
     ])
