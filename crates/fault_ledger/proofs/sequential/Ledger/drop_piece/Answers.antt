@@ -1,4 +1,4 @@
-use Rattle.std.proofs.Common.{◌≡◌, ℕ, ◌%◌, ◌/◌, ◌<◌, List, Option, Some, None, Err, set, get_or}
+use Rattle.std.proofs.Common.{◌≡◌, ℕ, ◌%◌, ◌/◌, ◌<◌, List, Option, Some, None, Err, set, get_or, rules}
 use Rattle.std.proofs.Common.{nat_lt, slice_get, sym, ◌∙◌, subst, ap, arith, lt-ltb, le-ltb}
 use Rattle.std.proofs.lemmas.Option.{slice_get_within}
 use Rattle.std.proofs.lemmas.Result.{err_from_is_err_and}
@@ -133,3 +133,6 @@ returns-clause-answer c =
     subst (λ (g : Face). Answers g (call.Drop c.args.worker) Done new) c.self.view_is
     (done (goal.at.returns-clause-answer c).In_ok-piece c.index.result.now c.index.ensures
     c.if-index-piece.false)
+
+pub returns-then-index-piece-clause-refused : goal.returns-then-index-piece-clause-refused
+returns-then-index-piece-clause-refused c = search rules

@@ -58,3 +58,6 @@ invariant_of-result c = (
 
 pub returns-clause-face : goal.returns-clause-face
 returns-clause-face c = opens c
+
+pub returns-in-Some-clause-memory : goal.returns-in-Some-clause-memory
+returns-in-Some-clause-memory c = search rules

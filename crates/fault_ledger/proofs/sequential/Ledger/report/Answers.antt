@@ -1,4 +1,4 @@
-use Rattle.std.proofs.Common.{◌≡◌, ℕ, ◌<◌, true, List, Option, Some, None, Err, set, length, get_or}
+use Rattle.std.proofs.Common.{◌≡◌, ℕ, ◌<◌, true, List, Option, Some, None, Err, set, length, get_or, rules}
 use Rattle.std.proofs.Common.{slice_get, sym, ◌∙◌, subst, ap, arith}
 use Rattle.std.proofs.lemmas.Option.{slice_get_within}
 use Rattle.std.proofs.lemmas.Result.{err_from_is_err_and}
@@ -158,3 +158,6 @@ returns-clause-answer c =
     (λ (g : Face). Answers g (call.Report c.args.worker c.args.outcome) Done new) c.self.view_is
     (done (goal.at.returns-clause-answer c).In_ok-piece c.state_after.result good
     c.state_after.ensures)
+
+pub returns-then-not-takes-clause-refused : goal.returns-then-not-takes-clause-refused
+returns-then-not-takes-clause-refused c = search rules

@@ -1,4 +1,4 @@
-use Rattle.std.proofs.Common.{◌<◌, sym, subst}
+use Rattle.std.proofs.Common.{◌<◌, sym, subst, rules}
 use Rattle.fault_ledger.proofs.PieceNumbers.{some_class}
 use Rattle.fault_ledger.proofs.SeatSteps.{seated_piece}
 use Rattle.fault_ledger.proofs.shared.Seat.held.Goals as goal
@@ -10,3 +10,6 @@ class_and_block-place-requires c =
     c.in_ok-piece.piece c.self.invariant c.in_ok-piece.was in
     subst (λ n. 0 < n) (sym c.self.invariant.classes_is)
     (some_class i.token.place.shape c.in_ok-piece.piece a)
+
+pub returns-clause-held : goal.returns-clause-held
+returns-clause-held c = search rules

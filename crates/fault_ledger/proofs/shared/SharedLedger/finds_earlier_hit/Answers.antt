@@ -1,4 +1,4 @@
-use Rattle.std.proofs.Common.{◌≡◌, ℕ, ◌+◌, ◌/◌, ◌%◌, ◌<◌, ◌≤◌, Bool, true, false, slice_index_or}
+use Rattle.std.proofs.Common.{◌≡◌, ℕ, ◌+◌, ◌/◌, ◌%◌, ◌<◌, ◌≤◌, Bool, true, false, slice_index_or, rules}
 use Rattle.std.proofs.Common.{refl, sym, ap, ◌∙◌, subst, arith}
 use Rattle.fault_ledger.specs.History.{ContinuesWithout, class_of, block_of, piece_at, entry}
 use Rattle.fault_ledger.specs.Answer.{is_hit}
@@ -132,3 +132,6 @@ returns c =
                 is_hit (entry (piece_at s (class_of s p) k) b.seen)) n (block_of s p) here all),
           );
     }
+
+pub returns-then-known-end-clause-block_zero : goal.returns-then-known-end-clause-block_zero
+returns-then-known-end-clause-block_zero c = search rules
