@@ -18,5 +18,8 @@ mod ClaimedStretches
 mod RunsOfParts
 mod ReturnsByPart
 mod SharedStretches
+mod WindowTests
+mod WindowWords
+mod WindowFirsts
 mod PartRefusals
 pub mod Public

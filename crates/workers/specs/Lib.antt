@@ -11,3 +11,4 @@ pub mod Refused
 pub mod BlockSweeps
 pub mod Stretches
 pub mod ListRunners
+pub mod Windows

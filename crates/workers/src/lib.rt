@@ -30,6 +30,7 @@ mod stretch_run;
 mod stretch_workers;
 mod stretches;
 mod verdicts;
+mod windows;
 
 ghost use Rattle.std.specs.Prelude.{◌≡◌, ◌<◌, ◌≤◌, ◌*◌, IfErr, OnOk, length};
 ghost use Rattle.patterns.specs.Tests.{blocks, max_pieces};
@@ -52,6 +53,7 @@ use std::alloc::{AllocError, AllocFailed};
 pub use stretches::parts_for;
 use thiserror::Error;
 pub use verdicts::Verdicts;
+pub use windows::{run_in_windows, run_part_in_windows, window_blocks, without_first};
 
 /// An error of a run.
 #[derive(Clone, Copy, Debug, PartialEq, Eq, Error)]
@@ -120,7 +122,17 @@ pub(crate) fn check_pieces(job: &Job, classes: u32) -> Result<(), RunFault>
     ensures refused { IfErr result (λ fault. (fault ≡ RunFault.TooManyPieces)
         × (max_pieces < classes * blocks (length job.now.tests.tests))) }
 {
-    let pieces = u64::from(classes) * u64::from(job.tests().blocks());
+    check_pieces_of(classes, job.tests().blocks())
+}
+
+/// Checks that this number of classes has no more pieces than a ledger takes, on this number of
+/// blocks.
+pub(crate) fn check_pieces_of(classes: u32, blocks: u32) -> Result<(), RunFault>
+    ensures few { OnOk result (classes * blocks ≤ max_pieces) }
+    ensures refused { IfErr result (λ fault. (fault ≡ RunFault.TooManyPieces)
+        × (max_pieces < classes * blocks)) }
+{
+    let pieces = u64::from(classes) * u64::from(blocks);
     if pieces > u64::from(MAX_PIECES) {
         Err(RunFault::TooManyPieces)
     } else {

@@ -79,7 +79,7 @@ pub(crate) fn by_class(
 }
 
 /// Returns the verdict of each fault, which is the verdict of its class.
-fn of_faults(
+pub(crate) fn of_faults(
     alloc: Global,
     job: &Job,
     by_class: &[PartVerdict],
@@ -494,13 +494,13 @@ fn hand_out<G: Gate + Sync, R: Threads + Wait>(
 
 /// The first tests of classes that ran in stretches, and the closed ledger of these.
 #[derive(Drop)]
-struct Gathered {
-    firsts: Vec<Option<u32>>,
-    ledger: Closed,
+pub(crate) struct Gathered {
+    pub(crate) firsts: Vec<Option<u32>>,
+    pub(crate) ledger: Closed,
 }
 
 /// Runs all stretches, each by one worker. The closed ledger shows whether all classes are settled.
-fn gather<G: Gate + Sync, R: Threads + Wait>(
+pub(crate) fn gather<G: Gate + Sync, R: Threads + Wait>(
     rt: &R,
     alloc: Global,
     job: &Job,

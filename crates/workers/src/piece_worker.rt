@@ -43,6 +43,18 @@ pub trait Gate {
         ensures passing { passing self.now → result ≡ true }
         ensures stopped { result ≡ false → (stops self.now).may worker class block }
         ensures shut { (stops self.now).must worker class block → result ≡ false };
+
+    /// Returns whether the gate is known to let every piece pass. Only then does a run go window by
+    /// window ([`crate::run_in_windows`]).
+    fn lets_all_pass(&self) -> bool
+        ensures { result ≡ true → passing self.now }
+    {
+        false
+    }
+
+    /// Takes the blocks of a window when a run begins with it, from the first to before the end: all
+    /// pieces on the blocks before are settled. Only a run in windows calls it.
+    fn opens(&self, _first: u32, _end: u32) {}
 }
 
 /// A gate that lets every piece pass.
@@ -57,6 +69,10 @@ impl Gate for OpenGate {
     ghost stops = { λ _. no_stop };
 
     fn pass(&self, _worker: u32, _class: u32, _block: u32) -> bool {
+        true
+    }
+
+    fn lets_all_pass(&self) -> bool {
         true
     }
 }
