@@ -21,5 +21,6 @@ mod SharedStretches
 mod WindowTests
 mod WindowWords
 mod WindowFirsts
+mod WindowSteps
 mod PartRefusals
 pub mod Public

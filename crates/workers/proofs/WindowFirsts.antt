@@ -30,7 +30,7 @@ left_has : (classes : List ℕ) (firsts : List (Option ℕ)) (k class : ℕ)
     → (j : ℕ) × (slice_get (left_of classes firsts) j ≡ Some class)
 left_has [] firsts k class at none = absurd (let bad : None ≡ Some class = at in cc)
 left_has (x ∷ classes) [] k class at none =
-    absurd (let bad : None ≡ Some (None {0} {ℕ}) = none in cc)
+    absurd (let bad : None ≡ Some None = none in cc)
 left_has (x ∷ classes) (None ∷ firsts) zero class at none = (0, at)
 left_has (x ∷ classes) (None ∷ firsts) (suc k) class at none =
     let j = left_has classes firsts k class at none in
@@ -107,7 +107,7 @@ firsts_after m c tests window from first end h n classes left firsts found next 
           (ap (λ (l : List (Option ℕ)). slice_get l k) (sym e) ∙ there) in
           let y = zip_at classes firsts k x.0 x.1 in
           let same : class ≡ x.0.0 = let q = sym at ∙ y.0 in cc in
-          subst (IsFirstBelow c tests end f) (sym x.2)
+          subst (IsFirstBelow c tests end f) x.2
           (subst (λ k. IsFirstBelow c tests end f (advanced from x.0.1 (get_or table k OtherPart)))
           same (go k class f x.0.1 at own y.1));
     }
@@ -160,24 +160,15 @@ firsts_settled m c tests first end classes firsts up known empty = record {
 
 -- at first no class has a first test
 pub firsts_begin : (m : Model) (c : List Statement) (tests : List Test) (classes : List ℕ)
-    (firsts : List (Option ℕ)) → firsts ≡ replicate (length classes) None
-    → AreFirstsBelow m c tests 0 classes firsts
-firsts_begin m c tests classes firsts e = record {
-  count = ap (λ (l : List (Option ℕ)). length l) e ∙ long (length classes);
+    (firsts : List (Option ℕ)) → length firsts ≡ length classes
+    → All (λ first. first ≡ None) firsts → AreFirstsBelow m c tests 0 classes firsts
+firsts_begin m c tests classes firsts count none = record {
+  count = count;
   first = λ k class f r at own there.
-      let same = none (length classes) k r
-      (ap (λ (l : List (Option ℕ)). slice_get l k) (sym e) ∙ there) in
+      let same : r ≡ None = sym (get_or_from_slice_get firsts k r None there)
+      ∙ none k None (slice_get_within firsts k r there) in
       subst (IsFirstBelow c tests 0 f) (sym same) (λ t lt d. absurd (omega (arith, lt)));
 }
-  where
-    long : (n : ℕ) → length (replicate n (None {0} {ℕ})) ≡ n
-    long zero = refl
-    long (suc n) = ap suc (long n)
-
-    none : (n k : ℕ) (r : Option ℕ) → slice_get (replicate n (None {0} {ℕ})) k ≡ Some r → r ≡ None
-    none zero k r there = absurd (let bad : None ≡ Some r = there in cc)
-    none (suc n) zero r there = let q : Some None ≡ Some r = there in cc
-    none (suc n) (suc k) r there = none n k r there
 
 -- after all windows the first tests are those of all tests
 pub firsts_end : (m : Model) (c : List Statement) (tests : List Test) (end : ℕ) (classes : List ℕ)

@@ -1,6 +1,6 @@
 -- The tests of a window, and which of them detect a fault.
 use Rattle.std.proofs.Common.{◌≡◌, ◌⊎◌, ◌<◌, ◌≤◌, ◌+◌, ◌*◌, ◌-◌, ◌∙◌, inl, inr, ℕ, zero, suc, List}
-use Rattle.std.proofs.Common.{Option, Some, None, refl, sym, ap, subst, arith, length, get_or, tt}
+use Rattle.std.proofs.Common.{Option, Some, None, refl, sym, ap, subst, arith, length}
 use Rattle.std.proofs.lemmas.Bool.{cases_lt, lt-ltb}
 use Rattle.std.proofs.lemmas.Option.{slice_get_within}
 use Rattle.std.specs.Prelude.{Bool, slice_get}
@@ -107,7 +107,9 @@ first_after c tests window from first end f h (Some k) of even after low few kno
     let lt = slice_get_within window k d.0 d.1 in
     let small : k + from < 4294967296 = omega (arith, lt, of.within, few) in
     let turn : from + k ≡ k + from = omega arith in
-    subst (IsFirstBelow c tests end f) (sym (rw (lt-ltb (k + from) 4294967296 small) refl)) (
+    let is-moved : moved from (Some k) ≡ Some (k + from) =
+    rw (lt-ltb (k + from) 4294967296 small) refl in
+    subst (IsFirstBelow c tests end f) (sym is-moved) (
       omega (arith, lt, of.within),
       subst (DetectsAt c tests f) turn (detects_up c tests window from end f h k of even d),
       λ t below there. go t below there (cases_lt t first),

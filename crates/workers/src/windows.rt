@@ -5,7 +5,7 @@
 //! then those that no test detects yet on the next, and so on.
 
 ghost use Rattle.std.specs.Prelude.{◌≡◌, ◌⊎◌, ◌<◌, ◌≤◌, ◌+◌, ◌*◌, All, IfErr, IfOk, List, OnOk, Option};
-ghost use Rattle.std.specs.Prelude.{⊤, ℕ, filter, is_none, length, map, slice_index_or, zip};
+ghost use Rattle.std.specs.Prelude.{⊤, ℕ, filter, is_none, length, map, min, slice_index_or, zip};
 ghost use Rattle.bench_net.specs.Scan.{sources};
 ghost use Rattle.patterns.specs.Tests.{IsTestList, TestList, blocks};
 ghost use Rattle.block_sim.specs.Parts.{with_tests};
@@ -21,6 +21,7 @@ use crate::parts::{
     PartVerdict, by_class, first_in, firsts_of_faults, gather, of_faults, skipped_after, verdict_on,
 };
 use crate::piece_worker::Gate;
+use crate::stretch_workers::no_firsts;
 use crate::stretches::{Cut, count_in, stretches_for};
 use crate::{RunFault, Verdicts, check_pieces_of, check_workers};
 use block_sim::Job;
@@ -60,7 +61,8 @@ impl Window {
         requires step { (0 < step) × (step ≤ 2047) }
         requires few { blocks ≤ 1024 }
         requires within { number * step < blocks }
-        ensures { GoesOnFrom blocks (number * step) result }
+        ensures window { GoesOnFrom blocks (number * step) result }
+        ensures end { result.end ≡ min (number * step + step) blocks }
     {
         let first = number * step;
         Window {
@@ -287,7 +289,7 @@ fn run_windows<G: Gate + Sync, R: Threads + Wait>(
 {
     let step = window_blocks(job.circuit().signals());
     let blocks = tests.blocks();
-    let mut firsts = vec![in alloc; None; classes.len()]?;
+    let mut firsts = no_firsts(alloc, classes.len())?;
     for number in 0..blocks.div_ceil(step) {
         let window = Window::new(number, step, blocks);
         firsts = run_window(
