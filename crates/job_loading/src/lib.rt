@@ -6,14 +6,16 @@
 #![tactic(auto)]
 
 mod fault;
+mod run_job;
 mod split;
 mod texts;
 mod watch;
 
 pub use fault::{ReportFault, SimFault};
-pub use split::{Split, least_parts, split_job_of};
+pub use run_job::RunJob;
+pub use split::{Split, least_parts, split_job_of, split_run_of};
 pub use texts::{
     job_for, job_for_in_threads, job_of, job_of_any_size, job_of_any_size_in_threads,
     job_of_in_threads, read_inputs, read_inputs_in_threads,
 };
-pub use watch::{ReasonCounts, Watch, run_watched};
+pub use watch::{ReasonCounts, Watch, run_apart_watched, run_watched};

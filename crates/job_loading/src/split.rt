@@ -1,6 +1,6 @@
 //! How a run is split into parts.
 
-ghost use Rattle.std.specs.Prelude.{ℕ, ◌*◌, ◌<◌, ◌≤◌, IfErr, IfOk};
+ghost use Rattle.std.specs.Prelude.{◌≡◌, ℕ, ◌*◌, ◌<◌, ◌≤◌, IfErr, IfOk, true};
 ghost use Rattle.patterns.specs.Tests.{max_pieces};
 ghost use Rattle.workers.specs.Part.{stretch_size};
 ghost use Rattle.workers.specs.Refused.{ArePartsWithin};
@@ -8,7 +8,8 @@ ghost use Rattle.job_loading.specs.Jobs.{IsJobOf};
 ghost use Rattle.job_loading.specs.Splits.{HasSomePart, IsLeastSplit, IsSplitFault, IsSplitOf};
 
 use crate::fault::SimFault;
-use crate::texts::{job_of_any_size_in_threads, job_of_in_threads};
+use crate::run_job::RunJob;
+use crate::texts::{job_of_any_size_in_threads, job_of_in_threads, run_of_any_size};
 use block_sim::Job;
 use fault_model::Model;
 use patterns::MAX_PIECES;
@@ -98,4 +99,52 @@ pub fn split_job_of<R: Threads + Wait>(
             Ok((job, parts))
         }
     }
+}
+
+/// Reads the job of a bench file and a test file under a model, for a run of all its classes.
+/// Returns it with the number of parts, as [`split_job_of`] does, with the same errors.
+///
+/// If `apart` is set, its tests may stand apart, so that it runs window by window. A run as a whole
+/// ([`Split::Whole`]) is within the limit on pieces, so it has the words of all tests.
+pub fn split_run_of<R: Threads + Wait>(
+    rt: &R,
+    alloc: Global,
+    model: Model,
+    bench: &[u8],
+    tests: &[u8],
+    split: Split,
+    apart: bool,
+    workers: u32,
+) -> Result<(RunJob, u32), SimFault>
+    requires { HasSomePart split }
+    ensures job { IfOk result (λ made. IsJobOf model bench.now tests.now made.0.parts) }
+    ensures apart { IfOk result (λ made. made.0.apart ≡ true → apart ≡ true) }
+    ensures parts { IfOk result (λ made. IsSplitOf made.0.parts split workers made.1) }
+    ensures refused { IfErr result (IsSplitFault model bench.now tests.now split) }
+{
+    match split {
+        Split::Whole => {
+            let job = job_of_in_threads(rt, alloc, model, bench, tests, workers)?;
+            let parts = parts_for(&job, workers);
+            Ok((RunJob::whole(job), parts))
+        }
+        Split::Parts(parts) => {
+            let run = run_of_any_size(rt, alloc, model, bench, tests, apart, workers)?;
+            Ok((run, parts))
+        }
+        Split::Fitting => {
+            let run = run_of_any_size(rt, alloc, model, bench, tests, apart, workers)?;
+            let parts = fitting_parts_of(&run, workers);
+            Ok((run, parts))
+        }
+    }
+}
+
+/// Returns a number of parts that suits `workers` workers, or more if a part would exceed the limit.
+fn fitting_parts_of(run: &RunJob, workers: u32) -> u32
+    ensures some { 0 < result }
+    ensures within { ArePartsWithin run.now.parts result }
+{
+    let fewest = fewest_parts(run.job().classes().count(), run.tests().blocks());
+    fewest.max(parts_for(run.job(), workers))
 }

@@ -1,6 +1,6 @@
 //! The job of a bench file and a test file.
 
-ghost use Rattle.std.specs.Prelude.{◌≤◌, length, IfErr, IfOk};
+ghost use Rattle.std.specs.Prelude.{◌≡◌, ◌≤◌, length, IfErr, IfOk, true};
 ghost use Rattle.bench_net.specs.Refusal.{IsAccepted};
 ghost use Rattle.bench_net.specs.Scan.{sources};
 ghost use Rattle.patterns.specs.Tests.{HasTests, max_pieces};
@@ -9,6 +9,7 @@ ghost use Rattle.job_loading.specs.Jobs.{AreTestsFor, IsInputFault, IsJobFault, 
 ghost use Rattle.job_loading.specs.Jobs.{IsPiecesFault, IsReadFault};
 
 use crate::fault::SimFault;
+use crate::run_job::{RunJob, make_run_in_threads};
 use bench_net::{Circuit, read_bench};
 use block_sim::Job;
 use fault_model::{Model, collapse, list_faults_in};
@@ -79,8 +80,28 @@ pub fn job_of_any_size_in_threads<R: Threads + Wait>(
     Ok(make_any_job_in_threads(rt, alloc, model, circuit, tests, workers)?)
 }
 
+/// Reads the job as [`job_of_any_size_in_threads`] does, with the same errors, for a run. Its tests
+/// may stand apart if `apart` is set.
+pub(crate) fn run_of_any_size<R: Threads + Wait>(
+    rt: &R,
+    alloc: Global,
+    model: Model,
+    bench: &[u8],
+    tests: &[u8],
+    apart: bool,
+    workers: u32,
+) -> Result<RunJob, SimFault>
+    ensures job { IfOk result (λ run. IsJobOf model bench.now tests.now run.parts) }
+    ensures apart { IfOk result (λ run. run.apart ≡ true → apart ≡ true) }
+    ensures refused { IfErr result (IsReadFault bench.now tests.now) }
+{
+    let (circuit, tests) = read_inputs_in_threads(rt, alloc, bench, tests, workers)?;
+    let run = make_run_in_threads(rt, alloc, model, circuit, tests, apart, workers)?;
+    Ok(run)
+}
+
 /// Makes the job of a circuit and of tests for it under a model, for any number of pieces.
-fn make_any_job(
+pub(crate) fn make_any_job(
     alloc: Global,
     model: Model,
     circuit: Circuit,
@@ -95,7 +116,7 @@ fn make_any_job(
 }
 
 /// Makes the job as [`make_any_job`] does, in threads.
-fn make_any_job_in_threads<R: Threads + Wait>(
+pub(crate) fn make_any_job_in_threads<R: Threads + Wait>(
     rt: &R,
     alloc: Global,
     model: Model,

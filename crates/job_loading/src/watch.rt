@@ -1,10 +1,12 @@
 //! Runs under gates that observe the whole run.
 
-ghost use Rattle.std.specs.Prelude.{◌<◌, ◌≤◌, IfErr, IfOk, OnOk};
+ghost use Rattle.std.specs.Prelude.{◌≡◌, ◌<◌, ◌≤◌, IfErr, IfOk, OnOk, true};
 ghost use Rattle.workers.specs.Refused.{ArePartsWithin, IsPartsFault};
 ghost use Rattle.workers.specs.Verdict.{AreAfterHits, AreFirsts};
 
+use crate::run_job::RunJob;
 use block_sim::Job;
+use patterns::Tests;
 use std::alloc::Global;
 use std::sync::Wait;
 use std::thread::Threads;
@@ -31,10 +33,10 @@ pub trait Watch: Gate {
     /// Ends the run: all classes are settled. Nothing is written yet.
     fn ends(&self);
 
-    /// Takes the verdicts of a run of all classes, before any text is written. A run of one part
-    /// doesn't call it.
-    fn finds(&self, _job: &Job, _verdicts: &Verdicts)
-        requires { AreFirsts _job.now.list.model _job.now.circuit _job.now.tests.tests
+    /// Takes the tests of a run of all classes of a job, which may stand apart from the job, and its
+    /// verdicts, before any text is written. A run of one part doesn't call it.
+    fn finds(&self, _job: &Job, _tests: &Tests, _verdicts: &Verdicts)
+        requires { AreFirsts _job.now.list.model _job.now.circuit _tests.now.tests
             _verdicts.now.firsts }
     {}
 
@@ -72,6 +74,33 @@ pub fn run_watched<R: Threads + Wait, G: Watch + Sync>(
     gate.starts(job.classes().count(), job.tests().blocks());
     let verdicts = run_in_parts(rt, alloc, job, parts, workers, gate)?;
     gate.ends();
-    gate.finds(job, &verdicts);
+    gate.finds(job, job.tests(), &verdicts);
+    Ok(verdicts)
+}
+
+/// Runs a job as [`run_watched`] does, window by window if its tests stand apart.
+pub fn run_apart_watched<R: Threads + Wait, G: Watch + Sync>(
+    rt: &R,
+    alloc: Global,
+    run: &mut RunJob,
+    parts: u32,
+    workers: u32,
+    gate: &G,
+) -> Result<Verdicts, RunFault>
+    requires gate { run.old.apart ≡ true → G.passing gate.now }
+    requires parts { 0 < parts }
+    ensures firsts { IfOk result (λ v. AreFirsts run.old.parts.list.model run.old.parts.circuit
+        run.old.parts.tests.tests v.firsts) }
+    ensures skipped { IfOk result (λ v. AreAfterHits run.old.parts v.skipped) }
+    ensures workers { OnOk result ((0 < workers) × (workers ≤ 64)) }
+    ensures within { OnOk result (ArePartsWithin run.old.parts parts) }
+    ensures refused { IfErr result (IsPartsFault run.old.parts parts workers (G.passing gate.now)
+        (G.stops gate.now)) }
+    ensures kept { run.new ≡ run.old }
+{
+    gate.starts(run.job().classes().count(), run.tests().blocks());
+    let verdicts = run.run(rt, alloc, parts, workers, gate)?;
+    gate.ends();
+    gate.finds(run.job(), run.tests(), &verdicts);
     Ok(verdicts)
 }

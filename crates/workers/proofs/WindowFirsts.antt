@@ -1,7 +1,7 @@
 -- The first tests of the classes of a list after a window.
-use Rattle.std.proofs.Common.{◌≡◌, ◌⊎◌, ◌<◌, ◌≤◌, ◌+◌, ◌*◌, ◌∙◌, inl, inr, ℕ, zero, suc, List, []}
-use Rattle.std.proofs.Common.{◌∷◌, Option, Some, None, refl, sym, ap, subst, arith, length, get_or}
-use Rattle.std.proofs.Common.{All, map, replicate}
+use Rattle.std.proofs.Common.{◌≡◌, ◌⊎◌, ◌<◌, ◌≤◌, ◌*◌, ◌∙◌, inl, inr, ℕ, zero, suc, List, []}
+use Rattle.std.proofs.Common.{◌∷◌, Option, Some, None, sym, ap, subst, arith, length, get_or}
+use Rattle.std.proofs.Common.{All, map}
 use Rattle.std.proofs.lemmas.List.{length-map}
 use Rattle.std.proofs.lemmas.Option.{get_or_from_slice_get, slice_get-get_or, slice_get_within}
 use Rattle.std.proofs.lemmas.Slice.Zip.{length-zip}
@@ -15,7 +15,7 @@ use Rattle.fault_model.specs.Fault.{Fault}
 use Rattle.fault_model.specs.Solution.{Test}
 use Rattle.workers.specs.declared.parts.PartVerdict.{PartVerdict}
 use Rattle.workers.specs.declared.parts.PartVerdict.TheVariants.{First, OtherPart}
-use Rattle.workers.specs.Part.{AreClassVerdicts, IsClassVerdict, first_in}
+use Rattle.workers.specs.Part.{AreClassVerdicts, IsClassVerdict}
 use Rattle.workers.specs.Verdict.{AreClassFirsts}
 use Rattle.workers.specs.Windows.{AreFirstsBelow, IsFirstBelow, IsWindowOf, advanced}
 use Rattle.workers.proofs.WindowTests.{first_after, first_of_all}

@@ -1,14 +1,13 @@
 -- The tests of a window are made of the words of its blocks.
 use Rattle.std.proofs.Common.{◌≡◌, ◌⊎◌, ◌<◌, ◌≤◌, ◌+◌, ◌*◌, ◌-◌, ◌/◌, ◌%◌, ◌++◌, ◌∙◌, inl, inr, ℕ}
 use Rattle.std.proofs.Common.{List, [], ◌∷◌, Some, refl, sym, ap, subst, arith, length, get_or, true}
-use Rattle.std.proofs.Common.{false, All, length-append, min, suc}
+use Rattle.std.proofs.Common.{false, length-append, min, suc}
 use Rattle.std.proofs.lemmas.Bool.{cases_lt}
 use Rattle.std.proofs.lemmas.List.{same_lists}
 use Rattle.std.proofs.lemmas.Option.{slice_get-get_or, slice_get_within}
 use Rattle.std.proofs.Math.ListN.{get_or-append}
 use Rattle.std.proofs.Math.Nat.{div-add-mod, min-eq_left, min-eq_right, mod-lt, mul-le-mul_left}
 use Rattle.std.proofs.Math.Seq.{get_or-append_seam}
-use Rattle.std.specs.Int.{bit_at}
 use Rattle.std.specs.Prelude.{Bool, slice_get}
 use Rattle.fault_model.specs.Solution.{Test}
 use Rattle.patterns.specs.Making.{IsMadeOf, word_of}

@@ -25,7 +25,7 @@ use crate::stretch_workers::no_firsts;
 use crate::stretches::{Cut, count_in, stretches_for};
 use crate::{RunFault, Verdicts, check_pieces_of, check_workers};
 use block_sim::Job;
-use patterns::{BLOCK_SIZE, Tests};
+use patterns::{BLOCK_SIZE, MAX_TESTS, Tests};
 use std::alloc::{AllocError, Global};
 use std::sync::Wait;
 use std::thread::Threads;
@@ -271,6 +271,7 @@ fn run_windows<G: Gate + Sync, R: Threads + Wait>(
     alloc: Global,
     job: &mut Job,
     tests: &Tests,
+    blocks_of_window: u32,
     classes: &[u32],
     workers: u32,
     gate: &G,
@@ -278,6 +279,7 @@ fn run_windows<G: Gate + Sync, R: Threads + Wait>(
     requires passing { G.passing gate.now }
     requires list { IsTestList tests.now }
     requires width { tests.now.width ≡ length (sources job.old.circuit) }
+    requires window { 0 < blocks_of_window }
     requires workers { (0 < workers) × (workers ≤ 64) }
     requires few { length classes.now ≤ length job.old.classes.representative }
     requires within { All (λ class. class < length job.old.classes.representative) classes.now }
@@ -287,7 +289,7 @@ fn run_windows<G: Gate + Sync, R: Threads + Wait>(
         (fault ≡ RunFault.Memory) ⊎ (fault ≡ RunFault.Threads)) }
     ensures kept { (some : TestList) × (job.new ≡ with_tests job.old some) }
 {
-    let step = window_blocks(job.circuit().signals());
+    let step = blocks_of_window.min(MAX_TESTS / BLOCK_SIZE);
     let blocks = tests.blocks();
     let mut firsts = no_firsts(alloc, classes.len())?;
     for number in 0..blocks.div_ceil(step) {
@@ -299,10 +301,10 @@ fn run_windows<G: Gate + Sync, R: Threads + Wait>(
     Ok(firsts)
 }
 
-/// Runs all classes of a job on a list of tests that is not its own, window by window: with the
-/// fault-free words of some blocks at a time. The verdicts are those that
-/// [`crate::run_in_parts`] returns for a job with these tests. The job has the tests of some
-/// window then.
+/// Runs all classes of a job on a list of tests that is not its own, window by window: on this
+/// number of blocks at a time ([`window_blocks`] suits), with the fault-free words of these and of
+/// the block before. The verdicts are those that [`crate::run_in_parts`] returns for a job with
+/// these tests. The job has the tests of some window then.
 ///
 /// The workers run the open classes of each window in a number of stretches that suits them. The
 /// limit on pieces is that of [`crate::run_in_parts`] for this number of parts.
@@ -316,11 +318,13 @@ pub fn run_in_windows<G: Gate + Sync, R: Threads + Wait>(
     alloc: Global,
     job: &mut Job,
     tests: &Tests,
+    blocks_of_window: u32,
     parts: u32,
     workers: u32,
     gate: &G,
 ) -> Result<Verdicts, RunFault>
     requires passing { G.passing gate.now }
+    requires window { 0 < blocks_of_window }
     requires parts { 0 < parts }
     requires list { IsTestList tests.now }
     requires width { tests.now.width ≡ length (sources job.old.circuit) }
@@ -339,7 +343,16 @@ pub fn run_in_windows<G: Gate + Sync, R: Threads + Wait>(
     let blocks = tests.blocks();
     check_pieces_of(count.div_ceil(parts), blocks)?;
     let all = all_classes(alloc, job)?;
-    let firsts = run_windows(rt, alloc, job, tests, all.as_slice(), workers, gate)?;
+    let firsts = run_windows(
+        rt,
+        alloc,
+        job,
+        tests,
+        blocks_of_window,
+        all.as_slice(),
+        workers,
+        gate,
+    )?;
     let table = by_class(alloc, count, all.as_slice(), firsts.as_slice())?;
     let skipped = skipped_after(table.as_slice(), blocks);
     let found = firsts_of_faults(alloc, job, table.as_slice())?;
@@ -358,12 +371,14 @@ pub fn run_part_in_windows<G: Gate + Sync, R: Threads + Wait>(
     alloc: Global,
     job: &mut Job,
     tests: &Tests,
+    blocks_of_window: u32,
     part: u32,
     parts: u32,
     workers: u32,
     gate: &G,
 ) -> Result<Vec<PartVerdict>, RunFault>
     requires passing { G.passing gate.now }
+    requires window { 0 < blocks_of_window }
     requires part { part < parts }
     requires list { IsTestList tests.now }
     requires width { tests.now.width ≡ length (sources job.old.circuit) }
@@ -378,7 +393,16 @@ pub fn run_part_in_windows<G: Gate + Sync, R: Threads + Wait>(
     check_workers(workers)?;
     let own = part_classes(alloc, job, part, parts)?;
     check_pieces_of(count_in(job, own.as_slice()), tests.blocks())?;
-    let firsts = run_windows(rt, alloc, job, tests, own.as_slice(), workers, gate)?;
+    let firsts = run_windows(
+        rt,
+        alloc,
+        job,
+        tests,
+        blocks_of_window,
+        own.as_slice(),
+        workers,
+        gate,
+    )?;
     let count = job.classes().count();
     let table = by_class(alloc, count, own.as_slice(), firsts.as_slice())?;
     let verdicts = of_faults(alloc, job, table.as_slice())?;

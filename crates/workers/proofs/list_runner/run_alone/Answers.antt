@@ -1,6 +1,5 @@
-use Rattle.std.proofs.Common.{◌≡◌, ◌∙◌, All, ap, arith, length, subst, sym}
+use Rattle.std.proofs.Common.{◌≡◌, ◌∙◌, ap, arith, length, subst, sym}
 use Rattle.std.proofs.lemmas.List.{with_items_is}
-use Rattle.block_sim.specs.Origins.{IsListed}
 use Rattle.workers.specs.StretchRuns.{AreFoundUpTo}
 use Rattle.block_sim.specs.OpenPlaces.{AreNextOpen}
 use Rattle.workers.specs.Stops.{no_stop}

@@ -1,39 +1,84 @@
-use Rattle.std.proofs.Common.{rules, ◌≡◌, ◌⊎◌, ◌<◌, ◌≤◌, ◌+◌, ◌*◌, All, IfErr, IfOk, List, OnOk, Option, ℕ, filter, is_none, length, map, slice_index_or, zip, ◌-◌, ◌/◌, ◌%◌, Bool, true, false, nat_eq, nat_lt, [], ◌∷◌, ◌++◌, slice_set, bit_and, bit_or, Fits, w8, w32, w64, Bor, MutBor}
-use Rattle.std.specs.Prelude.{⊤}
-use Rattle.bench_net.specs.Scan.{sources}
-use Rattle.patterns.specs.Tests.{IsTestList, TestList, blocks}
-use Rattle.block_sim.specs.Parts.{with_tests}
-use Rattle.workers.specs.Part.{AreClassVerdicts, ArePartVerdicts}
-use Rattle.workers.specs.Refused.{ArePartsWithin, IsPartFault, IsPartsFault, IsPartWithin}
-use Rattle.workers.specs.Stops.{no_stop}
-use Rattle.workers.specs.Verdict.{AreAfterHits, AreClassFirsts, AreFirsts}
-use Rattle.workers.specs.Windows.{AreFirstsBelow, AreWordsFrom, GoesOnFrom, IsWindowOf, advanced, moved}
+use Rattle.std.proofs.Common.{◌≡◌, ◌<◌, ◌∙◌, All, List, ap, get_or, length, map, refl, subst}
+use Rattle.std.proofs.Common.{sym}
+use Rattle.fault_model.specs.Collapse.{Collapsed}
+use Rattle.block_sim.specs.Parts.{Parts, with_tests}
+use Rattle.workers.specs.declared.parts.PartVerdict.{PartVerdict}
+use Rattle.workers.specs.declared.parts.PartVerdict.TheVariants.{OtherPart}
+use Rattle.workers.specs.Part.{first_in}
+use Rattle.workers.specs.Verdict.{AreAfterHits, AreClassFirsts, AreFirsts, pieces_after}
+use Rattle.workers.proofs.PartsOfClasses.{all_firsts, all_hits, all_within, verdicts_under}
+use Rattle.workers.proofs.WindowSteps.{all_with, together_with}
 use Rattle.workers.proofs.windows.run_in_windows.Goals as goal
 
--- src/windows.rt:335:5
 pub returns-in_err-check_workers-clause-kept : goal.returns-in_err-check_workers-clause-kept
-returns-in_err-check_workers-clause-kept g c = ?
+returns-in_err-check_workers-clause-kept g c = (c.args.job.now.tests, refl)
 
--- src/windows.rt:338:5
 pub returns-in_err-check_pieces_of-clause-kept : goal.returns-in_err-check_pieces_of-clause-kept
-returns-in_err-check_pieces_of-clause-kept g c = ?
+returns-in_err-check_pieces_of-clause-kept g c = (c.args.job.now.tests, refl)
 
--- src/windows.rt:339:15
 pub returns-in_err-all-clause-kept : goal.returns-in_err-all-clause-kept
-returns-in_err-all-clause-kept g c = ?
+returns-in_err-all-clause-kept g c = (c.args.job.now.tests, refl)
 
--- src/windows.rt:340:18
 pub run_windows-requires-clause-within : goal.run_windows-requires-clause-within
-run_windows-requires-clause-within g c κs within = ?
+run_windows-requires-clause-within g c κs within =
+    let job = c.args.job.now in
+    subst (All (λ class. class < length job.classes.representative)) (sym c.as_slice.ensures.value)
+    (all_within job c.in_ok-all.all.items c.in_ok-all.ensures)
 
--- src/windows.rt:341:17
 pub by_class-requires-clause-within : goal.by_class-requires-clause-within
-by_class-requires-clause-within g c = ?
+by_class-requires-clause-within g c =
+    let job = c.args.job.now in
+    let count = c.count-count.ensures
+    ∙ ap (λ (x : Collapsed). length x.representative) c.classes.ensures.part in
+    subst (λ n. All (λ class. class < n) c.as_slice-2.result.now) (sym count)
+    (subst (All (λ class. class < length job.classes.representative))
+    (sym c.as_slice-2.ensures.value)
+    (all_within job c.in_ok-all.all.items c.in_ok-all.ensures))
 
--- src/windows.rt:312:1
 pub returns-clause-firsts : goal.returns-clause-firsts
-returns-clause-firsts g c = ?
+returns-clause-firsts g c =
+    let job = with_tests c.args.job.now c.args.tests.now in
+    let classes = c.in_ok-all.all.items in
+    let firsts = c.in_ok-firsts.firsts.items in
+    let table = c.in_ok-table.table.items in
+    let count = c.count-count.ensures
+    ∙ ap (λ (x : Collapsed). length x.representative) c.classes.ensures.part in
+    let by = verdicts_under c.count-count.result (length job.classes.representative) _ classes _
+    firsts table count c.as_slice-2.ensures.value c.as_slice-3.ensures.value c.in_ok-table.ensures in
+    let known = subst (λ l. AreClassFirsts job.list.model job.circuit job.tests.tests l firsts)
+    c.as_slice.ensures.value c.in_ok-firsts.ensures.firsts in
+    let kept = c.in_ok-firsts.ensures.kept in
+    let is : c.in_ok-found.found.items ≡ map (λ class. first_in (get_or table class OtherPart))
+    job.classes.class_of =
+    c.in_ok-found.ensures.firsts ∙ ap
+    (λ (l : List PartVerdict). map (λ class. first_in (get_or l class OtherPart))
+    (c.run_windows.new.job).classes.class_of) c.as_slice-5.ensures.value
+    ∙ ap (λ (j : Parts). map (λ class. first_in (get_or table class OtherPart)) j.classes.class_of)
+    kept.1 in
+    subst (AreFirsts job.list.model job.circuit job.tests.tests) (sym c.of.ensures.firsts)
+    (all_firsts job classes firsts c.in_ok-found.found.items table
+    (together_with c.args.job.now c.args.tests.now c.classes.ensures.together c.requires.list
+    c.requires.width)
+    (all_with c.args.job.now c.args.tests.now classes c.in_ok-all.ensures) known by is)
 
--- src/windows.rt:312:1
 pub returns-clause-skipped : goal.returns-clause-skipped
-returns-clause-skipped g c = ?
+returns-clause-skipped g c =
+    let job = with_tests c.args.job.now c.args.tests.now in
+    let classes = c.in_ok-all.all.items in
+    let firsts = c.in_ok-firsts.firsts.items in
+    let table = c.in_ok-table.table.items in
+    let count = c.count-count.ensures
+    ∙ ap (λ (x : Collapsed). length x.representative) c.classes.ensures.part in
+    let by = verdicts_under c.count-count.result (length job.classes.representative) _ classes _
+    firsts table count c.as_slice-2.ensures.value c.as_slice-3.ensures.value c.in_ok-table.ensures in
+    let known = subst (λ l. AreClassFirsts job.list.model job.circuit job.tests.tests l firsts)
+    c.as_slice.ensures.value c.in_ok-firsts.ensures.firsts in
+    let is : c.skipped_after-skipped.result ≡ pieces_after c.blocks-blocks.result
+    (map first_in table) =
+    c.skipped_after-skipped.ensures
+    ∙ ap (λ (l : List PartVerdict). pieces_after c.blocks-blocks.result (map first_in l))
+    c.as_slice-4.ensures.value in
+    subst (AreAfterHits job) (sym c.of.ensures.skipped)
+    (all_hits job classes firsts table c.blocks-blocks.result c.skipped_after-skipped.result
+    (all_with c.args.job.now c.args.tests.now classes c.in_ok-all.ensures) known by
+    c.blocks-blocks.ensures is)

@@ -1,39 +1,77 @@
-use Rattle.std.proofs.Common.{rules, ◌≡◌, ◌⊎◌, ◌<◌, ◌≤◌, ◌+◌, ◌*◌, All, IfErr, IfOk, List, OnOk, Option, ℕ, filter, is_none, length, map, slice_index_or, zip, ◌-◌, ◌/◌, ◌%◌, Bool, true, false, nat_eq, nat_lt, [], ◌∷◌, ◌++◌, slice_set, bit_and, bit_or, Fits, w8, w32, w64, Bor, MutBor}
-use Rattle.std.specs.Prelude.{⊤}
-use Rattle.bench_net.specs.Scan.{sources}
-use Rattle.patterns.specs.Tests.{IsTestList, TestList, blocks}
-use Rattle.block_sim.specs.Parts.{with_tests}
-use Rattle.workers.specs.Part.{AreClassVerdicts, ArePartVerdicts}
-use Rattle.workers.specs.Refused.{ArePartsWithin, IsPartFault, IsPartsFault, IsPartWithin}
-use Rattle.workers.specs.Stops.{no_stop}
-use Rattle.workers.specs.Verdict.{AreAfterHits, AreClassFirsts, AreFirsts}
-use Rattle.workers.specs.Windows.{AreFirstsBelow, AreWordsFrom, GoesOnFrom, IsWindowOf, advanced, moved}
+use Rattle.std.proofs.Common.{◌≡◌, ◌<◌, ◌*◌, ◌≤◌, ◌∙◌, All, List, ap, get_or, length, map, refl, subst}
+use Rattle.std.proofs.Common.{sym, ℕ}
+use Rattle.fault_model.specs.Collapse.{Collapsed}
+use Rattle.patterns.specs.Tests.{blocks, max_pieces}
+use Rattle.block_sim.specs.Parts.{Parts, with_tests}
+use Rattle.workers.specs.declared.parts.PartVerdict.{PartVerdict}
+use Rattle.workers.specs.declared.parts.PartVerdict.TheVariants.{OtherPart}
+use Rattle.workers.specs.Verdict.{AreClassFirsts}
+use Rattle.workers.proofs.PartsOfClasses.{part_verdicts, part_within, verdicts_under}
+use Rattle.workers.proofs.WindowSteps.{part_with, together_with}
 use Rattle.workers.proofs.windows.run_part_in_windows.Goals as goal
 
--- src/windows.rt:376:5
 pub returns-in_err-check_workers-clause-kept : goal.returns-in_err-check_workers-clause-kept
-returns-in_err-check_workers-clause-kept g c = ?
+returns-in_err-check_workers-clause-kept g c = (c.args.job.now.tests, refl)
 
--- src/windows.rt:377:15
 pub returns-in_err-own-clause-kept : goal.returns-in_err-own-clause-kept
-returns-in_err-own-clause-kept g c = ?
+returns-in_err-own-clause-kept g c = (c.args.job.now.tests, refl)
 
--- src/windows.rt:378:5
 pub returns-in_err-check_pieces_of-clause-kept : goal.returns-in_err-check_pieces_of-clause-kept
-returns-in_err-check_pieces_of-clause-kept g c = ?
+returns-in_err-check_pieces_of-clause-kept g c = (c.args.job.now.tests, refl)
 
--- src/windows.rt:379:18
 pub run_windows-requires-clause-within : goal.run_windows-requires-clause-within
-run_windows-requires-clause-within g c κs within = ?
+run_windows-requires-clause-within g c κs within =
+    let job = c.args.job.now in
+    subst (All (λ class. class < length job.classes.representative))
+    (sym c.as_slice-2.ensures.value)
+    (part_within job c.args.parts c.args.part c.in_ok-own.own.items c.in_ok-own.ensures)
 
--- src/windows.rt:381:17
 pub by_class-requires-clause-within : goal.by_class-requires-clause-within
-by_class-requires-clause-within g c = ?
+by_class-requires-clause-within g c =
+    let job = c.args.job.now in
+    let count : c.count-count.result ≡ length job.classes.representative = c.count-count.ensures
+    ∙ ap (λ (x : Collapsed). length x.representative) c.classes.ensures.part
+    ∙ ap (λ (j : Parts). length j.classes.representative) c.in_ok-firsts.ensures.kept.1 in
+    subst (λ n. All (λ class. class < n) c.as_slice-3.result.now) (sym count)
+    (subst (All (λ class. class < length job.classes.representative))
+    (sym c.as_slice-3.ensures.value)
+    (part_within job c.args.parts c.args.part c.in_ok-own.own.items c.in_ok-own.ensures))
 
--- src/windows.rt:354:1
 pub returns-clause-verdicts : goal.returns-clause-verdicts
-returns-clause-verdicts g c = ?
+returns-clause-verdicts g c =
+    let job = with_tests c.args.job.now c.args.tests.now in
+    let classes = c.in_ok-own.own.items in
+    let firsts = c.in_ok-firsts.firsts.items in
+    let table = c.in_ok-table.table.items in
+    let kept = c.in_ok-firsts.ensures.kept in
+    let count : c.count-count.result ≡ length job.classes.representative = c.count-count.ensures
+    ∙ ap (λ (x : Collapsed). length x.representative) c.classes.ensures.part
+    ∙ ap (λ (j : Parts). length j.classes.representative) kept.1 in
+    let by = verdicts_under c.count-count.result (length job.classes.representative) _ classes _
+    firsts table count c.as_slice-3.ensures.value c.as_slice-4.ensures.value c.in_ok-table.ensures in
+    let known = subst (λ l. AreClassFirsts job.list.model job.circuit job.tests.tests l firsts)
+    c.as_slice-2.ensures.value c.in_ok-firsts.ensures.firsts in
+    let is : c.in_ok-verdicts.verdicts.items ≡ map (λ class. get_or table class OtherPart)
+    job.classes.class_of =
+    c.in_ok-verdicts.ensures ∙ ap (λ (l : List PartVerdict). map (λ class. get_or l class OtherPart)
+    (c.run_windows.new.job).classes.class_of) c.as_slice-5.ensures.value
+    ∙ ap (λ (j : Parts). map (λ class. get_or table class OtherPart) j.classes.class_of) kept.1 in
+    part_verdicts job c.args.parts c.args.part classes firsts table c.in_ok-verdicts.verdicts.items
+    (together_with c.args.job.now c.args.tests.now c.count_in.ensures.together c.requires.list
+    c.requires.width)
+    (part_with c.args.job.now c.args.tests.now c.args.parts c.args.part classes c.in_ok-own.ensures)
+    known by is
 
--- src/windows.rt:354:1
 pub returns-clause-within : goal.returns-clause-within
-returns-clause-within g c = ?
+returns-clause-within g c =
+    let job = c.args.job.now in
+    let classes = c.in_ok-own.own.items in
+    let few : c.count_in.result ≡ length classes =
+    c.count_in.ensures.count ∙ ap (λ (l : List ℕ). length l) c.as_slice.ensures.value in
+    let same : c.count_in.result * c.blocks-2.result
+    ≡ length classes * blocks (length c.args.tests.now.tests) =
+    ap (λ n. n * c.blocks-2.result) few ∙ ap (λ n. length classes * n) c.blocks-2.ensures in (
+      classes,
+      part_with job c.args.tests.now c.args.parts c.args.part classes c.in_ok-own.ensures,
+      subst (λ n. n ≤ max_pieces) same c.in_ok-check_pieces_of.ensures.few,
+    )

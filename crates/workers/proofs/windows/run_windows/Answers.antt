@@ -1,10 +1,9 @@
-use Rattle.std.proofs.Common.{◌≡◌, ◌<◌, ◌≤◌, ◌+◌, ◌*◌, ◌∙◌, All, ap, arith, length, min, refl, subst, sym, ℕ}
+use Rattle.std.proofs.Common.{◌≡◌, ◌<◌, ◌≤◌, ◌+◌, ◌*◌, ◌∙◌, All, ap, arith, length, min, refl, subst, sym}
 use Rattle.bench_net.specs.Scan.{sources}
-use Rattle.patterns.specs.Tests.{blocks}
 use Rattle.block_sim.specs.Parts.{Parts, with_tests}
 use Rattle.workers.specs.Windows.{AreFirstsBelow}
 use Rattle.workers.proofs.WindowFirsts.{firsts_begin, firsts_end}
-use Rattle.workers.proofs.WindowSteps.{step_all, step_first, step_within}
+use Rattle.workers.proofs.WindowSteps.{some_step, step_all, step_first, step_within}
 use Rattle.workers.proofs.windows.run_windows.Goals as goal
 
 pub returns-in_err-firsts-clause-kept : goal.returns-in_err-firsts-clause-kept
@@ -14,7 +13,7 @@ pub loop-number-init : goal.loop-number-init
 loop-number-init g c =
     let job = c.args.job.now in
     let tests = c.args.tests.now.tests in
-    let none : 64 * min (0 * c.window_blocks-step.result) c.blocks-blocks.result ≡ 0 =
+    let none : 64 * min (0 * c.min-step.result) c.blocks-blocks.result ≡ 0 =
     omega arith in
     record {
       kept = (job.tests, refl);
@@ -27,8 +26,9 @@ loop-number-init g c =
 
 pub new-window-requires-clause-within : goal.new-window-requires-clause-within
 new-window-requires-clause-within g c =
-    step_within c.blocks-blocks.result c.window_blocks-step.result c.loop-number.number
-    c.window_blocks-step.ensures.some
+    step_within c.blocks-blocks.result c.min-step.result c.loop-number.number
+    (some_step c.args.blocks_of_window c.min-step.result
+    c.requires.window c.min-step.ensures)
     (subst (λ n. c.loop-number.number < n) c.div_ceil-number-end.ensures c.loop-number-test.true)
 
 pub run_window-requires-clause-width : goal.run_window-requires-clause-width
@@ -53,10 +53,11 @@ pub run_window-requires-clause-firsts : goal.run_window-requires-clause-firsts
 run_window-requires-clause-firsts g c κs within =
     let was = c.loop-number.invariant in
     let tests = c.args.tests.now.tests in
-    let below = step_within c.blocks-blocks.result c.window_blocks-step.result c.loop-number.number
-    c.window_blocks-step.ensures.some
+    let below = step_within c.blocks-blocks.result c.min-step.result c.loop-number.number
+    (some_step c.args.blocks_of_window c.min-step.result
+    c.requires.window c.min-step.ensures)
     (subst (λ n. c.loop-number.number < n) c.div_ceil-number-end.ensures c.loop-number-test.true) in
-    let first = step_first c.blocks-blocks.result c.window_blocks-step.result c.loop-number.number
+    let first = step_first c.blocks-blocks.result c.min-step.result c.loop-number.number
     below ∙ sym c.new-window.ensures.window.first_is in
     subst (λ (j : Parts). AreFirstsBelow j.list.model j.circuit tests
     (64 * c.new-window.result.first) c.args.classes.now c.loop-number.firsts.items)
@@ -75,7 +76,7 @@ loop-number-preserved g c =
     let kept = c.run_window.ensures.kept in
     let tests = c.args.tests.now.tests in
     let number = c.loop-number.number in
-    let step = c.window_blocks-step.result in
+    let step = c.min-step.result in
     let next : number * step + step ≡ (number + 1) * step = omega arith in
     let end : c.new-window.result.end ≡ min ((number + 1) * step) c.blocks-blocks.result =
     c.new-window.ensures.end ∙ ap (λ n. min n c.blocks-blocks.result) next in
@@ -92,8 +93,9 @@ pub returns-clause-firsts : goal.returns-clause-firsts
 returns-clause-firsts g c =
     let job = c.args.job.now in
     let tests = c.args.tests.now.tests in
-    let all = step_all c.blocks-blocks.result c.window_blocks-step.result c.loop-number.number
-    c.window_blocks-step.ensures.some (omega (
+    let all = step_all c.blocks-blocks.result c.min-step.result c.loop-number.number
+    (some_step c.args.blocks_of_window c.min-step.result
+    c.requires.window c.min-step.ensures) (omega (
       arith,
       c.loop-number-test.false,
       c.div_ceil-number-end.ensures,

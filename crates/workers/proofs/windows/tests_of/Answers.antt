@@ -1,4 +1,4 @@
-use Rattle.std.proofs.Common.{◌≡◌, ◌+◌, ◌-◌, ◌∙◌, ap, arith, min, refl, subst, ◌*◌}
+use Rattle.std.proofs.Common.{◌≡◌, ◌-◌, ◌∙◌, ap, arith, min, refl, subst, ◌*◌}
 use Rattle.patterns.specs.Making.{IsMadeOf}
 use Rattle.workers.specs.Windows.{AreWordsFrom}
 use Rattle.workers.proofs.WindowWords.{begins_before, window_cut, words_none}

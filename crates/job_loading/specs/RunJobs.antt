@@ -1,0 +1,21 @@
+-- Jobs to be run, whose tests may stand apart.
+use Rattle.std.specs.Prelude.{◌≡◌, ⊤, Bool, Option, Some, None, length}
+use Rattle.bench_net.specs.Scan.{sources}
+use Rattle.patterns.specs.Tests.{IsTestList, TestList}
+use Rattle.block_sim.specs.Parts.{Parts, with_tests}
+
+-- the view that contracts have of such a job: its parts, and whether its tests stand apart
+pub record RunParts : Type 0 where
+  pub parts : Parts
+  pub apart : Bool
+
+-- the parts of a job whose tests may stand apart
+abbrev pub parts_of : Parts → Option TestList → Parts
+parts_of job None = job
+parts_of job (Some tests) = with_tests job tests
+
+-- tests that stand apart are a list of the circuit's width
+abbrev pub AreForCircuit : Parts → Option TestList → Type 0
+AreForCircuit job None = ⊤
+AreForCircuit job (Some tests) =
+    IsTestList tests × (tests.width ≡ length (sources job.circuit))

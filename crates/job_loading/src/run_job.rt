@@ -1,0 +1,142 @@
+//! Jobs that run window by window if the fault-free words of all tests take much memory.
+
+ghost use Rattle.std.specs.Prelude.{◌≡◌, ◌<◌, ◌≤◌, IfErr, IfOk, OnOk, false, length, true};
+ghost use Rattle.bench_net.specs.Scan.{sources};
+ghost use Rattle.patterns.specs.Tests.{IsTestList};
+ghost use Rattle.block_sim.specs.Parts.{BelongTogether, with_tests};
+ghost use Rattle.workers.specs.Refused.{ArePartsWithin, IsPartsFault};
+ghost use Rattle.workers.specs.Verdict.{AreAfterHits, AreFirsts};
+ghost use Rattle.job_loading.specs.Jobs.{AreTestsFor, IsJobFor};
+
+use crate::texts::{make_any_job, make_any_job_in_threads};
+use bench_net::Circuit;
+use block_sim::Job;
+use fault_model::Model;
+use patterns::Tests;
+use std::alloc::{AllocError, Global};
+use std::marker;
+use std::sync::Wait;
+use std::thread::Threads;
+use workers::{Gate, RunFault, Verdicts, run_in_parts, run_in_windows, window_blocks};
+
+/// A job to be run. If the fault-free words of all tests would take more memory than those of a
+/// window ([`workers::window_blocks`]), its tests may stand apart, and it runs window by window.
+#[derive(Drop)]
+pub struct RunJob {
+    /// The job, with no tests or those of a window if its own stand apart.
+    job: Job,
+    /// The tests, if they stand apart.
+    apart: Option<Tests>,
+}
+
+impl marker::Model for RunJob {
+    ghost use Rattle.std.specs.Prelude.{is_some};
+    ghost use Rattle.job_loading.specs.RunJobs.{AreForCircuit, RunParts, parts_of};
+
+    ghost Value = { RunParts };
+
+    ghost view = { λ r. record { parts = parts_of r.job r.apart; apart = is_some r.apart } };
+
+    ghost invariant = { λ r. AreForCircuit r.job r.apart };
+}
+
+impl RunJob {
+    /// Makes a job whose tests are its own.
+    pub fn whole(job: Job) -> RunJob
+        ensures parts { result.parts ≡ job }
+        ensures apart { result.apart ≡ false }
+    {
+        RunJob { job, apart: None }
+    }
+
+    /// Makes a job whose tests stand apart.
+    pub fn apart(job: Job, tests: Tests) -> RunJob
+        requires list { IsTestList tests }
+        requires width { tests.width ≡ length (sources job.circuit) }
+        ensures { result.parts ≡ with_tests job tests }
+    {
+        RunJob {
+            job,
+            apart: Some(tests),
+        }
+    }
+
+    /// Returns the job without regard to its tests.
+    pub fn job(&self) -> &Job
+        ensures circuit { result.now.circuit ≡ self.now.parts.circuit }
+        ensures list { result.now.list ≡ self.now.parts.list }
+        ensures classes { result.now.classes ≡ self.now.parts.classes }
+    {
+        &self.job
+    }
+
+    /// Returns the tests.
+    pub fn tests(&self) -> &Tests
+        ensures tests { result.now ≡ self.now.parts.tests }
+        ensures together { BelongTogether self.now.parts }
+    {
+        let own = self.job.tests();
+        match &self.apart {
+            Some(tests) => tests,
+            None => own,
+        }
+    }
+
+    /// Runs all classes in a number of parts, by workers in threads of their own, with the verdicts
+    /// and the errors of [`workers::run_in_parts`]. If the tests stand apart, it runs window by
+    /// window ([`workers::run_in_windows`]), under a gate that lets each piece pass.
+    pub fn run<R: Threads + Wait, G: Gate + Sync>(
+        &mut self,
+        rt: &R,
+        alloc: Global,
+        parts: u32,
+        workers: u32,
+        gate: &G,
+    ) -> Result<Verdicts, RunFault>
+        requires gate { self.old.apart ≡ true → G.passing gate.now }
+        requires parts { 0 < parts }
+        ensures firsts { IfOk result (λ v. AreFirsts self.old.parts.list.model
+            self.old.parts.circuit self.old.parts.tests.tests v.firsts) }
+        ensures skipped { IfOk result (λ v. AreAfterHits self.old.parts v.skipped) }
+        ensures workers { OnOk result ((0 < workers) × (workers ≤ 64)) }
+        ensures within { OnOk result (ArePartsWithin self.old.parts parts) }
+        ensures refused { IfErr result (IsPartsFault self.old.parts parts workers
+            (G.passing gate.now) (G.stops gate.now)) }
+        ensures kept { self.new ≡ self.old }
+    {
+        match &self.apart {
+            None => run_in_parts(rt, alloc, &self.job, parts, workers, gate),
+            Some(tests) => {
+                let blocks = window_blocks(self.job.circuit().signals());
+                let job = &mut self.job;
+                run_in_windows(rt, alloc, job, tests, blocks, parts, workers, gate)
+            }
+        }
+    }
+}
+
+/// Makes the job of a circuit and of tests for it under a model, for any number of pieces, in at
+/// most as many threads as there are workers. Its tests stand apart if they may, and have more
+/// blocks than a window.
+pub(crate) fn make_run_in_threads<R: Threads + Wait>(
+    rt: &R,
+    alloc: Global,
+    model: Model,
+    circuit: Circuit,
+    tests: Tests,
+    apart: bool,
+    workers: u32,
+) -> Result<RunJob, AllocError>
+    requires { AreTestsFor circuit tests }
+    ensures job { IfOk result (λ run. IsJobFor model circuit tests run.parts) }
+    ensures apart { IfOk result (λ run. run.apart ≡ true → apart ≡ true) }
+{
+    let blocks = window_blocks(circuit.signals());
+    if !apart || tests.blocks() <= blocks {
+        let job = make_any_job_in_threads(rt, alloc, model, circuit, tests, workers)?;
+        return Ok(RunJob::whole(job));
+    }
+    let none = Tests::new(alloc, tests.width());
+    let job = make_any_job(alloc, model, circuit, none)?;
+    Ok(RunJob::apart(job, tests))
+}
