@@ -2,6 +2,7 @@
 
 use crate::tally::Tally;
 use block_sim::Job;
+use patterns::Tests;
 use report::{Formatted, Gate, Out, ReasonCounts, Verdicts, Watch};
 use std::alloc::{AllocError, Global};
 use std::fmt::Write;
@@ -27,7 +28,7 @@ struct Place {
     /// The classes of the part that it runs: the watched ones at block 0, because it comes to all
     /// of them there.
     classes: AtomicU64,
-    /// The current block of the worker.
+    /// The current block of the worker, counted from the first of the window.
     block: AtomicU64,
     /// The watched pieces that it has passed.
     passed: AtomicU64,
@@ -77,6 +78,14 @@ impl Place {
             .saturating_mul(blocks);
         let done = self.done.load(Ordering::SeqCst);
         self.done.store(done.saturating_add(part), Ordering::SeqCst);
+    }
+
+    /// Forgets all, for the parts of the next window.
+    fn begin(&self) {
+        self.settled.store(0, Ordering::SeqCst);
+        self.done.store(0, Ordering::SeqCst);
+        self.classes.store(0, Ordering::SeqCst);
+        self.block.store(0, Ordering::SeqCst);
     }
 
     /// Returns whether the worker has passed enough pieces for another look at the figure.
@@ -170,7 +179,11 @@ fn percent_of(settled: u64, pieces: u64) -> u64 {
 #[derive(Drop)]
 pub(crate) struct Progress<'a, E> {
     places: Vec<Place>,
+    classes: AtomicU64,
     pieces: AtomicU64,
+    /// The first block of the window.
+    first: AtomicU64,
+    /// The number of blocks of the window.
     blocks: AtomicU64,
     pen: Mutex<Pen<'a, E>>,
     tally: &'a Tally,
@@ -190,7 +203,9 @@ impl<'a, E: Out> Progress<'a, E> {
         }
         Ok(Progress {
             places,
+            classes: AtomicU64::new(0),
             pieces: AtomicU64::new(0),
+            first: AtomicU64::new(0),
             blocks: AtomicU64::new(0),
             pen: Mutex::new(Pen::new(alloc, err)),
             tally,
@@ -201,7 +216,9 @@ impl<'a, E: Out> Progress<'a, E> {
     pub(crate) fn close(self) {
         let Progress {
             places: _,
+            classes: _,
             pieces: _,
+            first: _,
             blocks: _,
             pen,
             tally: _,
@@ -209,21 +226,30 @@ impl<'a, E: Out> Progress<'a, E> {
         pen.into_inner().end_line();
     }
 
-    /// Returns how many of the pieces are settled.
+    /// Returns how many of the pieces are settled: those before the window, and in it as many as the
+    /// watched ones stand for.
     fn settled(&self, pieces: u64) -> u64 {
-        let mut settled = 0u64;
+        let mut watched = 0u64;
         for place in &self.places {
-            settled = settled.saturating_add(place.settled.load(Ordering::SeqCst));
+            watched = watched.saturating_add(place.settled.load(Ordering::SeqCst));
         }
-        settled.saturating_mul(u64::from(EVERY)).min(pieces)
+        let classes = self.classes.load(Ordering::SeqCst);
+        let before = classes.saturating_mul(self.first.load(Ordering::SeqCst));
+        let most = classes.saturating_mul(self.blocks.load(Ordering::SeqCst));
+        let here = watched.saturating_mul(u64::from(EVERY)).min(most);
+        before.saturating_add(here).min(pieces)
     }
 
     /// Notes a watched piece. This is a function of its own, so that each other piece only costs a
     /// comparison.
     #[inline(never)]
     fn note(&self, worker: u32, block: u32) {
+        let first = self.first.load(Ordering::SeqCst);
+        let Some(block) = u64::from(block).checked_sub(first) else {
+            return;
+        };
         if let Some(place) = self.places.get(worker as usize) {
-            place.note(u64::from(block), &self.blocks);
+            place.note(block, &self.blocks);
             if worker == 0 && place.is_time() {
                 self.look();
             }
@@ -252,11 +278,26 @@ impl<E: Out> Gate for Progress<'_, E> {
         self.note(worker, block);
         true
     }
+
+    fn lets_all_pass(&self) -> bool {
+        true
+    }
+
+    fn opens(&self, first: u32, end: u32) {
+        for place in &self.places {
+            place.begin();
+        }
+        self.first.store(u64::from(first), Ordering::SeqCst);
+        let blocks = u64::from(end).saturating_sub(u64::from(first));
+        self.blocks.store(blocks, Ordering::SeqCst);
+        self.look();
+    }
 }
 
 impl<E: Out> Watch for Progress<'_, E> {
     fn starts(&self, classes: u32, blocks: u32) {
         let pieces = u64::from(classes) * u64::from(blocks);
+        self.classes.store(u64::from(classes), Ordering::SeqCst);
         self.pieces.store(pieces, Ordering::SeqCst);
         self.blocks.store(u64::from(blocks), Ordering::SeqCst);
         if let Some(mut pen) = self.pen.try_lock() {
@@ -270,8 +311,8 @@ impl<E: Out> Watch for Progress<'_, E> {
         }
     }
 
-    fn finds(&self, job: &Job, verdicts: &Verdicts) {
-        self.tally.note(job, verdicts);
+    fn finds(&self, job: &Job, tests: &Tests, verdicts: &Verdicts) {
+        self.tally.note(job, tests, verdicts);
     }
 
     fn explains(&self, counts: ReasonCounts) {

@@ -3,6 +3,7 @@
 ghost use Rattle.workers.specs.Verdict.{AreFirsts};
 
 use block_sim::Job;
+use patterns::Tests;
 use report::{Gate, ReasonCounts, RunCounts, Verdicts, Watch, count_run};
 use std::sync::Mutex;
 
@@ -29,12 +30,12 @@ impl Tally {
         }
     }
 
-    /// Notes the verdicts on a job.
-    pub(crate) fn note(&self, job: &Job, verdicts: &Verdicts)
-        requires { AreFirsts job.now.list.model job.now.circuit job.now.tests.tests
+    /// Notes the verdicts on a job under these tests.
+    pub(crate) fn note(&self, job: &Job, tests: &Tests, verdicts: &Verdicts)
+        requires { AreFirsts job.now.list.model job.now.circuit tests.now.tests
             verdicts.now.firsts }
     {
-        let counts = count_run(job, verdicts);
+        let counts = count_run(job, tests, verdicts);
         if let Some(mut found) = self.found.try_lock() {
             found.counts = Some(counts);
         }
@@ -74,6 +75,10 @@ impl Gate for Quiet<'_> {
     fn pass(&self, _worker: u32, _class: u32, _block: u32) -> bool {
         true
     }
+
+    fn lets_all_pass(&self) -> bool {
+        true
+    }
 }
 
 impl Watch for Quiet<'_> {
@@ -81,8 +86,8 @@ impl Watch for Quiet<'_> {
 
     fn ends(&self) {}
 
-    fn finds(&self, job: &Job, verdicts: &Verdicts) {
-        self.tally.note(job, verdicts);
+    fn finds(&self, job: &Job, tests: &Tests, verdicts: &Verdicts) {
+        self.tally.note(job, tests, verdicts);
     }
 
     fn explains(&self, counts: ReasonCounts) {

@@ -5,6 +5,7 @@ ghost use Rattle.report.specs.Counts.{counts_of};
 
 use crate::report::detected_classes;
 use block_sim::Job;
+use patterns::Tests;
 use workers::Verdicts;
 
 /// The numbers of tests, faults and fault classes of a run, and of the faults and classes that a
@@ -19,14 +20,14 @@ pub struct RunCounts {
     pub detected_classes: u32,
 }
 
-/// Counts the tests, the faults and the classes of a job, and the faults and classes that its
-/// verdicts detect.
-pub fn count_run(job: &Job, verdicts: &Verdicts) -> RunCounts
-    ensures { result ≡ counts_of job.now.tests.tests job.now.classes verdicts.now.firsts }
+/// Counts the tests of a run, the faults and the classes of its job, and the faults and classes that
+/// its verdicts detect.
+pub fn count_run(job: &Job, tests: &Tests, verdicts: &Verdicts) -> RunCounts
+    ensures { result ≡ counts_of tests.now.tests job.now.classes verdicts.now.firsts }
 {
     let classes = job.classes();
     RunCounts {
-        tests: job.tests().count(),
+        tests: tests.count(),
         faults: verdicts.total(),
         detected: verdicts.detected(),
         classes: classes.count(),

@@ -1,6 +1,6 @@
 //! The report of a run that a gate watches.
 
-ghost use Rattle.std.specs.Prelude.{◌<◌, ◌≤◌, IfErr, OnOk};
+ghost use Rattle.std.specs.Prelude.{◌≡◌, ◌<◌, ◌≤◌, IfErr, OnOk, true};
 ghost use Rattle.block_sim.specs.Parts.{BelongTogether};
 ghost use Rattle.job_loading.specs.Splits.{HasSomePart};
 ghost use Rattle.workers.specs.Refused.{ArePartsWithin, IsPartsFault};
@@ -9,10 +9,9 @@ ghost use Rattle.report.specs.EndToEnd.{IsWatchedFault, IsWithin, WritesOneOf};
 
 use crate::contents::Contents;
 use crate::in_threads::write_report_in_threads;
-use block_sim::Job;
 use byte_output::Out;
 use fault_model::Model;
-use job_loading::{SimFault, Split, Watch, run_watched, split_job_of};
+use job_loading::{RunJob, SimFault, Split, Watch, run_apart_watched, split_run_of};
 use std::alloc::Global;
 use std::sync::Wait;
 use std::thread::Threads;
@@ -20,6 +19,9 @@ use std::thread::Threads;
 /// Reads a circuit and tests for it, and writes the report that [`crate::simulate_text_with`]
 /// writes, with the same bytes. It calls the gate when the run begins and when it ends, and asks it
 /// before each piece of work. The gate decides whether there is a report, but not its bytes.
+///
+/// Under a gate that lets each piece pass it runs window by window if the fault-free words of all
+/// tests would take much memory ([`workers::window_blocks`]).
 ///
 /// With [`Split::Parts`] it runs as [`crate::simulate_text_in_parts`] does, and with
 /// [`Split::Whole`] as [`crate::simulate_text_with`]. It fails as these do, and with
@@ -45,8 +47,10 @@ pub fn simulate_text_watched<R: Threads + Wait, G: Watch + Sync, W: Out>(
     ensures workers { OnOk result ((0 < workers) × (workers ≤ 64)) }
     ensures within { OnOk result (IsWithin model bench.now tests.now split) }
 {
-    let (job, parts) = split_job_of(rt, alloc, model, bench, tests, split, workers)?;
-    report_run(rt, alloc, &job, parts, workers, contents, gate, out)
+    let apart = gate.lets_all_pass();
+    let (run, parts) = split_run_of(rt, alloc, model, bench, tests, split, apart, workers)?;
+    let mut run = run;
+    report_run(rt, alloc, &mut run, parts, workers, contents, gate, out)
 }
 
 /// Runs a job in parts by workers in threads of their own, and writes its report. It calls the gate
@@ -54,23 +58,24 @@ pub fn simulate_text_watched<R: Threads + Wait, G: Watch + Sync, W: Out>(
 fn report_run<R: Threads + Wait, G: Watch + Sync, W: Out>(
     rt: &R,
     alloc: Global,
-    job: &Job,
+    run: &mut RunJob,
     parts: u32,
     workers: u32,
     contents: Contents,
     gate: &G,
     out: &mut W,
 ) -> Result<(), SimFault>
-    requires job { BelongTogether job.now }
+    requires job { BelongTogether run.old.parts }
+    requires gate { run.old.apart ≡ true → G.passing gate.now }
     requires parts { 0 < parts }
-    ensures written { WritesOneOf (IsReportOfJob job.now contents) result
+    ensures written { WritesOneOf (IsReportOfJob run.old.parts contents) result
         (W.seen out.old) (W.seen out.new) }
     ensures refused { IfErr result (IsJobReportFault workers
-        (IsPartsFault job.now parts workers (G.passing gate.now) (G.stops gate.now))) }
+        (IsPartsFault run.old.parts parts workers (G.passing gate.now) (G.stops gate.now))) }
     ensures workers { OnOk result ((0 < workers) × (workers ≤ 64)) }
-    ensures within { OnOk result (ArePartsWithin job.now parts) }
+    ensures within { OnOk result (ArePartsWithin run.old.parts parts) }
 {
-    let verdicts = run_watched(rt, alloc, job, parts, workers, gate)?;
-    write_report_in_threads(rt, alloc, job, &verdicts, contents, workers, out)?;
+    let verdicts = run_apart_watched(rt, alloc, run, parts, workers, gate)?;
+    write_report_in_threads(rt, alloc, run.job(), &verdicts, contents, workers, out)?;
     Ok(())
 }

@@ -1,13 +1,19 @@
+use Rattle.std.proofs.Common.{◌∙◌, ap, length, sym}
 use Rattle.std.proofs.lemmas.Result.{err_from_is_err_and}
+use Rattle.fault_model.specs.Fault.{FaultList}
 use Rattle.byte_output.specs.Output.{TakesAll, TakesFront}
+use Rattle.job_loading.specs.RunJobs.{RunParts}
 use Rattle.report.proofs.VerdictsOfRuns.{taken_of_job, verdicts_counted}
 use Rattle.report.proofs.watched.report_run.Goals as goal
 
 pub write_report_in_threads-requires : goal.write_report_in_threads-requires
 write_report_in_threads-requires g c =
+    let list = c.job.ensures.list
+    ∙ ap (λ (r : RunParts). r.parts.list) c.in_ok-verdicts.ensures.kept in
     record {
-      count = verdicts_counted c.args.job.now c.in_ok-verdicts.verdicts.firsts c.requires.job
-          c.in_ok-verdicts.ensures.firsts;
+      count = verdicts_counted c.args.run.now.parts c.in_ok-verdicts.verdicts.firsts c.requires.job
+          c.in_ok-verdicts.ensures.firsts
+          ∙ sym (ap (λ (l : FaultList). length l.list) list);
     }
 
 pub returns-in_err-write_report_in_threads-clause-written :
@@ -15,10 +21,22 @@ pub returns-in_err-write_report_in_threads-clause-written :
 returns-in_err-write_report_in_threads-clause-written g c =
     let p = err_from_is_err_and c.from_residual-in_err-write_report_in_threads.result
     c.from_residual-in_err-write_report_in_threads.ensures.1 in
-    rw (p.1, p.2) (taken_of_job c.args.job.now c.args.contents c.in_ok-verdicts.verdicts.firsts
-    (TakesFront _ _) c.in_ok-verdicts.ensures.firsts c.in_err-write_report_in_threads.ensures)
+    let wrote = rw (
+      c.job.ensures.list,
+      c.job.ensures.circuit,
+      c.job.ensures.classes,
+      c.in_ok-verdicts.ensures.kept,
+    ) at c.in_err-write_report_in_threads.ensures in
+    rw (p.1, p.2) (taken_of_job c.args.run.now.parts c.args.contents
+    c.in_ok-verdicts.verdicts.firsts (TakesFront _ _) c.in_ok-verdicts.ensures.firsts wrote)
 
 pub returns-clause-written : goal.returns-clause-written
 returns-clause-written g c =
-    taken_of_job c.args.job.now c.args.contents c.in_ok-verdicts.verdicts.firsts
-    (TakesAll _ _) c.in_ok-verdicts.ensures.firsts c.in_ok-write_report_in_threads.ensures
+    let wrote = rw (
+      c.job.ensures.list,
+      c.job.ensures.circuit,
+      c.job.ensures.classes,
+      c.in_ok-verdicts.ensures.kept,
+    ) at c.in_ok-write_report_in_threads.ensures in
+    taken_of_job c.args.run.now.parts c.args.contents c.in_ok-verdicts.verdicts.firsts
+    (TakesAll _ _) c.in_ok-verdicts.ensures.firsts wrote
