@@ -8,3 +8,4 @@ mod schedules;
 mod stretches;
 mod threads;
 mod watched;
+mod windows;

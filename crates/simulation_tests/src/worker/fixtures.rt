@@ -69,9 +69,15 @@ pub(crate) const WIRE: &str = "INPUT(a)\nOUTPUT(a)\n";
 
 /// Returns the job of these texts.
 pub(crate) fn job_of(alloc: Global, job: &JobText) -> Result<Job, SimFault> {
-    let mut tests = Vec::new(alloc);
-    push_all_rows(&mut tests, job.rows)?;
+    let tests = rows_text(alloc, job.rows)?;
     checks::job_of(alloc, job.model, job.bench.as_bytes(), tests.as_slice())
+}
+
+/// Returns the test file of these rows, each with its number of times.
+pub(crate) fn rows_text(alloc: Global, rows: &[(&str, u32)]) -> Result<Vec<u8>, AllocError> {
+    let mut text = Vec::new(alloc);
+    push_all_rows(&mut text, rows)?;
+    Ok(text)
 }
 
 /// Adds rows of tests, each as many times as given.
