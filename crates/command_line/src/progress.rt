@@ -226,8 +226,8 @@ impl<'a, E: Out> Progress<'a, E> {
         pen.into_inner().end_line();
     }
 
-    /// Returns how many of the pieces are settled: those before the window, and in it as many as the
-    /// watched ones stand for.
+    /// Returns how many of the pieces are settled: those before the window, and in it as many as
+    /// the watched ones stand for.
     fn settled(&self, pieces: u64) -> u64 {
         let mut watched = 0u64;
         for place in &self.places {

@@ -124,13 +124,12 @@ pub fn split_run_of<R: Threads + Wait>(
 {
     match split {
         Split::Whole => {
-            let job = job_of_in_threads(rt, alloc, model, bench, tests, workers)?;
-            let parts = parts_for(&job, workers);
+            let (job, parts) = split_job_of(rt, alloc, model, bench, tests, split, workers)?;
             Ok((RunJob::whole(job), parts))
         }
-        Split::Parts(parts) => {
+        Split::Parts(count) => {
             let run = run_of_any_size(rt, alloc, model, bench, tests, apart, workers)?;
-            Ok((run, parts))
+            Ok((run, count))
         }
         Split::Fitting => {
             let run = run_of_any_size(rt, alloc, model, bench, tests, apart, workers)?;
@@ -140,7 +139,7 @@ pub fn split_run_of<R: Threads + Wait>(
     }
 }
 
-/// Returns a number of parts that suits `workers` workers, or more if a part would exceed the limit.
+/// Returns the number of parts of [`fitting_parts`] for a job whose tests may stand apart.
 fn fitting_parts_of(run: &RunJob, workers: u32) -> u32
     ensures some { 0 < result }
     ensures within { ArePartsWithin run.now.parts result }

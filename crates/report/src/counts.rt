@@ -20,8 +20,8 @@ pub struct RunCounts {
     pub detected_classes: u32,
 }
 
-/// Counts the tests of a run, the faults and the classes of its job, and the faults and classes that
-/// its verdicts detect.
+/// Counts the tests of a run, the faults and the classes of its job, and the faults and classes
+/// that its verdicts detect.
 pub fn count_run(job: &Job, tests: &Tests, verdicts: &Verdicts) -> RunCounts
     ensures { result ≡ counts_of tests.now.tests job.now.classes verdicts.now.firsts }
 {

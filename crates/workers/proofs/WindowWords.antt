@@ -1,6 +1,7 @@
 -- The tests of a window are made of the words of its blocks.
 use Rattle.std.proofs.Common.{◌≡◌, ◌⊎◌, ◌<◌, ◌≤◌, ◌+◌, ◌*◌, ◌-◌, ◌/◌, ◌%◌, ◌++◌, ◌∙◌, inl, inr, ℕ}
-use Rattle.std.proofs.Common.{List, [], ◌∷◌, Some, refl, sym, ap, subst, arith, length, get_or, true}
+use Rattle.std.proofs.Common.{List, [], ◌∷◌, Some, refl, sym, ap, subst, arith}
+use Rattle.std.proofs.Common.{length, get_or, true}
 use Rattle.std.proofs.Common.{false, length-append, min, suc}
 use Rattle.std.proofs.lemmas.Bool.{cases_lt}
 use Rattle.std.proofs.lemmas.List.{same_lists}
@@ -75,7 +76,8 @@ adds_all tests block old now from count was are is = record {
     go b s lt low (inl x) =
         let within = place_within tests.width count b s x low in
         subst (IsWord tests.tests (from + b) s)
-        (sym (was.same (tests.width * b + s) (omega (arith, within, are.long)))) (are.each b s x low)
+        (sym (was.same (tests.width * b + s) (omega (arith, within, are.long))))
+        (are.each b s x low)
     go b s lt low (inr x) =
         let last : b ≡ count = omega (arith, lt, x) in
         let place : length old + s ≡ tests.width * b + s =

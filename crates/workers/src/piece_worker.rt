@@ -52,8 +52,8 @@ pub trait Gate {
         false
     }
 
-    /// Takes the blocks of a window when a run begins with it, from the first to before the end: all
-    /// pieces on the blocks before are settled. Only a run in windows calls it.
+    /// Takes the blocks of a window when a run begins with it, from the first to before the end.
+    /// All pieces on the blocks before are settled. Only a run in windows calls it.
     fn opens(&self, _first: u32, _end: u32) {}
 }
 

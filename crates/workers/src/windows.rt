@@ -4,7 +4,8 @@
 //! has only those of some blocks at a time: it runs all classes on the blocks of the first window,
 //! then those that no test detects yet on the next, and so on.
 
-ghost use Rattle.std.specs.Prelude.{◌≡◌, ◌⊎◌, ◌<◌, ◌≤◌, ◌+◌, ◌*◌, All, IfErr, IfOk, List, OnOk, Option};
+ghost use Rattle.std.specs.Prelude.{◌≡◌, ◌⊎◌, ◌<◌, ◌≤◌, ◌+◌, ◌*◌, All, IfErr, IfOk};
+ghost use Rattle.std.specs.Prelude.{List, OnOk, Option};
 ghost use Rattle.std.specs.Prelude.{⊤, ℕ, filter, is_none, length, map, min, slice_index_or, zip};
 ghost use Rattle.bench_net.specs.Scan.{sources};
 ghost use Rattle.patterns.specs.Tests.{IsTestList, TestList, blocks};

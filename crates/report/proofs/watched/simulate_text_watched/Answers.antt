@@ -15,8 +15,9 @@ returns-in_err-run-clause-refused g c =
 
 pub returns-clause-written : goal.returns-clause-written
 returns-clause-written g c =
-    written_of_texts c.args.model c.args.bench.now c.args.tests.now c.args.contents c.in_ok-run.run'.parts
-    c.report_run.result _ _ c.in_ok-run.ensures.job c.report_run.ensures.written
+    written_of_texts c.args.model c.args.bench.now c.args.tests.now c.args.contents
+    c.in_ok-run.run'.parts c.report_run.result _ _ c.in_ok-run.ensures.job
+    c.report_run.ensures.written
 
 pub returns-clause-refused : goal.returns-clause-refused
 returns-clause-refused g c =

@@ -44,7 +44,8 @@ returns-clause-firsts g c =
     let count = c.count-count.ensures
     ∙ ap (λ (x : Collapsed). length x.representative) c.classes.ensures.part in
     let by = verdicts_under c.count-count.result (length job.classes.representative) _ classes _
-    firsts table count c.as_slice-2.ensures.value c.as_slice-3.ensures.value c.in_ok-table.ensures in
+    firsts table count c.as_slice-2.ensures.value c.as_slice-3.ensures.value
+    c.in_ok-table.ensures in
     let known = subst (λ l. AreClassFirsts job.list.model job.circuit job.tests.tests l firsts)
     c.as_slice.ensures.value c.in_ok-firsts.ensures.firsts in
     let kept = c.in_ok-firsts.ensures.kept in
@@ -70,7 +71,8 @@ returns-clause-skipped g c =
     let count = c.count-count.ensures
     ∙ ap (λ (x : Collapsed). length x.representative) c.classes.ensures.part in
     let by = verdicts_under c.count-count.result (length job.classes.representative) _ classes _
-    firsts table count c.as_slice-2.ensures.value c.as_slice-3.ensures.value c.in_ok-table.ensures in
+    firsts table count c.as_slice-2.ensures.value c.as_slice-3.ensures.value
+    c.in_ok-table.ensures in
     let known = subst (λ l. AreClassFirsts job.list.model job.circuit job.tests.tests l firsts)
     c.as_slice.ensures.value c.in_ok-firsts.ensures.firsts in
     let is : c.skipped_after-skipped.result ≡ pieces_after c.blocks-blocks.result

@@ -1,4 +1,5 @@
-use Rattle.std.proofs.Common.{◌≡◌, ◌<◌, ◌*◌, ◌≤◌, ◌∙◌, All, List, ap, get_or, length, map, refl, subst}
+use Rattle.std.proofs.Common.{◌≡◌, ◌<◌, ◌*◌, ◌≤◌, ◌∙◌, All, List, ap, get_or, length}
+use Rattle.std.proofs.Common.{map, refl, subst}
 use Rattle.std.proofs.Common.{sym, ℕ}
 use Rattle.fault_model.specs.Collapse.{Collapsed}
 use Rattle.patterns.specs.Tests.{blocks, max_pieces}
@@ -48,7 +49,8 @@ returns-clause-verdicts g c =
     ∙ ap (λ (x : Collapsed). length x.representative) c.classes.ensures.part
     ∙ ap (λ (j : Parts). length j.classes.representative) kept.1 in
     let by = verdicts_under c.count-count.result (length job.classes.representative) _ classes _
-    firsts table count c.as_slice-3.ensures.value c.as_slice-4.ensures.value c.in_ok-table.ensures in
+    firsts table count c.as_slice-3.ensures.value c.as_slice-4.ensures.value
+    c.in_ok-table.ensures in
     let known = subst (λ l. AreClassFirsts job.list.model job.circuit job.tests.tests l firsts)
     c.as_slice-2.ensures.value c.in_ok-firsts.ensures.firsts in
     let is : c.in_ok-verdicts.verdicts.items ≡ map (λ class. get_or table class OtherPart)

@@ -8,7 +8,8 @@ use Rattle.workers.specs.declared.parts.PartVerdict.TheVariants.{OtherPart}
 use Rattle.workers.specs.Part.{AreClassVerdicts}
 use Rattle.workers.specs.Verdict.{AreClassFirsts}
 use Rattle.workers.specs.Windows.{advanced}
-use Rattle.workers.proofs.WindowFirsts.{firsts_after, firsts_settled, left_few, left_of, left_within}
+use Rattle.workers.proofs.WindowFirsts.{firsts_after, firsts_settled}
+use Rattle.workers.proofs.WindowFirsts.{left_few, left_of, left_within}
 use Rattle.workers.proofs.WindowWords.{begins_before}
 use Rattle.workers.proofs.windows.run_window.Goals as goal
 

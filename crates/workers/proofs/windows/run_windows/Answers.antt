@@ -1,4 +1,5 @@
-use Rattle.std.proofs.Common.{◌≡◌, ◌<◌, ◌≤◌, ◌+◌, ◌*◌, ◌∙◌, All, ap, arith, length, min, refl, subst, sym}
+use Rattle.std.proofs.Common.{◌≡◌, ◌<◌, ◌≤◌, ◌+◌, ◌*◌, ◌∙◌, All, ap, arith, length, min}
+use Rattle.std.proofs.Common.{refl, subst, sym}
 use Rattle.bench_net.specs.Scan.{sources}
 use Rattle.block_sim.specs.Parts.{Parts, with_tests}
 use Rattle.workers.specs.Windows.{AreFirstsBelow}
