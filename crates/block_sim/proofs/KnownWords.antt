@@ -6,7 +6,8 @@ use Rattle.std.specs.Prelude.{Some, None, slice_index_or, if◌then◌else◌}
 use Rattle.std.proofs.Math.Seq.{take-append_seam}
 use Rattle.block_sim.specs.KnownWords.{known_words}
 
-pub known_count : (unit : ℕ) (marks words : List ℕ) → length marks ≡ length words
+pub known_count : {X : Type 0} (unit : ℕ) (marks : List ℕ) (words : List X) → length marks ≡ length
+    words
     → length (known_words unit marks words) ≡ length words
 known_count unit [] [] e = refl
 known_count unit [] (w ∷ words) e = absurd (omega (arith, e))
@@ -15,7 +16,8 @@ known_count unit (m ∷ marks) (w ∷ words) e =
     ap suc (known_count unit marks words (omega (arith, e)))
 
 -- a word is known by its mark
-pub known_here : (unit : ℕ) (marks words : List ℕ) (s mark word : ℕ) → length marks ≡ length words
+pub known_here : {X : Type 0} (unit : ℕ) (marks : List ℕ) (words : List X) (s mark : ℕ) (word : X) →
+    length marks ≡ length words
     → s < length words → mark ≡ slice_index_or marks s mark → word ≡ slice_index_or words s word
     → mark ≡ unit → Some word ≡ slice_index_or (known_words unit marks words) s None
 known_here unit [] [] s mark word e lt m w is = absurd (omega (arith, lt))
@@ -26,7 +28,8 @@ known_here unit (x ∷ marks) (y ∷ words) zero mark word e lt m w is =
 known_here unit (x ∷ marks) (y ∷ words) (suc s) mark word e lt m w is =
     known_here unit marks words s mark word (omega (arith, e)) (omega (arith, lt)) m w is
 
-pub unknown_here : (unit : ℕ) (marks words : List ℕ) (s mark : ℕ) → length marks ≡ length words
+pub unknown_here : {X : Type 0} (unit : ℕ) (marks : List ℕ) (words : List X) (s mark : ℕ) → length
+    marks ≡ length words
     → s < length words → mark ≡ slice_index_or marks s mark → mark ≢ unit
     → None ≡ slice_index_or (known_words unit marks words) s None
 unknown_here unit [] [] s mark e lt m other = absurd (omega (arith, lt))
@@ -41,7 +44,7 @@ unknown_here unit (x ∷ marks) (y ∷ words) (suc s) mark e lt m other =
     unknown_here unit marks words s mark (omega (arith, e)) (omega (arith, lt)) m other
 
 -- no word is known if each mark is another
-pub none_known : (unit : ℕ) (marks words : List ℕ) (s : ℕ)
+pub none_known : {X : Type 0} (unit : ℕ) (marks : List ℕ) (words : List X) (s : ℕ)
     → ((t : ℕ) → t < length marks → slice_index_or marks t 0 ≢ unit)
     → slice_index_or (known_words unit marks words) s None ≡ None
 none_known unit [] words s other = refl
@@ -55,7 +58,8 @@ none_known unit (m ∷ marks) (w ∷ words) (suc s) other =
     none_known unit marks words s (λ t lt. other (suc t) (omega (arith, lt)))
 
 -- a word that is kept is known, and the other words are known as before
-pub known_more : (unit : ℕ) (marks words : List ℕ) (s word : ℕ) → length marks ≡ length words
+pub known_more : {X : Type 0} (unit : ℕ) (marks : List ℕ) (words : List X) (s : ℕ) (word : X) →
+    length marks ≡ length words
     → known_words unit (set marks s unit) (set words s word)
     ≡ set (known_words unit marks words) s (Some word)
 known_more unit [] [] zero word e = refl

@@ -59,6 +59,15 @@ mod ReorderedReaders
 mod ReorderedGates
 mod ArrangedRows
 pub mod Public
+mod UnitLanes
+mod UnitRegions
+mod OneFault
+mod UnitStarts
+mod UnitApproaches
+mod UnitHits
+mod UnitParts
+mod FollowedRows
+mod FollowedUnits
 mod Ways
 mod KnownWords
 mod SensitizedLanes
@@ -76,6 +85,8 @@ mod SlotHits
 mod PackedRegions
 mod PackWords
 mod PackStarts
+mod UnitFlips
+mod UnitSpans
 mod PackSteps
 mod PackRuns
 mod PackRanges

@@ -1,6 +1,6 @@
 -- A gate on wide words: in each lane, the folds over the words of its pins, and what the word of a
 -- form differs from the fault-free one.
-use Rattle.std.proofs.Common.{◌≡◌, ◌<◌, ℕ, ◌+◌, ◌%◌, refl, sym, ◌∙◌, ap}
+use Rattle.std.proofs.Common.{◌≡◌, ◌<◌, ℕ, ◌+◌, ◌/◌, ◌%◌, refl, sym, ◌∙◌, ap}
 use Rattle.std.proofs.Common.{Bool, true, false, not, ◌&&◌, List, [], ◌∷◌, ◌++◌, length, map, take}
 use Rattle.std.proofs.Common.{arith, inl, inr, ◌⊎◌}
 use Rattle.std.specs.Prelude.{slice_index_or, if◌then◌else◌}
@@ -9,7 +9,7 @@ use Rattle.std.proofs.lemmas.List.{get_or-map, length-map, take_all, take_more}
 use Rattle.std.proofs.lemmas.List.Folds.{list_all_more}
 use Rattle.bench_net.specs.declared.Kind.{Kind}
 use Rattle.fault_model.specs.Solution.{is_odd, value}
-use Rattle.wide_words.specs.Lanes.{IsLayout, Layout, lane_in}
+use Rattle.wide_words.specs.Lanes.{IsLayout, Layout, lane_in, slot_of, slots}
 use Rattle.block_sim.specs.declared.gate_form.GateForm.{GateForm}
 use Rattle.block_sim.specs.GateForms.{IsFormOf, inverted_if}
 use Rattle.block_sim.specs.Pack.{wide_bit}
@@ -29,6 +29,19 @@ in_group layout sized k = go sized.whole
         let at = ap (λ n. k % n) e in
         let below : k % 128 < 128 = omega arith in
         let within = sized.within in omega (arith, at, below, within, e)
+
+-- each lane is in a slot
+pub slot_low : (layout : Layout) → IsLayout layout → (k : ℕ) → k < 512
+    → slot_of layout k < slots layout
+slot_low layout sized k lt = go sized.whole
+  where
+    go : (layout.size ≡ 64) ⊎ (layout.size ≡ 128) → slot_of layout k < slots layout
+    go (inl e) =
+        let at = ap (λ n. k / n) e in
+        let all = ap (λ n. 512 / n) e in omega (arith, at, all, lt)
+    go (inr e) =
+        let at = ap (λ n. k / n) e in
+        let all = ap (λ n. 512 / n) e in omega (arith, at, all, lt)
 
 -- ---- bits that differ
 pub unlike_is : (b turn : Bool) → unlike b turn ≡ inverted_if turn b
@@ -227,13 +240,13 @@ odd_inverted d g (p ∷ pins) = step (d p) (g p) (is_odd (map d pins)) (is_odd (
     step false false x y z e xs ys zs p q r = rw (p, q, r, e) refl
 
 -- ---- the word of a form
-module _ (layout : Layout) (good delta : List ℕ) (kind : Kind) (form : GateForm)
+module _ (layout : Layout) (good : ℕ → List ℕ) (delta : List ℕ) (kind : Kind) (form : GateForm)
     (formed : IsFormOf kind form) (pins : List ℕ) (k : ℕ) where
   abbrev seen : List Bool
   seen = map (wide_bit layout good delta k) pins
 
   abbrev free : List Bool
-  free = map (λ s. lane (slice_index_or good s 0) (lane_in layout k)) pins
+  free = map (λ s. lane (slice_index_or (good (slot_of layout k)) s 0) (lane_in layout k)) pins
 
   pub and_value : (all bit turn : Bool) → form.is_xor ≡ false → turn ≡ form.inverts_output
       → all ≡ list_all (λ b. inverted_if form.inverts_inputs b) seen
@@ -257,7 +270,7 @@ module _ (layout : Layout) (good delta : List ℕ) (kind : Kind) (form : GateFor
       ∙ (swapped odd form.inverts_output (is_odd free)
       ∙ (ap (inverted_if form.inverts_output) (ap (λ b. inverted_if b (is_odd free)) is
       ∙ sym (odd_inverted (λ s. lane (slice_index_or delta s 0) k)
-      (λ s. lane (slice_index_or good s 0) (lane_in layout k)) pins))
+      (λ s. lane (slice_index_or (good (slot_of layout k)) s 0) (lane_in layout k)) pins))
       ∙ (ap (inverted_if form.inverts_output) (sym (chosen seen)) ∙ formed seen)))
     where
       chosen : (bits : List Bool) → (if form.is_xor then is_odd bits else list_all

@@ -18,7 +18,8 @@ use Rattle.fault_model.specs.Solution.{Test, Detects, value}
 use Rattle.fault_model.proofs.Public.{IsSource, source_definition}
 use Rattle.wide_words.specs.Lanes.{IsLayout, Layout, lane_in, slot_of}
 use Rattle.block_sim.specs.Events.{AreScheduled, HasEquation, IsRising, Reads}
-use Rattle.block_sim.specs.Pack.{AreGateWords, AreHitIn, HasActiveByPack, IsIn, TellsPack, stem_at}
+use Rattle.block_sim.specs.Pack.{AreGateRows, AreGateWords, AreHitIn, AreRows, HasActiveByPack}
+use Rattle.block_sim.specs.Pack.{IsIn, TellsPack, stem_at}
 use Rattle.block_sim.specs.Propagation.{is_pending}
 use Rattle.block_sim.specs.Regions.{DetectsFlip, flip}
 use Rattle.block_sim.specs.Words.{AreWords, lane, lane_bits}
@@ -44,7 +45,7 @@ twice true true = refl
 twice true false = refl
 twice false b = refl
 
-over : {X : Type 0} (f : ℕ → Bool) (g : X → ℕ) (xs : List X) → map (λ x. f (g x)) xs
+pub over : {X : Type 0} (f : ℕ → Bool) (g : X → ℕ) (xs : List X) → map (λ x. f (g x)) xs
     ≡ map f (map g xs)
 over f g [] = refl
 over f g (x ∷ xs) = ap (λ ys. f (g x) ∷ ys) (over f g xs)
@@ -75,7 +76,7 @@ or_on true b e = refl
 or_on false b e = absurd (false≢true e)
 
 -- a signal differs in lanes alone in which it did before or that are followed
-pub stays_inside : (l : Layout) (c : List Statement) (good : List ℕ) (kept gate source : ℕ)
+pub stays_inside : (l : Layout) (c : List Statement) (good : ℕ → List ℕ) (kept gate source : ℕ)
     → Reads c gate source → (before waited after waits : List ℕ) (shown : ℕ)
     → IsStep l c good kept gate before waited after waits shown
     → (begun : ℕ → Bool)
@@ -92,21 +93,22 @@ stays_inside l c good kept gate source r before waited after waits shown ev begu
         ∙ (sym (ap (λ x. differs_in after x k) is) ∙ on)))
       where
         by : (differs_in before gate k ≡ true) ⊎ ((lane kept k
-            && unlike (lane (slice_index_or good gate 0) (lane_in l k))
+            && unlike (lane (slice_index_or (good (slot_of l k)) gate 0) (lane_in l k))
             (value r.kind (map (wide_bits l c good before k) r.args))) ≡ true) → begun k ≡ true
         by (inl e) = was gate k lt e
         by (inr e) = followed k lt (and_left (lane kept k) _ e)
 
 module _ (l : Layout) (sizes : IsLayout l) (c : List Statement) (well : IsWellFormed c)
-    (rising : IsRising c) (tests : List Test) (group : ℕ) (good : List ℕ)
-    (words : AreWords c tests group None good) (slots : List Slot) where
+    (rising : IsRising c) (tests : List Test) (group : ℕ → ℕ) (good : ℕ → List ℕ)
+    (words : AreRows c tests l group good) (slots : List Slot) where
   -- a gate that has what its kind gives for its pins has its equation
   module _ (k : ℕ) (gate source : ℕ) (r : Reads c gate source) (e : ℕ → Bool)
-      (is : e gate ≡ unlike (lane (slice_index_or good gate 0) (lane_in l k))
-      (value r.kind (map (λ n. unlike (lane (slice_index_or good (signal c n) 0) (lane_in l k))
+      (is : e gate ≡ unlike (lane (slice_index_or (good (slot_of l k)) gate 0) (lane_in l k))
+      (value r.kind (map (λ n. unlike (lane (slice_index_or (good (slot_of l k)) (signal c n) 0)
+      (lane_in l k))
       (e (signal c n))) r.args))) where
     abbrev bit : ℕ → Bool
-    bit s = unlike (lane (slice_index_or good s 0) (lane_in l k)) (e s)
+    bit s = unlike (lane (slice_index_or (good (slot_of l k)) s 0) (lane_in l k)) (e s)
 
     bits : (args : List Name) → map (λ n. bit (signal c n)) args ≡ map bit (map (signal c) args)
     bits args = over bit (signal c) args
@@ -127,7 +129,7 @@ module _ (l : Layout) (sizes : IsLayout l) (c : List Statement) (well : IsWellFo
         go (Some (Dff q d)) h g = nothing (r.kind, map (signal c) r.args) g
 
     pub own_equation : (t : Test)
-        → HasEquation c t None (differing c (lane_bits c good (lane_in l k)) e) gate
+        → HasEquation c t None (differing c (lane_bits c (good (slot_of l k)) (lane_in l k)) e) gate
     own_equation t = record {
       source = λ i n number at. absurd
           (no_source n number (source_definition c n well (at_place (sources c) i n at)));
@@ -135,10 +137,10 @@ module _ (l : Layout) (sizes : IsLayout l) (c : List Statement) (well : IsWellFo
           let pair : (r.kind, map (signal c) r.args) ≡ (kind, map (signal c) args) =
           ap (λ o. unwrap_or o (r.kind, map (signal c) r.args)) (sym named
           ∙ gate_named c n kind args gate well number at) in
-          let v = differing c (lane_bits c good (lane_in l k)) e in
+          let v = differing c (lane_bits c (good (slot_of l k)) (lane_in l k)) e in
           ap bit number
-          ∙ (ap (unlike (lane (slice_index_or good gate 0) (lane_in l k))) is
-          ∙ (twice (lane (slice_index_or good gate 0) (lane_in l k)) _
+          ∙ (ap (unlike (lane (slice_index_or (good (slot_of l k)) gate 0) (lane_in l k))) is
+          ∙ (twice (lane (slice_index_or (good (slot_of l k)) gate 0) (lane_in l k)) _
           ∙ (ap (value r.kind) (bits r.args)
           ∙ (ap (λ p. value p.0 (map bit p.1)) pair
           ∙ (sym (ap (value kind) (bits args))
@@ -171,7 +173,7 @@ module _ (l : Layout) (sizes : IsLayout l) (c : List Statement) (well : IsWellFo
     by = h.touched gate waiting
 
     abbrev turns : ℕ → Bool
-    turns k = unlike (lane (slice_index_or good gate 0) (lane_in l k))
+    turns k = unlike (lane (slice_index_or (good (slot_of l k)) gate 0) (lane_in l k))
         (value (by.3).kind (map (wide_bits l c good before k) (by.3).args))
 
     no_loop : (p : ℕ) → Reads c gate p → p ≢ gate
@@ -185,10 +187,13 @@ module _ (l : Layout) (sizes : IsLayout l) (c : List Statement) (well : IsWellFo
         equation_elsewhere c (lanes.test k) (lanes.fault k) (differing c (lanes.free k) e) gate
         (lanes.elsewhere k gate ne)
         (own_equation k gate by.0 by.3 e (is
-        ∙ ap (λ bs. unlike (lane (slice_index_or good gate 0) (lane_in l k)) (value (by.3).kind bs))
+        ∙ ap (λ bs. unlike (lane (slice_index_or (good (slot_of l k)) gate 0) (lane_in l k)) (value
+        (by.3).kind bs))
         (like_on (wide_bits l c good before k)
-        (λ n. unlike (lane (slice_index_or good (signal c n) 0) (lane_in l k)) (e (signal c n)))
-        (by.3).args (λ n a. ap (unlike (lane (slice_index_or good (signal c n) 0) (lane_in l k)))
+        (λ n. unlike (lane (slice_index_or (good (slot_of l k)) (signal c n) 0) (lane_in l k)) (e
+        (signal c n)))
+        (by.3).args (λ n a. ap (unlike (lane (slice_index_or (good (slot_of l k)) (signal c n) 0)
+        (lane_in l k)))
         (sym (same (signal c n) (no_loop (signal c n) (record {
           name = (by.3).name;
           kind = (by.3).kind;
@@ -273,11 +278,11 @@ module _ (l : Layout) (sizes : IsLayout l) (c : List Statement) (well : IsWellFo
       has_bit : HasBit c (those.test k) (line.Stem (stem_at l slots k))
           (stem_bit l sizes c well rising tests group good words slots k)
       has_bit = (
-        lane_bits c good (lane_in l k),
+        lane_bits c (good (slot_of l k)) (lane_in l k),
         name.0,
         those.solves k lt,
         name.1,
-        ap (λ s. lane (slice_index_or good s 0) (lane_in l k)) number,
+        ap (λ s. lane (slice_index_or (good (slot_of l k)) s 0) (lane_in l k)) number,
       )
 
       pub flip_found : lane seen k ≡ true
@@ -291,12 +296,14 @@ module _ (l : Layout) (sizes : IsLayout l) (c : List Statement) (well : IsWellFo
       pub flip_detects : DetectsFlip c (those.test k) (stem_at l slots k)
           → Detects c (those.test k) (those.fault k)
       flip_detects d =
-          let first : lane_bits c good (lane_in l k) name.0 ≡ d.0 =
-          bit_is c well (those.test k) name.0 d.0 (lane_bits c good (lane_in l k)) among_names
+          let first : lane_bits c (good (slot_of l k)) (lane_in l k) name.0 ≡ d.0 =
+          bit_is c well (those.test k) name.0 d.0 (lane_bits c (good (slot_of l k)) (lane_in l k))
+          among_names
           (subst (λ x. HasBit c (those.test k) (line.Stem x) d.0) (sym number) d.1)
           (those.solves k lt) in
           let same : d.0 ≡ stem_bit l sizes c well rising tests group good words slots k =
-          sym first ∙ ap (λ s. lane (slice_index_or good s 0) (lane_in l k)) number in
+          sym first ∙ ap (λ s. lane (slice_index_or (good (slot_of l k)) s 0) (lane_in l k))
+          number in
           subst (λ b. Detects c (those.test k) (flip (stem_at l slots k) b)) same d.2
 
     pub told : TellsPack l c tests group slots followed seen
@@ -336,3 +343,9 @@ gate_words c well tests group good words gate j kind pins lt is =
     ∙ (ap (value kind) (free_pins None v (signal c g.name) 0 g.args tt)
     ∙ (ap (value kind) (over (λ s. lane (slice_index_or good s 0) j) (signal c) g.args)
     ∙ ap (λ xs. value kind (map (λ s. lane (slice_index_or good s 0) j) xs)) g.reads)))
+
+-- so it is in each slot
+pub gate_rows : (c : List Statement) (well : IsWellFormed c) (tests : List Test) (l : Layout)
+    (group : ℕ → ℕ) (good : ℕ → List ℕ) → AreRows c tests l group good → AreGateRows c l good
+gate_rows c well tests l group good rows slot lt =
+    gate_words c well tests (group slot) (good slot) (rows slot lt)

@@ -15,16 +15,16 @@ use Rattle.fault_model.proofs.Public.{observes, under_own}
 use Rattle.wide_words.specs.Lanes.{IsLayout, Layout, lane_in, slot_of}
 use Rattle.block_sim.specs.Events.{HasEquation, IsElsewhere}
 use Rattle.block_sim.specs.Events.{IsObserved, IsRising}
-use Rattle.block_sim.specs.Pack.{AreStarted, stem_at}
+use Rattle.block_sim.specs.Pack.{AreRows, AreStarted, stem_at}
 use Rattle.block_sim.specs.Regions.{flip}
-use Rattle.block_sim.specs.Words.{AreWords, lane, lane_bits, test_of}
+use Rattle.block_sim.specs.Words.{lane, lane_bits, test_of}
 use Rattle.block_sim.specs.declared.pack.Slot.{Slot}
 use Rattle.block_sim.specs.declared.propagation.Followed.{Followed}
 use Rattle.block_sim.proofs.Flips.{stem_stuck}
 use Rattle.block_sim.proofs.ListPlaces.{index_of, mapped_at}
 use Rattle.block_sim.proofs.Lanes.{unlike}
 use Rattle.block_sim.proofs.OneLane.{IsLane, differing, lane_first, turned_bit}
-use Rattle.block_sim.proofs.PackGates.{in_group}
+use Rattle.block_sim.proofs.PackGates.{in_group, slot_low}
 use Rattle.block_sim.proofs.PackLanes.{ArePropagating, Lanes, LanesMoment}
 use Rattle.block_sim.proofs.PackWords.{differs_in, has_word, is_some, lane_some, some_is}
 
@@ -49,8 +49,8 @@ stem_low l c slots all k lt =
     omega (arith, is, low, same)
 
 module _ (l : Layout) (sizes : IsLayout l) (c : List Statement) (well : IsWellFormed c)
-    (rising : IsRising c) (tests : List Test) (group : ℕ) (good : List ℕ)
-    (words : AreWords c tests group None good) (slots : List Slot) where
+    (rising : IsRising c) (tests : List Test) (group : ℕ → ℕ) (good : ℕ → List ℕ)
+    (words : AreRows c tests l group good) (slots : List Slot) where
   -- a complemented stem has the equation of its fault
   pub stem_equation : (t : Test) (s : ℕ) (bit : Bool) (v : Name → Bool)
       → ((n : Name) → signal c n ≡ s → v n ≡ bit) → (d : ℕ → Bool) → d s ≡ true
@@ -66,21 +66,23 @@ module _ (l : Layout) (sizes : IsLayout l) (c : List Statement) (well : IsWellFo
           number))
 
   abbrev pub stem_bit : ℕ → Bool
-  stem_bit k = lane (slice_index_or good (stem_at l slots k) 0) (lane_in l k)
+  stem_bit k = lane (slice_index_or (good (slot_of l k)) (stem_at l slots k) 0) (lane_in l k)
 
   -- what the lanes stand for
   abbrev pub stem_lanes : Lanes c 512
   stem_lanes = record {
-    test = λ k. test_of tests group (lane_in l k);
+    test = λ k. test_of tests (group (slot_of l k)) (lane_in l k);
     fault = λ k. flip (stem_at l slots k) (stem_bit k);
     stem = λ k. stem_at l slots k;
-    free = λ k. lane_bits c good (lane_in l k);
-    solves = λ k lt. words (lane_in l k) (in_group l sizes k);
+    free = λ k. lane_bits c (good (slot_of l k)) (lane_in l k);
+    solves = λ k lt. words (slot_of l k) (slot_low l sizes k lt) (lane_in l k) (in_group l sizes k);
     elsewhere = λ k s ne. elsewhere_flip (stem_at l slots k) s (stem_bit k) ne;
     unobserved = λ k o there. (observes c o well there).no_stem (stem_at l slots k);
-    own = λ k lt d on. stem_equation (test_of tests group (lane_in l k)) (stem_at l slots k)
-        (stem_bit k) (lane_bits c good (lane_in l k))
-        (λ n number. ap (λ s. lane (slice_index_or good s 0) (lane_in l k)) number) d on;
+    own = λ k lt d on. stem_equation (test_of tests (group (slot_of l k)) (lane_in l k)) (stem_at l
+        slots k)
+        (stem_bit k) (lane_bits c (good (slot_of l k)) (lane_in l k))
+        (λ n number. ap (λ s. lane (slice_index_or (good (slot_of l k)) s 0) (lane_in l k)) number)
+        d on;
   }
 
   abbrev pub pack_moment : List ℕ → List ℕ → ℕ → ℕ → ℕ → LanesMoment
@@ -129,14 +131,17 @@ module _ (l : Layout) (sizes : IsLayout l) (c : List Statement) (well : IsWellFo
       where
         right : (k : ℕ) → k < 512 → differs_in delta (stem_at l slots k) k ≡ true → (n : Name)
             (w : Name → Bool) → Contains (names c) n → signal c n ≡ stem_at l slots k
-            → Solves c (test_of tests group (lane_in l k)) (Some (flip (stem_at l slots k)
+            → Solves c (test_of tests (group (slot_of l k)) (lane_in l k)) (Some (flip (stem_at l
+            slots k)
             (stem_bit k))) w
-            → differing c (lane_bits c good (lane_in l k)) (λ s. differs_in delta s k) n ≡ w n
+            → differing c (lane_bits c (good (slot_of l k)) (lane_in l k)) (λ s. differs_in delta s
+            k) n ≡ w n
         right k lt on n w named number solves =
-            ap (unlike (lane_bits c good (lane_in l k) n))
+            ap (unlike (lane_bits c (good (slot_of l k)) (lane_in l k) n))
             (ap (λ s. differs_in delta s k) number ∙ on)
-            ∙ (turned_bit (lane_bits c good (lane_in l k) n)
-            ∙ (ap not (ap (λ s. lane (slice_index_or good s 0) (lane_in l k)) number)
-            ∙ sym (stem_stuck c well (test_of tests group (lane_in l k))
+            ∙ (turned_bit (lane_bits c (good (slot_of l k)) (lane_in l k) n)
+            ∙ (ap not (ap (λ s. lane (slice_index_or (good (slot_of l k)) s 0) (lane_in l k))
+            number)
+            ∙ sym (stem_stuck c well (test_of tests (group (slot_of l k)) (lane_in l k))
             (flip (stem_at l slots k) (stem_bit k)) w n solves (among (names c) n named)
             (ap line.Stem (sym number)))))

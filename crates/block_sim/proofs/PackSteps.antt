@@ -10,7 +10,7 @@ use Rattle.bench_net.specs.Statement.{Name, Statement, Gate}
 use Rattle.bench_net.specs.Scan.{signal}
 use Rattle.bench_net.specs.Circuit.{IsWellFormed}
 use Rattle.fault_model.specs.Solution.{value}
-use Rattle.wide_words.specs.Lanes.{Layout, lane_in}
+use Rattle.wide_words.specs.Lanes.{Layout, lane_in, slot_of}
 use Rattle.block_sim.specs.Events.{AreScheduled, IsObserved}
 use Rattle.block_sim.specs.GateForms.{inverted_if}
 use Rattle.block_sim.specs.Pack.{IsEvaluated, wide_bit}
@@ -21,21 +21,22 @@ use Rattle.block_sim.proofs.PackWords.{differs_in, has_word, is_some, none_is, s
 use Rattle.block_sim.proofs.SignalEquations.{gate_named}
 
 -- the bit of a name in a lane
-abbrev pub wide_bits : Layout → List Statement → List ℕ → List ℕ → ℕ → Name → Bool
+abbrev pub wide_bits : Layout → List Statement → (ℕ → List ℕ) → List ℕ → ℕ → Name → Bool
 wide_bits l c good delta k n =
-    unlike (lane (slice_index_or good (signal c n) 0) (lane_in l k)) (differs_in delta (signal c n)
+    unlike (lane (slice_index_or (good (slot_of l k)) (signal c n) 0) (lane_in l k)) (differs_in
+    delta (signal c n)
     k)
 
 -- A gate was evaluated: in the lanes of a mask it comes to differ where its kind gives another bit
 -- for what its pins see than its fault-free one. Where it differs in a lane for the first time its
 -- live readers wait, and the lanes are seen if it is observed.
-pub record IsStep (l : Layout) (c : List Statement) (good : List ℕ) (kept gate : ℕ)
+pub record IsStep (l : Layout) (c : List Statement) (good : ℕ → List ℕ) (kept gate : ℕ)
     (before waited after waits : List ℕ) (shown : ℕ) : Type 0 where
   pub others : (s : ℕ) → s ≢ gate → slice_index_or after s 0 ≡ slice_index_or before s 0
   pub here : (name : Name) (kind : Kind) (args : List Name) (k : ℕ)
       → Contains c (Gate name kind args) → signal c name ≡ gate → k < 512
       → differs_in after gate k ≡ (differs_in before gate k || (lane kept k
-      && unlike (lane (slice_index_or good gate 0) (lane_in l k))
+      && unlike (lane (slice_index_or (good (slot_of l k)) gate 0) (lane_in l k))
       (value kind (map (wide_bits l c good before k) args))))
   pub stays : has_word before gate ≡ true → has_word after gate ≡ true
   pub some : has_word before gate ≡ false → has_word after gate ≡ true
@@ -60,7 +61,7 @@ turned true false = refl
 turned false true = refl
 turned false false = refl
 
-module _ (l : Layout) (c : List Statement) (well : IsWellFormed c) (good : List ℕ)
+module _ (l : Layout) (c : List Statement) (well : IsWellFormed c) (good : ℕ → List ℕ)
     (kept gate : ℕ) (before waited after waits : List ℕ) (shown : ℕ) (within : gate < length before)
     (evaluated : IsEvaluated c l good kept gate before after)
     (some : slice_index_or before gate 0 ≡ 0 → slice_index_or after gate 0 ≢ 0
@@ -90,16 +91,16 @@ module _ (l : Layout) (c : List Statement) (well : IsWellFormed c) (good : List 
   pins k [] = refl
   pins k (a ∷ args) =
       ap (λ b. b ∷ map (wide_bits l c good before k) args)
-      (unlike_is (lane (slice_index_or good (signal c a) 0) (lane_in l k))
+      (unlike_is (lane (slice_index_or (good (slot_of l k)) (signal c a) 0) (lane_in l k))
       (differs_in before (signal c a) k))
       ∙ ap (λ bs. wide_bit l good before k (signal c a) ∷ bs) (pins k args)
 
   turns : (name : Name) (kind : Kind) (args : List Name) (k : ℕ)
       → Contains c (Gate name kind args) → signal c name ≡ gate → k < 512
-      → unlike (lane (slice_index_or good gate 0) (lane_in l k))
+      → unlike (lane (slice_index_or (good (slot_of l k)) gate 0) (lane_in l k))
       (value kind (map (wide_bits l c good before k) args)) ≡ lane word k
   turns name kind args k there number lt =
-      let bit = lane (slice_index_or good gate 0) (lane_in l k) in
+      let bit = lane (slice_index_or (good (slot_of l k)) gate 0) (lane_in l k) in
       ap (λ bs. unlike bit (value kind bs)) (pins k args)
       ∙ (ap (unlike bit) (sym (evaluated.1 kind (map (signal c) args) k lt
       (gate_named c name kind args gate well number there)))
@@ -108,7 +109,7 @@ module _ (l : Layout) (c : List Statement) (well : IsWellFormed c) (good : List 
   here : (name : Name) (kind : Kind) (args : List Name) (k : ℕ)
       → Contains c (Gate name kind args) → signal c name ≡ gate → k < 512
       → lane new k ≡ (lane old k || (lane kept k
-      && unlike (lane (slice_index_or good gate 0) (lane_in l k))
+      && unlike (lane (slice_index_or (good (slot_of l k)) gate 0) (lane_in l k))
       (value kind (map (wide_bits l c good before k) args))))
   here name kind args k there number lt =
       ap (λ w. lane w k) new_is

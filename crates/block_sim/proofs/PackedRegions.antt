@@ -221,7 +221,7 @@ module _ (layout : Layout) (stems : List Slot) (i : ℕ) (slot : Slot)
 
   module _ (sized : IsLayout layout) (c : List Statement) (tests : List Test) (group : ℕ)
       (followed : List Followed) (wide word : ℕ) (few : length stems ≤ slots layout)
-      (told : TellsPack layout c tests group stems followed wide)
+      (told : TellsPack layout c tests (λ slot. group) stems followed wide)
       (part : IsPart layout wide i word) (one : Followed) (at : ℕ) (low : slot.begin ≤ at)
       (high : at < slot.end) (listed : slice_get followed at ≡ Some one)
       (inside : (k : ℕ) → k < 128 → lane one.lanes k ≡ true
@@ -272,7 +272,7 @@ module _ (job : Parts) (c : List Statement) (span : BlockSpan) (rows : List List
     (well : IsWellFormed job.circuit) (reordered : IsReordered job.circuit c)
     (is : IsSpan (length job.tests.tests) span) (few : length stems ≤ slots layout)
     (copied : AreCopied layout (length job.tests.tests) span)
-    (told : TellsPack layout c job.tests.tests (group_of span) stems followed wide)
+    (told : TellsPack layout c job.tests.tests (λ slot. group_of span) stems followed wide)
     (concluded : AreSlotsConcluded layout span wide followed stems (length stems) before hits)
     (g : AreGathered job c span rows firsts from to stems followed before) where
   in_some_slot : (place : ℕ) → IsFollowedAt followed place
@@ -352,7 +352,7 @@ pub pack_active : (layout : Layout) (sized : IsLayout layout) (c : List Statemen
     → All (λ slot. slot.stem < length (names c)) stems
     → ((slot : Slot) → Contains stems slot → HasActiveByFlip c tests span slot.stem gates)
     → ((one : Followed) → Contains followed one → AreInSpan tests span one.lanes)
-    → HasActiveByPack layout c tests (group_of span) good stems followed gates
+    → HasActiveByPack layout c tests (λ slot. group_of span) (λ slot. good) stems followed gates
 pack_active layout sized c well tests span good words stems followed gates signals has inside
     k gate one lt h active =
     let j = lane_in layout k in
@@ -378,6 +378,18 @@ pack_active layout sized c well tests span good words stems followed gates signa
       subst (λ x. IsActiveBy c (test_of tests group j) (flip x (lane (slice_index_or good x 0) j))
           gate) is active,
     )
+
+-- the same where each slot has these words
+pub slots_active : (layout : Layout) (c : List Statement) (tests : List Test) (group : ℕ)
+    (good : List ℕ) (rows : ℕ → List ℕ) → ((slot : ℕ) → rows slot ≡ good) → (stems : List Slot)
+    (followed : List Followed) (gates : List ℕ)
+    → HasActiveByPack layout c tests (λ slot. group) (λ slot. good) stems followed gates
+    → HasActiveByPack layout c tests (λ slot. group) rows stems followed gates
+slots_active layout c tests group good rows same stems followed gates has k gate one lt h active =
+    let s = stem_at layout stems k in
+    let j = lane_in layout k in
+    has k gate one lt h (subst (λ l. IsActiveBy c (test_of tests group j)
+    (flip s (lane (slice_index_or l s 0) j)) gate) (same (slot_of layout k)) active)
 
 -- what is true of each slot
 pub all_slots : (P : Slot → Type 0) (stems : List Slot) → ((slot : Slot) → Contains stems slot

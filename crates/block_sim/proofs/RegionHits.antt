@@ -4,12 +4,11 @@ use Rattle.std.proofs.Common.{refl, sym, ◌∙◌, ap, subst, List, [], ◌∷�
 use Rattle.std.proofs.Common.{All, take, drop, length-drop, Option, Some, None}
 use Rattle.std.specs.Prelude.{Contains, bit_and, slice_get, slice_range}
 use Rattle.std.specs.List.{sum_by}
-use Rattle.std.proofs.lemmas.Bool.{cases_eq, cases_lt}
+use Rattle.std.proofs.lemmas.Bool.{cases_eq}
 use Rattle.std.proofs.lemmas.List.{length-set, length-take-le}
 use Rattle.std.proofs.lemmas.List.Sums.{sum_by-append}
 use Rattle.std.proofs.lemmas.Option.{get_or_from_slice_get, slice_get-get_or, slice_get_within}
-use Rattle.list_lemmas.proofs.Members.{Among, among, among_append, among_left, among_right}
-use Rattle.list_lemmas.proofs.Members.{contained}
+use Rattle.list_lemmas.proofs.Members.{Among, among, contained}
 use Rattle.bench_net.specs.Statement.{Statement}
 use Rattle.fault_model.specs.Detection.{DetectsAt}
 use Rattle.fault_model.specs.Fault.{Fault}
@@ -21,30 +20,16 @@ use Rattle.block_sim.specs.First.{TellsFirst}
 use Rattle.block_sim.specs.OpenPlaces.{AreSettled}
 use Rattle.block_sim.specs.Origins.{IsListed}
 use Rattle.block_sim.specs.Parts.{Parts}
-use Rattle.block_sim.specs.RegionHits.{AreConcluded, AreFollowedAt, HasFirst, HaveFirsts}
-use Rattle.block_sim.specs.RegionHits.{HaveFirstsBut, HaveStem, IsFirstIn, IsOpenAt}
+use Rattle.block_sim.specs.RegionHits.{AreConcluded, AreFollowedAt, AreOpen, HasFirst, HaveFirsts}
+use Rattle.block_sim.specs.RegionHits.{HaveFirstsBut, HaveStem, IsFirstIn}
 use Rattle.block_sim.specs.Regions.{TellsFirstFlips}
 use Rattle.block_sim.specs.RegionHits.{IsFirstOn, IsFollowedAt, IsFoundOrFollowed}
 use Rattle.block_sim.specs.RegionHits.{IsTestOf, open_between, open_classes}
 use Rattle.block_sim.specs.Simulation.{AreFollowed, HasArrived, TellsFirstIn}
 use Rattle.block_sim.specs.BlockSpans.{IsInSpan, IsSpan, group_of}
+use Rattle.block_sim.proofs.FollowedRows as rows_followed
 use Rattle.block_sim.proofs.KeptOutcomes.{arrived_first}
-
--- ---- a write to a list
-pub set_here : {X : Type 0} (xs : List X) (i : ℕ) (x : X) → i < length xs
-    → slice_get (set xs i x) i ≡ Some x
-set_here [] i x lt = absurd (omega (arith, lt))
-set_here (y ∷ xs) zero x lt = refl
-set_here (y ∷ xs) (suc i) x lt = set_here xs i x (omega (arith, lt))
-
-pub set_there : {X : Type 0} (xs : List X) (i k : ℕ) (x : X) → k ≢ i
-    → slice_get (set xs i x) k ≡ slice_get xs k
-set_there [] zero k x ne = refl
-set_there [] (suc i) k x ne = refl
-set_there (y ∷ xs) zero zero x ne = absurd (ne refl)
-set_there (y ∷ xs) zero (suc k) x ne = refl
-set_there (y ∷ xs) (suc i) zero x ne = refl
-set_there (y ∷ xs) (suc i) (suc k) x ne = set_there xs i k x (λ e. ne (ap suc e))
+use Rattle.block_sim.proofs.ListPlaces.{set_here, set_there}
 
 -- ---- the test of the least lane is the first one
 pub first_of_lane : (c : List Statement) (tests : List Test) (span : BlockSpan) (f : Fault)
@@ -94,162 +79,60 @@ module _ (job : Parts) (span : BlockSpan) (rows : List ListedClass) (firsts : Li
     (row : ListedClass) (was followed : List Followed) (old hits : List (Option ℕ))
     (is : slice_get rows p ≡ Some row) (low : p < length old) (after : from ≤ p)
     (step : IsFoundOrFollowed job span row p was followed old hits) where
-  -- those that were followed are still
-  still : (one : Followed) → Contains was one → Contains followed one
-  still one there = go step
-    where
-      go : IsFoundOrFollowed job span row p was followed old hits → Contains followed one
-      go (inl s) = subst (λ l. Contains l one) (sym s.0) there
-      go (inr s) = subst (λ l. Contains l one) (sym s.5)
-          (contained (was ++ s.1 ∷ []) one (among_left was (s.1 ∷ []) one (among was one there)))
+  abbrev class_of : Followed → ℕ
+  class_of one = one.class
 
-  -- what was kept elsewhere is still
-  elsewhere : (place : ℕ) → place ≢ p → slice_get hits place ≡ slice_get old place
-  elsewhere place ne = go step
-    where
-      go : IsFoundOrFollowed job span row p was followed old hits
-          → slice_get hits place ≡ slice_get old place
-      go (inl s) = ap (λ l. slice_get l place) s.3 ∙ set_there old p place s.1 ne
-      go (inr s) = ap (λ l. slice_get l place) s.0
+  abbrev place_of : Followed → ℕ
+  place_of one = one.place
+
+  abbrev Came : Followed → Type 0
+  Came one = HasArrived job span row.stem one.class one.lanes
 
   pub as_many : length hits ≡ length old
-  as_many = go step
-    where
-      go : IsFoundOrFollowed job span row p was followed old hits → length hits ≡ length old
-      go (inl s) = ap length s.3 ∙ length-set old p s.1
-      go (inr s) = ap length s.0
-
-  here : HasFirst job span row hits p ⊎ IsFollowedAt followed p
-  here = go step
-    where
-      go : IsFoundOrFollowed job span row p was followed old hits
-          → HasFirst job span row hits p ⊎ IsFollowedAt followed p
-      go (inl s) = inl (s.1, ap (λ l. slice_get l p) s.3 ∙ set_here old p s.1 low, s.2)
-      go (inr s) = inr (
-        s.1,
-        subst (λ l. Contains l s.1) (sym s.5)
-            (contained (was ++ s.1 ∷ []) s.1 (among_right was (s.1 ∷ []) s.1 (inl refl))),
-        s.3,
-      )
+  as_many = rows_followed.as_many class_of place_of Came job span row p was followed old hits step
 
   pub found_more : HaveFirstsBut job span rows firsts was from p old
       → HaveFirstsBut job span rows firsts followed from (p + 1) hits
-  found_more before place other le lt idle = go (cases_eq place p)
-    where
-      keep : (place ≢ p)
-          → HasFirst job span other old place ⊎ IsFollowedAt was place
-          → HasFirst job span other hits place ⊎ IsFollowedAt followed place
-      keep ne (inl h) = inl (h.0, elsewhere place ne ∙ h.1, h.2)
-      keep ne (inr h) = inr (h.0, still h.0 h.1, h.2)
-
-      go : (place ≡ p) ⊎ (place ≢ p)
-          → HasFirst job span other hits place ⊎ IsFollowedAt followed place
-      go (inl same) =
-          let both : Some other ≡ Some row = sym idle.row_is ∙ (ap (slice_get rows) same ∙ is) in
-          let one : other ≡ row = cc in
-          subst (λ n. HasFirst job span other hits n ⊎ IsFollowedAt followed n) (sym same)
-          (subst (λ (r : ListedClass). HasFirst job span r hits p
-          ⊎ IsFollowedAt followed p) (sym one)
-          here)
-      go (inr ne) = keep ne (before place other le (omega (arith, lt, ne)) idle)
+  found_more = rows_followed.found_more class_of place_of Came job span row p was followed old hits
+      step rows firsts from is low
 
   pub at_more : AreFollowedAt rows from p was → AreFollowedAt rows from (p + 1) followed
-  at_more before one there = go step
-    where
-      old_one : Contains was one → (from ≤ one.place) × (one.place < p + 1)
-          × (r : ListedClass) × (slice_get rows one.place ≡ Some r) × (r.class ≡ one.class)
-      old_one h = let b = before one h in let lt = b.1 in (b.0, omega (arith, lt), b.2, b.3, b.4)
-
-      new_one : (s : Followed) → s.class ≡ row.class → s.place ≡ p
-          → Among one was ⊎ Among one (s ∷ [])
-          → (from ≤ one.place) × (one.place < p + 1)
-          × (r : ListedClass) × (slice_get rows one.place ≡ Some r) × (r.class ≡ one.class)
-      new_one s class place (inl h) = old_one (contained was one h)
-      new_one s class place (inr (inl same)) =
-          let e : one.place ≡ p = ap (λ (x : Followed). x.place) (sym same) ∙ place in (
-            omega (arith, e, after),
-            omega (arith, e),
-            row,
-            ap (slice_get rows) e ∙ is,
-            sym (ap (λ (x : Followed). x.class) (sym same) ∙ class),
-          )
-      new_one s class place (inr (inr bad)) = absurd bad
-
-      go : IsFoundOrFollowed job span row p was followed old hits
-          → (from ≤ one.place) × (one.place < p + 1)
-          × (r : ListedClass) × (slice_get rows one.place ≡ Some r) × (r.class ≡ one.class)
-      go (inl s) = old_one (subst (λ l. Contains l one) s.0 there)
-      go (inr s) = new_one s.1 s.2 s.3 (among_append was (s.1 ∷ []) one
-          (among (was ++ s.1 ∷ []) one (subst (λ l. Contains l one) s.5 there)))
-
-  pub arrived_more : (stem : ℕ) → row.stem ≡ stem
-      → row.class < length job.classes.representative → AreFollowed job span stem was
-      → AreFollowed job span stem followed
-  arrived_more stem of within before one there = go step
-    where
-      new_one : (s : Followed) → s.class ≡ row.class
-          → HasArrived job span row.stem s.class s.lanes
-          → Among one was ⊎ Among one (s ∷ [])
-          → (one.class < length job.classes.representative)
-          × HasArrived job span stem one.class one.lanes
-      new_one s class at (inl h) = before one (contained was one h)
-      new_one s class at (inr (inl same)) =
-          subst (λ (y : Followed). (y.class < length job.classes.representative)
-          × HasArrived job span stem y.class y.lanes)
-          same (
-            omega (arith, class, within),
-            subst (λ n. HasArrived job span n s.class s.lanes) of at,
-          )
-      new_one s class at (inr (inr bad)) = absurd bad
-
-      go : IsFoundOrFollowed job span row p was followed old hits
-          → (one.class < length job.classes.representative)
-          × HasArrived job span stem one.class one.lanes
-      go (inl s) = before one (subst (λ l. Contains l one) s.0 there)
-      go (inr s) = new_one s.1 s.2 s.4 (among_append was (s.1 ∷ []) one
-          (among (was ++ s.1 ∷ []) one (subst (λ l. Contains l one) s.5 there)))
+  at_more before =
+      rows_followed.each_more class_of place_of Came job span row p was followed old hits step
+      (λ (one : Followed). (from ≤ one.place) × (one.place < p + 1)
+      × (r : ListedClass) × (slice_get rows one.place ≡ Some r) × (r.class ≡ one.class))
+      (λ one class place came. (
+        omega (arith, place, after),
+        omega (arith, place),
+        row,
+        ap (slice_get rows) place ∙ is,
+        sym class,
+      ))
+      (λ one there. let b = before one there in let lt = b.1 in
+      (b.0, omega (arith, lt), b.2, b.3, b.4))
 
   pub others_more : (first : List (Option ℕ))
       → ((place : ℕ) → (place < from) ⊎ (p ≤ place) → slice_get old place ≡ slice_get first place)
       → (place : ℕ) → (place < from) ⊎ (p + 1 ≤ place)
       → slice_get hits place ≡ slice_get first place
-  others_more first before place (inl lt) =
-      elsewhere place (λ e. omega (arith, lt, e, after)) ∙ before place (inl lt)
-  others_more first before place (inr le) =
-      elsewhere place (λ e. omega (arith, le, e)) ∙ before place (inr (omega (arith, le)))
+  others_more first = rows_followed.others_more class_of place_of Came job span row p was followed
+      old hits step from first after
 
   -- what was found of a class whose first test is known is still, and none that is followed is one
   module _ (idle : slice_get firsts p ≡ Some None) where
-    not_here : (place test : ℕ) → slice_get firsts place ≡ Some (Some test) → place ≢ p
-    not_here place test e same =
-        let bad : Some None ≡ Some (Some test) = sym idle
-        ∙ (ap (slice_get firsts) (sym same) ∙ e) in
-        cc
-
     pub known_more : (first : List (Option ℕ))
         → ((place test : ℕ) → slice_get firsts place ≡ Some (Some test)
         → slice_get old place ≡ slice_get first place)
         → (place test : ℕ) → slice_get firsts place ≡ Some (Some test)
         → slice_get hits place ≡ slice_get first place
-    known_more first before place test e =
-        elsewhere place (not_here place test e) ∙ before place test e
+    known_more first = rows_followed.known_more class_of place_of Came job span row p was followed
+        old hits step firsts first idle
 
-    pub open_more : ((one : Followed) → Contains was one → slice_get firsts one.place ≡ Some None)
-        → (one : Followed) → Contains followed one → slice_get firsts one.place ≡ Some None
-    open_more before one there = go step
-      where
-        new_one : (s : Followed) → s.place ≡ p → Among one was ⊎ Among one (s ∷ [])
-            → slice_get firsts one.place ≡ Some None
-        new_one s place (inl h) = before one (contained was one h)
-        new_one s place (inr (inl same)) =
-            ap (slice_get firsts) (ap (λ (x : Followed). x.place) (sym same) ∙ place) ∙ idle
-        new_one s place (inr (inr bad)) = absurd bad
-
-        go : IsFoundOrFollowed job span row p was followed old hits
-            → slice_get firsts one.place ≡ Some None
-        go (inl s) = before one (subst (λ l. Contains l one) s.0 there)
-        go (inr s) = new_one s.1 s.3 (among_append was (s.1 ∷ []) one
-            (among (was ++ s.1 ∷ []) one (subst (λ l. Contains l one) s.5 there)))
+    pub open_more : AreOpen firsts was → AreOpen firsts followed
+    open_more =
+        rows_followed.each_more class_of place_of Came job span row p was followed old hits step
+        (λ (one : Followed). slice_get firsts one.place ≡ Some None)
+        (λ one class place came. ap (slice_get firsts) place ∙ idle)
 
 -- ---- the classes that are open
 take_more : {X : Type 0} (xs : List X) (p : ℕ) (x : X) → slice_get xs p ≡ Some x
@@ -508,28 +391,15 @@ settled_from firsts p q test here after k le lt = go (cases_eq k p)
 
 module _ (rows : List ListedClass) (firsts : List (Option ℕ)) (from p q : ℕ) (up : p ≤ q)
     (settled : AreSettled firsts p q) where
-  not_open : (k : ℕ) (row : ListedClass) → p ≤ k → k < q → IsOpenAt rows firsts k row → ⊥
-  not_open k row le lt idle =
-      let known = settled k le lt in
-      let bad : Some None ≡ Some (Some known.0) = sym idle.unknown ∙ known.1 in
-      cc
-
   pub stems_over : (stem : ℕ) → HaveStem rows firsts from p stem → HaveStem rows firsts from q stem
-  stems_over stem before k row le lt idle = go (cases_lt k p)
-    where
-      go : (k < p) ⊎ (p ≤ k) → row.stem ≡ stem
-      go (inl low) = before k row le low idle
-      go (inr high) = absurd (not_open k row high lt idle)
+  stems_over stem = rows_followed.each_over rows firsts from p q (λ k row. row.stem ≡ stem) settled
 
   pub found_over : (job : Parts) (span : BlockSpan) (followed : List Followed)
       (hits : List (Option ℕ))
       → HaveFirstsBut job span rows firsts followed from p hits
       → HaveFirstsBut job span rows firsts followed from q hits
-  found_over job span followed hits before k row le lt idle = go (cases_lt k p)
-    where
-      go : (k < p) ⊎ (p ≤ k) → HasFirst job span row hits k ⊎ IsFollowedAt followed k
-      go (inl low) = before k row le low idle
-      go (inr high) = absurd (not_open k row high lt idle)
+  found_over job span followed hits = rows_followed.each_over rows firsts from p q
+      (λ k row. HasFirst job span row hits k ⊎ IsFollowedAt followed k) settled
 
   pub at_over : (followed : List Followed) → AreFollowedAt rows from p followed
       → AreFollowedAt rows from q followed

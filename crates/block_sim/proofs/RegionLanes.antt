@@ -85,7 +85,8 @@ unlike_true true b e = ap not e
 unlike_true false b e = e
 
 -- by any solution
-passes_is : (c : List Statement) (t : Test) (s : ℕ) (u : Name → Bool) (name : Name) (kind : Kind)
+pub passes_is : (c : List Statement) (t : Test) (s : ℕ) (u : Name → Bool) (name : Name) (kind :
+    Kind)
     (args : List Name) → IsWellFormed c → Solves c t None u → Contains c (Gate name kind args)
     → Passes c t s (signal c name) ↔ (value kind (map (complemented_at c s u) args) ≢ u name)
 passes_is c t s u name kind args well p at = (

@@ -1,5 +1,6 @@
 -- Packs: the lanes of a wide word stand for pairs of a test and a stem.
-use Rattle.std.specs.Prelude.{◌≡◌, ◌≢◌, ℕ, ◌<◌, ◌≤◌, Bool, true, false, List, All, Contains, Some}
+use Rattle.std.specs.Prelude.{◌≡◌, ◌≢◌, ℕ, ◌<◌, ◌≤◌, Bool, true, false, List, All, Contains, None}
+use Rattle.std.specs.Prelude.{Some}
 use Rattle.std.specs.Prelude.{length, map, bit_and, bit_or, slice_get, slice_index_or, slice_range}
 use Rattle.std.specs.Prelude.{slice_set}
 use Rattle.std.specs.Bool.{Decides}
@@ -15,14 +16,28 @@ use Rattle.block_sim.specs.ActiveGates.{IsActiveBy}
 use Rattle.block_sim.specs.Events.{IsLive, IsObserved, Reads}
 use Rattle.block_sim.specs.GateForms.{inverted_if}
 use Rattle.block_sim.specs.Regions.{DetectsFlip, flip}
-use Rattle.block_sim.specs.Words.{lane, test_of}
+use Rattle.block_sim.specs.Words.{AreWords, lane, test_of}
 
 -- The bit of a signal in a lane of a wide word: its fault-free bit under the lane's test, inverted
--- where the signal differs.
-abbrev pub wide_bit : Layout → List ℕ → List ℕ → ℕ → ℕ → Bool
+-- where the signal differs. For each slot there are the fault-free words of its group.
+abbrev pub wide_bit : Layout → (ℕ → List ℕ) → List ℕ → ℕ → ℕ → Bool
 wide_bit layout good delta k s =
     inverted_if (lane (slice_index_or delta s 0) k)
-    (lane (slice_index_or good s 0) (lane_in layout k))
+    (lane (slice_index_or (good (slot_of layout k)) s 0) (lane_in layout k))
+
+-- in each slot there is a word for the signal
+abbrev pub AreWithin : Layout → (ℕ → List ℕ) → ℕ → Type 0
+AreWithin layout good s = (slot : ℕ) → slot < slots layout → s < length (good slot)
+
+-- in each slot there is a word for each signal of the circuit
+abbrev pub HaveCounts : List Statement → Layout → (ℕ → List ℕ) → Type 0
+HaveCounts c layout good = (slot : ℕ) → slot < slots layout
+    → length (good slot) ≡ length (names c)
+
+-- the words of each slot are the fault-free words of the slot's group
+abbrev pub AreRows : List Statement → List Test → Layout → (ℕ → ℕ) → (ℕ → List ℕ) → Type 0
+AreRows c tests layout group good = (slot : ℕ) → slot < slots layout
+    → AreWords c tests (group slot) None (good slot)
 
 -- the word of each gate's signal has in each lane the bit that its kind gives for those of its pins
 abbrev pub AreGateWords : List Statement → List ℕ → Type 0
@@ -31,12 +46,17 @@ AreGateWords c good = (gate j : ℕ) (kind : Kind) (pins : List ℕ) → j < 128
     → lane (slice_index_or good gate 0) j
     ≡ value kind (map (λ s. lane (slice_index_or good s 0) j) pins)
 
+-- so it is in each slot
+abbrev pub AreGateRows : List Statement → Layout → (ℕ → List ℕ) → Type 0
+AreGateRows c layout good = (slot : ℕ) → slot < slots layout → AreGateWords c (good slot)
+
 -- The lanes of a word are those in which a gate's signal differs from its fault-free bit, if it has
 -- the bit that its kind gives for those of its pins.
-abbrev pub IsDifference : List Statement → Layout → List ℕ → List ℕ → ℕ → ℕ → Type 0
+abbrev pub IsDifference : List Statement → Layout → (ℕ → List ℕ) → List ℕ → ℕ → ℕ → Type 0
 IsDifference c layout good delta gate word = (kind : Kind) (pins : List ℕ) (k : ℕ) → k < 512
     → gate_of c gate ≡ Some (kind, pins)
-    → inverted_if (lane word k) (lane (slice_index_or good gate 0) (lane_in layout k))
+    → inverted_if (lane word k)
+    (lane (slice_index_or (good (slot_of layout k)) gate 0) (lane_in layout k))
     ≡ value kind (map (wide_bit layout good delta k) pins)
 
 -- some class came to the stem in a lane of its group
@@ -73,7 +93,8 @@ IsWithin followed slot = (slot.begin ≤ slot.end) × (slot.end ≤ length follo
 
 -- A gate was evaluated: its signal differs in the lanes in which it did and in those that are
 -- followed in which its gate says so, and no other signal has changed.
-abbrev pub IsEvaluated : List Statement → Layout → List ℕ → ℕ → ℕ → List ℕ → List ℕ → Type 0
+abbrev pub IsEvaluated : List Statement → Layout → (ℕ → List ℕ) → ℕ → ℕ → List ℕ → List ℕ
+    → Type 0
 IsEvaluated c layout good kept gate before after = (word : ℕ)
     × IsDifference c layout good before gate word
     × (after ≡ slice_set before gate
@@ -145,21 +166,25 @@ pub record IsPackClear (pack : Pack) : Type 0 where
 
 -- A wide word has the lanes whose tests detect the complemented stem of their slot: of each class
 -- up to its least. In lanes above that each 1 of it is right.
-pub record TellsPack (layout : Layout) (c : List Statement) (tests : List Test) (group : ℕ)
-    (stems : List Slot) (followed : List Followed) (word : ℕ) : Type 0 where
+pub record TellsPack (layout : Layout) (c : List Statement) (tests : List Test)
+    (group : ℕ → ℕ) (stems : List Slot) (followed : List Followed) (word : ℕ) : Type 0 where
   pub found : (k : ℕ) → k < 512 → lane word k ≡ true → slot_of layout k < length stems
-      → DetectsFlip c (test_of tests group (lane_in layout k)) (stem_at layout stems k)
+      → DetectsFlip c (test_of tests (group (slot_of layout k)) (lane_in layout k)) (stem_at layout
+      stems k)
   pub clear : (k : ℕ) (one : Followed) → k < 512 → IsIn layout stems followed k one
       → ((j : ℕ) → j < 512 → slot_of layout j ≡ slot_of layout k
       → lane_in layout j ≤ lane_in layout k → lane one.lanes (lane_in layout j) ≡ true
       → lane word j ≡ false)
-      → ¬ DetectsFlip c (test_of tests group (lane_in layout k)) (stem_at layout stems k)
+      → ¬ DetectsFlip c (test_of tests (group (slot_of layout k)) (lane_in layout k)) (stem_at
+      layout stems k)
 
 -- the list names each gate that some lane in which a class came to a stem makes active
-abbrev pub HasActiveByPack : Layout → List Statement → List Test → ℕ → List ℕ → List Slot
-    → List Followed → List ℕ → Type 0
+abbrev pub HasActiveByPack : Layout → List Statement → List Test → (ℕ → ℕ) → (ℕ → List ℕ)
+    → List Slot → List Followed → List ℕ → Type 0
 HasActiveByPack layout c tests group good stems followed gates = (k gate : ℕ) (one : Followed)
     → k < 512 → IsIn layout stems followed k one
-    → IsActiveBy c (test_of tests group (lane_in layout k)) (flip (stem_at layout stems k)
-    (lane (slice_index_or good (stem_at layout stems k) 0) (lane_in layout k))) gate
+    → IsActiveBy c (test_of tests (group (slot_of layout k)) (lane_in layout k)) (flip (stem_at
+    layout stems k)
+    (lane (slice_index_or (good (slot_of layout k)) (stem_at layout stems k) 0) (lane_in layout k)))
+    gate
     → Contains gates gate

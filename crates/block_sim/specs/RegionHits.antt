@@ -18,12 +18,14 @@ use Rattle.block_sim.specs.declared.pack.Pack.{Pack}
 use Rattle.block_sim.specs.declared.pack.Slot.{Slot}
 use Rattle.block_sim.specs.declared.propagation_state.PropagationState.{PropagationState}
 use Rattle.block_sim.specs.declared.sensitized.Sensitized.{Sensitized}
+use Rattle.block_sim.specs.declared.unit_simulation.Unit.{Unit as UnitRoom}
 use Rattle.block_sim.specs.Events.{IsObserved}
 use Rattle.block_sim.specs.Pack.{IsPackClear, IsWithin}
 use Rattle.block_sim.specs.Parts.{Parts}
 use Rattle.block_sim.specs.Sensitized.{IsReady}
 use Rattle.block_sim.specs.Simulation.{AreFollowed, HasArrived}
 use Rattle.block_sim.specs.BlockSpans.{IsInSpan, group_of}
+use Rattle.block_sim.specs.Units.{HasUnitRoom}
 use Rattle.block_sim.specs.Words.{lane}
 
 -- the first test of a span that detects the fault, or none where no test of it does
@@ -248,11 +250,14 @@ pub record IsPackAsLarge (before after : Pack) : Type 0 where
   pub slots : vec_capacity after.slots ≡ vec_capacity before.slots
 
 -- Between two calls no word differs and no gate waits, and there is room for the regions of as many
--- signals and for packs of eight stems.
-pub record IsReadyForPacks (changes : PropagationState) (region : Sensitized) (pack : Pack) :
-    Type 0 where
+-- signals, for packs of eight stems and for units.
+pub record IsReadyForPacks (changes : PropagationState) (region : Sensitized) (pack : Pack)
+    (unit : UnitRoom) : Type 0 where
   pub regions : IsReady changes region
   pub clear : IsPackClear pack
   pub deltas : length pack.deltas ≡ length changes.overlay
   pub waiting : length changes.overlay < length pack.waiting
   pub slots : 8 ≤ vec_capacity pack.slots
+  pub unit_region : HasUnitRoom (length changes.overlay) unit.region
+  pub unit_classes : 256 ≤ vec_capacity unit.classes
+  pub unit_parts : 1024 ≤ vec_capacity unit.followed

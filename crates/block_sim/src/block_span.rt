@@ -1,14 +1,25 @@
 //! The blocks that are simulated at once: one, or the two of a group.
 
-ghost use Rattle.std.specs.Prelude.{◌≡◌, ◌↔◌, ◌+◌, ◌*◌, ◌<◌, ◌≤◌, ℕ, length, true};
+ghost use Rattle.std.specs.Prelude.{◌≡◌, ◌↔◌, ◌+◌, ◌*◌, ◌<◌, ◌≤◌, ℕ, IsTrue, length, true};
 ghost use Rattle.std.specs.Bool.{Decides};
 ghost use Rattle.patterns.specs.Tests.{blocks};
-ghost use Rattle.block_sim.specs.BlockSpans.{HasBlock, IsInSpan, IsSpan, IsTogether, group_of};
-ghost use Rattle.block_sim.specs.BlockSpans.{span_of};
+ghost use Rattle.block_sim.specs.BlockSpans.{HasBlock, IsInSpan, IsPaired, IsSpan, IsTogether};
+ghost use Rattle.block_sim.specs.BlockSpans.{IsUnit, begins_unit, group_of, span_of, unit_of};
 ghost use Rattle.block_sim.specs.Words.{lane};
 
 use crate::block_lanes::lanes_below;
 use patterns::Tests;
+
+/// Returns whether a unit of 512 tests begins with a block: the block is the first of eight blocks,
+/// all of which are full, and eight blocks come before it.
+pub fn is_unit(tests: &Tests, block: u32) -> bool
+    requires { block < blocks (length tests.now.tests) }
+    ensures begins { result ≡ begins_unit (length tests.now.tests) block }
+    ensures is { IsTrue result ↔ IsUnit (length tests.now.tests) block }
+{
+    let count = tests.count();
+    block >= 8 && block % 8 == 0 && 511 < count - 64 * block
+}
 
 /// The first and the last of some blocks of a group.
 #[derive(Clone, Copy)]
@@ -18,6 +29,25 @@ pub struct BlockSpan {
 }
 
 impl BlockSpan {
+    /// Returns the eight blocks of a unit of 512 tests that begins with a block, if all of these
+    /// tests are there and 512 tests come before them. Otherwise it returns the block with the
+    /// other one of its group, as [`BlockSpan::from`] does. Most classes are detected in the first
+    /// unit.
+    pub fn unit_from(tests: &Tests, block: u32) -> BlockSpan
+        requires { block < blocks (length tests.now.tests) }
+        ensures span_is { result ≡ unit_of (length tests.now.tests) block }
+        ensures together { (other : ℕ) → HasBlock result other
+            ↔ IsTogether (length tests.now.tests) block other }
+    {
+        if is_unit(tests, block) {
+            return BlockSpan {
+                first: block,
+                last: block + 7,
+            };
+        }
+        BlockSpan::from(tests, block)
+    }
+
     /// Returns a block with the other one of its group, if that comes after it. Most classes are
     /// detected in the first group, so its blocks are simulated one by one.
     pub fn from(tests: &Tests, block: u32) -> BlockSpan
@@ -25,7 +55,7 @@ impl BlockSpan {
         ensures span { IsSpan (length tests.now.tests) result }
         ensures span_is { result ≡ span_of (length tests.now.tests) block }
         ensures together { (other : ℕ) → HasBlock result other
-            ↔ IsTogether (length tests.now.tests) block other }
+            ↔ IsPaired (length tests.now.tests) block other }
         ensures first { result.first ≡ block }
         ensures alone { block < 2 → result.last ≡ block }
     {

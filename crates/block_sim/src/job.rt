@@ -10,7 +10,7 @@ ghost use Rattle.block_sim.specs.Arranged.{ArePlaces, IsArranged};
 ghost use Rattle.block_sim.specs.Origins.{IsListed, IsRepresentativeOf};
 ghost use Rattle.block_sim.specs.Parts.{BelongTogether, piece_count, with_tests};
 ghost use Rattle.block_sim.specs.Regions.{IsStemOfClass};
-ghost use Rattle.block_sim.specs.BlockSpans.{IsTogether, groups, span_of};
+ghost use Rattle.block_sim.specs.BlockSpans.{IsTogether, groups, unit_of};
 ghost use Rattle.block_sim.specs.Words.{IsFaultFreeWord};
 
 use crate::block_lanes::block_word;
@@ -447,16 +447,17 @@ impl Job {
         }
     }
 
-    /// Returns the last block that is simulated together with a block. From the third block on this
-    /// is the other block of its group of two, if that comes after it. Otherwise it is the block
-    /// itself.
+    /// Returns the last block that is simulated together with a block. If a unit of 512 tests
+    /// begins with it, and 512 tests come before it, this is the last of the unit's eight blocks.
+    /// Else, from the third block on, it is the other block of its group of two, if that comes
+    /// after it. Otherwise it is the block itself.
     pub fn last_together(&self, block: u32) -> u32
         requires { block < blocks (length self.now.tests.tests) }
-        ensures last { result ≡ (span_of (length self.now.tests.tests) block).last }
+        ensures last { result ≡ (unit_of (length self.now.tests.tests) block).last }
         ensures together { (other : ℕ) → ((block ≤ other) × (other ≤ result))
             ↔ IsTogether (length self.now.tests.tests) block other }
     {
-        BlockSpan::from(&self.parts.tests, block).last
+        BlockSpan::unit_from(&self.parts.tests, block).last
     }
 
     /// Returns the number, from 0, of the signal that is the stem of a class: the stem of the

@@ -1,10 +1,12 @@
 //! Packs: several stems are simulated at once, each in lanes of its own.
 //!
-//! A wide word has 512 lanes: the tests of one block in eight copies, or those of a group of two
-//! blocks in four. Each stem of a pack has a slot, which is one copy of the tests, and differs from
-//! the start in the lanes of that slot alone. So lane `k` stands for a pair of a test and a stem.
+//! A wide word has 512 lanes: the tests of one block in eight copies, those of a group of two
+//! blocks in four, or those of four groups. Each stem of a pack has a slot, and differs from the
+//! start in the lanes of that slot alone. So lane `k` stands for a pair of a test and a stem. One
+//! stem that has four slots, each with the tests of a group of its own, is simulated on 512 tests
+//! at once.
 //!
-//! Fault-free words stand once, as the groups have them, and are repeated as they are read.
+//! Fault-free words stand once, as the groups have them, and are put side by side as they are read.
 
 ghost use Rattle.std.specs.Prelude.{◌≡◌, ◌≢◌, ◌⊎◌, ℕ, ◌+◌, ◌^◌, ◌<◌, ◌≤◌, ◌||◌, All, IfNone, IfOk};
 ghost use Rattle.std.specs.Prelude.{IfSome, List, None, Some, [], bit_or, false, length, map};
@@ -20,13 +22,13 @@ ghost use Rattle.wide_words.specs.Wide.{number};
 ghost use Rattle.block_sim.specs.Events.{AreScheduled, IsObserved};
 ghost use Rattle.block_sim.specs.Flat.{HasEnds};
 ghost use Rattle.block_sim.specs.GateForms.{inverted_if};
-ghost use Rattle.block_sim.specs.Pack.{AreGateWords, AreHitIn, AreKeptAfter, AreSlots, AreStarted};
-ghost use Rattle.block_sim.specs.Pack.{HasActiveByPack, HasPackRoom, HaveHitsIn, HaveLane};
+ghost use Rattle.block_sim.specs.Pack.{AreGateRows, AreHitIn, AreKeptAfter, AreRows, AreSlots};
+ghost use Rattle.block_sim.specs.Pack.{AreStarted, AreWithin, HasActiveByPack, HasPackRoom};
+ghost use Rattle.block_sim.specs.Pack.{HaveCounts, HaveHitsIn, HaveLane};
 ghost use Rattle.block_sim.specs.Pack.{IsDifference, IsEvaluated, IsPackClear, IsWithin, TellsPack};
 ghost use Rattle.block_sim.specs.Pack.{wide_bit};
-ghost use Rattle.block_sim.specs.Words.{AreWords, HasWords, lane};
+ghost use Rattle.block_sim.specs.Words.{lane};
 
-use crate::block_lanes::in_each_lane;
 use crate::flat::{FlatCircuit, FlatGate};
 use crate::propagation::{Followed, below_hits, schedule_fanout};
 use crate::words::count_evaluation;
@@ -72,50 +74,56 @@ impl Pack {
     }
 }
 
+/// Returns a word with this bit in each of its lanes.
+#[inline(always)]
+pub fn in_each_wide_lane(bit: bool) -> Wide
+    ensures { (k : ℕ) → k < 512 → lane (number result) k ≡ bit }
+{
+    Wide::splat(in_each_part(bit))
+}
+
+/// Returns a part of a word, with this bit in each of its lanes.
+#[inline(always)]
+fn in_each_part(bit: bool) -> u64
+    ensures { (k : ℕ) → k < 64 → lane result k ≡ bit }
+{
+    if bit { !0 } else { 0 }
+}
+
 /// Returns the bits that a gate sees at a pin, in each slot, inverted if this is asked for.
 #[inline(always)]
-fn pin_lanes<C: Copies>(
-    good: &[u128],
-    copies: C,
-    turn: bool,
-    deltas: &WideOverlay,
-    pin: u32,
-) -> Wide
-    requires pin { pin < length good.now }
-    requires room { length good.now ≤ length deltas.now }
+fn pin_lanes<C: Copies>(copies: C, turn: bool, deltas: &WideOverlay, pin: u32) -> Wide
+    requires pin { AreWithin C.layout (C.rows copies) pin }
+    requires room { pin < length deltas.now }
     ensures { (k : ℕ) → k < 512 → lane (number result) k
-        ≡ inverted_if turn (wide_bit C.layout good.now deltas.now k pin) }
+        ≡ inverted_if turn (wide_bit C.layout (C.rows copies) deltas.now k pin) }
 {
     copies
-        .of(good[pin as usize] ^ in_each_lane(turn))
+        .of(pin)
+        .xor(in_each_wide_lane(turn))
         .xor(deltas.lanes_of(pin))
 }
 
 /// Returns the lanes in which the bits that a gate sees are all 1, each inverted if its form
 /// inverts inputs. The first and the last are read apart, as a gate of 128 lanes does.
 #[inline(always)]
-fn lanes_of_all<C: Copies>(
-    gate: FlatGate<'_>,
-    good: &[u128],
-    copies: C,
-    deltas: &WideOverlay,
-) -> Wide
+fn lanes_of_all<C: Copies>(gate: FlatGate<'_>, copies: C, deltas: &WideOverlay) -> Wide
     requires some { 0 < length gate.pins.now }
-    requires pins_in { All (λ p. p < length good.now) gate.pins.now }
-    requires room { length good.now ≤ length deltas.now }
+    requires pins_in { All (AreWithin C.layout (C.rows copies)) gate.pins.now }
+    requires room { All (λ p. p < length deltas.now) gate.pins.now }
     requires ends { HasEnds gate.pins.now gate.first gate.last }
     ensures { (k : ℕ) → k < 512 → lane (number result) k
         ≡ list_all (λ b. inverted_if gate.entry.form.inverts_inputs b)
-        (map (wide_bit C.layout good.now deltas.now k) gate.entry.pins.now) }
+        (map (wide_bit C.layout (C.rows copies) deltas.now k) gate.entry.pins.now) }
 {
     let turn = gate.form.inverts_inputs;
     let last = gate.pins.len() - 1;
-    let mut all = pin_lanes(good, copies, turn, deltas, gate.first);
+    let mut all = pin_lanes(copies, turn, deltas, gate.first);
     for place in 1..last {
-        let word = pin_lanes(good, copies, turn, deltas, gate.pins[place]);
+        let word = pin_lanes(copies, turn, deltas, gate.pins[place]);
         all = all.and(word);
     }
-    let word = pin_lanes(good, copies, turn, deltas, gate.last);
+    let word = pin_lanes(copies, turn, deltas, gate.last);
     all.and(word)
 }
 
@@ -143,27 +151,25 @@ fn lanes_of_odd(gate: FlatGate<'_>, deltas: &WideOverlay) -> Wide
 /// Returns the lanes in which the signal of a gate differs, by what its pins see. An XOR differs
 /// where an odd number of its pins do, whatever their fault-free bits are.
 #[inline(always)]
-fn difference<C: Copies>(
-    circuit: &FlatCircuit,
-    good: &[u128],
-    copies: C,
-    gate: u32,
-    deltas: &WideOverlay,
-) -> Wide
-    requires view { HasWords circuit.now.arranged good.now }
-    requires words { AreGateWords circuit.now.arranged good.now }
-    requires room { length good.now ≤ length deltas.now }
+fn difference<C: Copies>(circuit: &FlatCircuit, copies: C, gate: u32, deltas: &WideOverlay) -> Wide
+    requires circuit { IsCircuit circuit.now.arranged }
+    requires view { HaveCounts circuit.now.arranged C.layout (C.rows copies) }
+    requires words { AreGateRows circuit.now.arranged C.layout (C.rows copies) }
+    requires room { length (names circuit.now.arranged) ≤ length deltas.now }
     requires within { gate < length (names circuit.now.arranged) }
     requires driven { (line : Kind × List ℕ) × (gate_of circuit.now.arranged gate ≡ Some line) }
-    ensures { IsDifference circuit.now.arranged C.layout good.now deltas.now gate (number result) }
+    ensures { IsDifference circuit.now.arranged C.layout (C.rows copies) deltas.now gate
+        (number result) }
 {
     match circuit.gate_of(gate) {
         Some(driver) => {
             if driver.form.is_xor {
                 return lanes_of_odd(driver, deltas);
             }
-            let word = good[gate as usize] ^ in_each_lane(driver.form.inverts_output);
-            lanes_of_all(driver, good, copies, deltas).xor(copies.of(word))
+            let word = copies
+                .of(gate)
+                .xor(in_each_wide_lane(driver.form.inverts_output));
+            lanes_of_all(driver, copies, deltas).xor(word)
         }
         None => unreachable!(),
     }
@@ -276,21 +282,21 @@ fn change(
 #[inline(always)]
 fn evaluate_waiting<C: Copies>(
     circuit: &FlatCircuit,
-    good: &[u128],
     copies: C,
     kept: Wide,
     gate: u32,
     deltas: &mut WideOverlay,
     waiting: &mut Places,
 ) -> Wide
-    requires view { HasWords circuit.now.arranged good.now }
-    requires words { AreGateWords circuit.now.arranged good.now }
-    requires room { length good.now ≤ length deltas.old }
+    requires circuit { IsCircuit circuit.now.arranged }
+    requires view { HaveCounts circuit.now.arranged C.layout (C.rows copies) }
+    requires words { AreGateRows circuit.now.arranged C.layout (C.rows copies) }
+    requires room { length (names circuit.now.arranged) ≤ length deltas.old }
     requires gates { length (names circuit.now.arranged) ≤ length waiting.old }
     requires within { gate < length (names circuit.now.arranged) }
     requires driven { (line : Kind × List ℕ) × (gate_of circuit.now.arranged gate ≡ Some line) }
-    ensures evaluated { IsEvaluated circuit.now.arranged C.layout good.now (number kept) gate
-        deltas.old deltas.new }
+    ensures evaluated { IsEvaluated circuit.now.arranged C.layout (C.rows copies) (number kept)
+        gate deltas.old deltas.new }
     ensures scheduled { slice_index_or deltas.old gate 0 ≡ 0
         → slice_index_or deltas.new gate 0 ≢ 0
         → AreScheduled circuit.now.arranged gate waiting.old waiting.new }
@@ -303,7 +309,7 @@ fn evaluate_waiting<C: Copies>(
         × (lane (slice_index_or deltas.new gate 0) k ≡ true)) }
     ensures gates { length waiting.new ≡ length waiting.old }
 {
-    let word = difference(circuit, good, copies, gate, deltas).and(kept);
+    let word = difference(circuit, copies, gate, deltas).and(kept);
     if deltas.differs(gate) {
         deltas.join(gate, word);
         return Wide::none();
@@ -440,25 +446,25 @@ fn next_gate(kept: Wide, from: u32, waiting: &mut Places) -> Option<u32>
 /// observer sees that: of each class up to the least.
 pub fn propagate<C: Copies>(
     circuit: &FlatCircuit,
-    good: &[u128],
     copies: C,
     followed: &[Followed],
     pack: &mut Pack,
     evaluations: &mut u64,
 ) -> Wide
-    requires words { HasWords circuit.now.arranged good.now }
-    requires free { (tests : List Test) × (group : ℕ)
-        × AreWords circuit.now.arranged tests group None good.now }
+    requires circuit { IsCircuit circuit.now.arranged }
+    requires words { HaveCounts circuit.now.arranged C.layout (C.rows copies) }
+    requires free { (tests : List Test) × (group : ℕ → ℕ)
+        × AreRows circuit.now.arranged tests C.layout group (C.rows copies) }
     requires room { HasPackRoom circuit.now.arranged pack.old }
     requires clear { IsPackClear pack.old }
     requires slots { AreSlots C.layout circuit.now.arranged pack.old.slots.items followed.now }
-    ensures detected { (tests : List Test) (group : ℕ)
-        → AreWords circuit.now.arranged tests group None good.now
+    ensures detected { (tests : List Test) (group : ℕ → ℕ)
+        → AreRows circuit.now.arranged tests C.layout group (C.rows copies)
         → TellsPack C.layout circuit.now.arranged tests group pack.old.slots.items followed.now
         (number result) }
-    ensures counted { (tests : List Test) (group : ℕ) (gates : List ℕ)
-        → AreWords circuit.now.arranged tests group None good.now
-        → HasActiveByPack C.layout circuit.now.arranged tests group good.now
+    ensures counted { (tests : List Test) (group : ℕ → ℕ) (gates : List ℕ)
+        → AreRows circuit.now.arranged tests C.layout group (C.rows copies)
+        → HasActiveByPack C.layout circuit.now.arranged tests group (C.rows copies)
         pack.old.slots.items followed.now gates
         → evaluations.new ≤ evaluations.old + length gates }
     ensures grown { evaluations.old ≤ evaluations.new }
@@ -479,7 +485,7 @@ pub fn propagate<C: Copies>(
     };
     while let Some(gate) = next_gate(found.kept, from, waiting) {
         count_evaluation(evaluations);
-        let fresh = evaluate_waiting(circuit, good, copies, found.kept, gate, deltas, waiting);
+        let fresh = evaluate_waiting(circuit, copies, found.kept, gate, deltas, waiting);
         found = follow_on(copies, followed, stems, found, fresh);
         from = gate + 1;
     }

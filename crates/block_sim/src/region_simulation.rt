@@ -9,7 +9,7 @@ ghost use Rattle.bench_net.specs.Scan.{names};
 ghost use Rattle.patterns.specs.Tests.{blocks};
 ghost use Rattle.wide_words.specs.Lanes.{slots};
 ghost use Rattle.wide_words.specs.Wide.{number};
-ghost use Rattle.block_sim.specs.BlockSpans.{AreInSpan, IsSpan, group_of, span_of};
+ghost use Rattle.block_sim.specs.BlockSpans.{AreInSpan, IsSpan, group_of, unit_of};
 ghost use Rattle.block_sim.specs.Events.{IsObserved};
 ghost use Rattle.block_sim.specs.OpenPlaces.{AreNextOpen};
 ghost use Rattle.block_sim.specs.Origins.{IsListed};
@@ -25,7 +25,7 @@ ghost use Rattle.block_sim.specs.Sensitized.{HasBegun, HasRoomForRegions, IsSame
 ghost use Rattle.block_sim.specs.Simulation.{IsApproach};
 ghost use Rattle.block_sim.specs.Ways.{AreWays, HasActiveByFlip, IsWayOfClass};
 
-use crate::block_span::BlockSpan;
+use crate::block_span::{BlockSpan, is_unit};
 use crate::block_view::BlockView;
 use crate::job::Job;
 use crate::launch_condition::launch_lanes;
@@ -36,6 +36,7 @@ use crate::propagation_state::PropagationState;
 use crate::region::{Arrival, Reach};
 use crate::sensitized::{Sensitized, follow_within};
 use crate::simulation::Approach;
+use crate::unit_simulation::{Unit, simulate_unit};
 use std::alloc::{AllocError, Global};
 use std::marker::Model;
 use wide_words::{Both, Copies, High, Low, Wide};
@@ -53,6 +54,7 @@ pub struct RegionSimulation {
     hits: Vec<Option<u32>>,
     region: Sensitized,
     pack: Pack,
+    unit: Unit,
 }
 
 impl Model for RegionSimulation {
@@ -68,12 +70,12 @@ impl Model for RegionSimulation {
       capacity = vec_capacity s.followed;
     } };
 
-    ghost invariant = { λ s. IsReadyForPacks s.changes s.region s.pack };
+    ghost invariant = { λ s. IsReadyForPacks s.changes s.region s.pack s.unit };
 }
 
 impl RegionSimulation {
-    /// Makes room for the simulation of lists of classes of a job. It takes a word and a few
-    /// numbers for each signal, and a few numbers for each class.
+    /// Makes room for the simulation of lists of classes of a job. It takes a few words and numbers
+    /// for each signal, and a few numbers for each class.
     pub fn new(alloc: Global, job: &Job) -> Result<RegionSimulation, AllocError>
         ensures serves { IfOk result (λ simulation. ServesRegions simulation job.now) }
         ensures fresh { IfOk result (λ simulation. simulation.evaluations ≡ 0) }
@@ -86,12 +88,14 @@ impl RegionSimulation {
         let hits = vec![in alloc; None; classes]?;
         let region = Sensitized::new(alloc, signals)?;
         let pack = Pack::new(alloc, signals)?;
+        let unit = Unit::new(alloc, signals)?;
         Ok(RegionSimulation {
             changes,
             followed,
             hits,
             region,
             pack,
+            unit,
         })
     }
 
@@ -140,7 +144,7 @@ impl RegionSimulation {
         requires from { from < length rows.now }
         ensures low { from < result }
         ensures within { result ≤ length rows.now }
-        ensures found { HaveFirsts job.now (span_of (length job.now.tests.tests) block) rows.now
+        ensures found { HaveFirsts job.now (unit_of (length job.now.tests.tests) block) rows.now
             firsts.now from result self.new.hits }
         ensures others { (place : ℕ) → (place < from) ⊎ (result ≤ place)
             → slice_get self.new.hits place ≡ slice_get self.old.hits place }
@@ -151,11 +155,30 @@ impl RegionSimulation {
             → ((place : ℕ) (row : ListedClass) → from ≤ place → place < result
             → IsOpenAt rows.now firsts.now place row
             → HasActiveByFlip job.now.circuit job.now.tests.tests
-            (span_of (length job.now.tests.tests) block) row.stem gates)
+            (unit_of (length job.now.tests.tests) block) row.stem gates)
             → self.new.evaluations ≤ self.old.evaluations
             + sum_by way (open_between rows.now firsts.now from result) + length gates }
         ensures grown { self.old.evaluations ≤ self.new.evaluations }
     {
+        if is_unit(job.tests(), block) {
+            let unit = &mut self.unit;
+            let pack = &mut self.pack;
+            let evaluations = &mut self.changes.evaluations;
+            let hits = self.hits.as_mut_slice();
+            let group = block / 2;
+            return simulate_unit(
+                job,
+                group,
+                rows,
+                next,
+                from,
+                firsts,
+                unit,
+                pack,
+                evaluations,
+                hits,
+            );
+        }
         let span = BlockSpan::from(job.tests(), block);
         let view = view_of(job, span);
         let room = stems_at_once(span);
@@ -373,14 +396,17 @@ fn flip_all(
     ensures clear { IsPackClear pack.new }
 {
     if span.first < span.last {
-        flip_pack(job, view, span, Both {}, followed, pack, evaluations, hits);
+        let copies = Both { words: view.good };
+        flip_pack(job, view, span, copies, followed, pack, evaluations, hits);
         return;
     }
     if span.first % 2 == 0 {
-        flip_pack(job, view, span, Low {}, followed, pack, evaluations, hits);
+        let copies = Low { words: view.good };
+        flip_pack(job, view, span, copies, followed, pack, evaluations, hits);
         return;
     }
-    flip_pack(job, view, span, High {}, followed, pack, evaluations, hits);
+    let copies = High { words: view.good };
+    flip_pack(job, view, span, copies, followed, pack, evaluations, hits);
 }
 
 /// Complements the stems of a pack on copies of the tests of a span, and keeps the first tests of
@@ -404,6 +430,7 @@ fn flip_pack<C: Copies>(
     requires clear { IsPackClear pack.old }
     requires slots { AreSlots C.layout view.circuit.now.arranged pack.old.slots.items followed.now }
     requires copied { AreCopied C.layout (length job.now.tests.tests) span }
+    requires rows { (slot : ℕ) → C.rows copies slot ≡ view.good.now }
     ensures found { (rows : List ListedClass) (firsts : List (Option ℕ)) (from to : ℕ)
         → AreGathered job.now view.entry.circuit.now.arranged span rows firsts from to
         pack.old.slots.items followed.now hits.old
@@ -420,7 +447,7 @@ fn flip_pack<C: Copies>(
     ensures room { IsPackAsLarge pack.old pack.new }
     ensures clear { IsPackClear pack.new }
 {
-    let seen = propagate(view.circuit, view.good, copies, followed, pack, evaluations);
+    let seen = propagate(view.circuit, copies, followed, pack, evaluations);
     let stems = pack.slots.as_slice();
     conclude_slots(span, copies, seen, followed, stems, hits);
 }
@@ -451,7 +478,7 @@ fn conclude_slots<C: Copies>(
 }
 
 /// Returns the class at a place of a list.
-fn row_at(rows: &[ListedClass], place: usize) -> ListedClass
+pub fn row_at(rows: &[ListedClass], place: usize) -> ListedClass
     requires { place < length rows.now }
     ensures { slice_get rows.now place ≡ Some result }
 {
@@ -460,7 +487,7 @@ fn row_at(rows: &[ListedClass], place: usize) -> ListedClass
 
 /// Returns the next place whose class may be open.
 #[inline(always)]
-fn next_open(next: &[usize], place: usize) -> usize
+pub fn next_open(next: &[usize], place: usize) -> usize
     requires { place < length next.now }
     ensures { slice_get next.now place ≡ Some result }
 {
@@ -557,7 +584,7 @@ fn follow_region(
 }
 
 /// Returns the first test that is known for the class at a place.
-fn first_at(firsts: &[Option<u32>], place: usize) -> Option<u32>
+pub fn first_at(firsts: &[Option<u32>], place: usize) -> Option<u32>
     requires { place < length firsts.now }
     ensures { slice_get firsts.now place ≡ Some result }
 {
@@ -677,7 +704,7 @@ fn conclude(span: BlockSpan, seen: u128, followed: &[Followed], hits: &mut [Opti
 }
 
 /// Keeps the result of the class at a place.
-fn keep(hits: &mut [Option<u32>], place: usize, hit: Option<u32>)
+pub fn keep(hits: &mut [Option<u32>], place: usize, hit: Option<u32>)
     requires { place < length hits.old }
     ensures { hits.new ≡ slice_set hits.old place hit }
 {

@@ -5,6 +5,7 @@ use Rattle.std.proofs.lemmas.Bool.{cases_lt}
 use Rattle.std.proofs.lemmas.List.{get_or-set_other, get_or-set_same, length-set}
 use Rattle.std.proofs.lemmas.Simd.{get_or-replicate}
 use Rattle.wide_words.specs.Lanes.{lane}
+use Rattle.wide_words.specs.Layouts.{one_of}
 
 abbrev pub zeros : List ℕ
 zeros = 0 ∷ 0 ∷ 0 ∷ 0 ∷ 0 ∷ 0 ∷ 0 ∷ 0 ∷ []
@@ -85,3 +86,64 @@ module _ (low high : ℕ) where
             ap (λ p. lane (get_or in_turn p 0) (k % 64)) part
             ∙ (ap (λ x. lane x (k % 64)) (odd_part (k / 128) within)
             ∙ (second (k % 64) (omega arith) ∙ ap (lane word) same))
+
+-- ---- the parts of four words
+module _ (l0 h0 l1 h1 l2 h2 l3 h3 : ℕ) where
+  abbrev pub of_four : List ℕ
+  of_four = l0 ∷ h0 ∷ l1 ∷ h1 ∷ l2 ∷ h2 ∷ l3 ∷ h3 ∷ []
+
+  low_of : (q : ℕ) → q < 4 → get_or of_four (2 * q) 0 ≡ one_of l0 l1 l2 l3 q
+  low_of zero lt = refl
+  low_of (suc zero) lt = refl
+  low_of (suc (suc zero)) lt = refl
+  low_of (suc (suc (suc zero))) lt = refl
+  low_of (suc (suc (suc (suc q)))) lt = absurd (omega (arith, lt))
+
+  high_of : (q : ℕ) → q < 4 → get_or of_four (2 * q + 1) 0 ≡ one_of h0 h1 h2 h3 q
+  high_of zero lt = refl
+  high_of (suc zero) lt = refl
+  high_of (suc (suc zero)) lt = refl
+  high_of (suc (suc (suc zero))) lt = refl
+  high_of (suc (suc (suc (suc q)))) lt = absurd (omega (arith, lt))
+
+  module _ (a b c d : ℕ)
+      (first : (q k : ℕ) → k < 64 → lane (one_of l0 l1 l2 l3 q) k ≡ lane (one_of a b c d q) k)
+      (second : (q k : ℕ) → k < 64
+      → lane (one_of h0 h1 h2 h3 q) k ≡ lane (one_of a b c d q) (64 + k)) where
+    pub four_lane : (k : ℕ) → k < 512
+        → lane (get_or of_four (k / 64) 0) (k % 64) ≡ lane (one_of a b c d (k / 128)) (k % 128)
+    four_lane k lt = go (cases_lt (k % 128) 64)
+      where
+        go : (k % 128 < 64) ⊎ (64 ≤ k % 128)
+            → lane (get_or of_four (k / 64) 0) (k % 64) ≡ lane (one_of a b c d (k / 128)) (k % 128)
+        go (inl few) =
+            let part : k / 64 ≡ 2 * (k / 128) = omega (arith, few) in
+            let same : k % 64 ≡ k % 128 = omega (arith, few) in
+            let within : k / 128 < 4 = omega (arith, lt) in
+            ap (λ p. lane (get_or of_four p 0) (k % 64)) part
+            ∙ (ap (λ x. lane x (k % 64)) (low_of (k / 128) within)
+            ∙ (first (k / 128) (k % 64) (omega arith)
+            ∙ ap (lane (one_of a b c d (k / 128))) same))
+        go (inr up) =
+            let part : k / 64 ≡ 2 * (k / 128) + 1 = omega (arith, up) in
+            let same : 64 + k % 64 ≡ k % 128 = omega (arith, up) in
+            let within : k / 128 < 4 = omega (arith, lt) in
+            ap (λ p. lane (get_or of_four p 0) (k % 64)) part
+            ∙ (ap (λ x. lane x (k % 64)) (high_of (k / 128) within)
+            ∙ (second (k / 128) (k % 64) (omega arith)
+            ∙ ap (lane (one_of a b c d (k / 128))) same))
+
+-- a fact of each of four things is one of that of a slot
+pub each_of : {X Y : Type 0} (P : X → Y → Type 0) (a b c d : X) (p q r s : Y)
+    → P a p → P b q → P c r → P d s → (n : ℕ) → P (one_of a b c d n) (one_of p q r s n)
+each_of P a b c d p q r s one two three four zero = one
+each_of P a b c d p q r s one two three four (suc zero) = two
+each_of P a b c d p q r s one two three four (suc (suc zero)) = three
+each_of P a b c d p q r s one two three four (suc (suc (suc n))) = four
+
+pub at_one_of : {X Y : Type 0} (f : X → Y) (a b c d : X) (n : ℕ)
+    → one_of (f a) (f b) (f c) (f d) n ≡ f (one_of a b c d n)
+at_one_of f a b c d zero = refl
+at_one_of f a b c d (suc zero) = refl
+at_one_of f a b c d (suc (suc zero)) = refl
+at_one_of f a b c d (suc (suc (suc n))) = refl

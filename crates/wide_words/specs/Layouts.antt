@@ -1,4 +1,5 @@
--- The layouts of the three kinds of copies.
+-- The layouts of the kinds of copies.
+use Rattle.std.specs.Prelude.{ℕ, zero, suc}
 use Rattle.std.proofs.Common.{refl, inl, inr, lit≤}
 use Rattle.wide_words.specs.Lanes.{IsLayout, Layout}
 
@@ -19,3 +20,10 @@ high_sized = record { whole = inl refl; within = lit≤ tt }
 
 pub both_sized : IsLayout both_layout
 both_sized = record { whole = inr refl; within = lit≤ tt }
+
+-- of four things, that of a slot; past the fourth slot the fourth
+abbrev pub one_of : {X : Type 0} → X → X → X → X → ℕ → X
+one_of first second third fourth zero = first
+one_of first second third fourth (suc zero) = second
+one_of first second third fourth (suc (suc zero)) = third
+one_of first second third fourth (suc (suc (suc slot))) = fourth

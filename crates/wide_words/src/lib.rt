@@ -1,10 +1,10 @@
-//! Words of 512 lanes: several copies of the words of 128 lanes side by side.
+//! Words of 512 lanes: words of 128 lanes side by side.
 #![tactic(auto)]
 
 mod copies;
 mod wide;
 mod wide_overlay;
 
-pub use copies::{Both, Copies, High, Low};
+pub use copies::{Both, Copies, Four, High, Low, side_by_side};
 pub use wide::Wide;
 pub use wide_overlay::WideOverlay;

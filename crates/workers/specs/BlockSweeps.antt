@@ -7,7 +7,7 @@ use Rattle.block_sim.specs.declared.block_span.BlockSpan.{BlockSpan}
 use Rattle.block_sim.specs.Origins.{IsListed}
 use Rattle.block_sim.specs.Parts.{Parts}
 use Rattle.block_sim.specs.RegionHits.{HasFirst, IsOpenAt}
-use Rattle.block_sim.specs.BlockSpans.{span_of}
+use Rattle.block_sim.specs.BlockSpans.{unit_of}
 use Rattle.workers.specs.declared.stretch_run.BlockSweep.{BlockSweep}
 
 -- the numbers of the classes of rows
@@ -31,13 +31,13 @@ pub record IsBlockSweep (job : Parts) (rows : List ListedClass) (known : ℕ) (s
   pub within : sweep.last < blocks (length job.tests.tests)
   pub found : ((sweep.found ≡ length rows) × (sweep.last + 1 ≡ known))
       ⊎ ((sweep.found ≡ 0) × (known ≤ sweep.block)
-      × (sweep.last ≡ (span_of (length job.tests.tests) sweep.block).last))
+      × (sweep.last ≡ (unit_of (length job.tests.tests) sweep.block).last))
 
 -- the first `found` classes are all, or the last block of the sweep is the last that is done at
 -- once with the sweep's own
 abbrev pub IsWhole : Parts → List ListedClass → BlockSweep → ℕ → Type 0
 IsWhole job rows sweep found = (found ≡ length rows)
-    ⊎ (sweep.last ≡ (span_of (length job.tests.tests) sweep.block).last)
+    ⊎ (sweep.last ≡ (unit_of (length job.tests.tests) sweep.block).last)
 
 -- for the open classes at the places from one up to another the first test from the sweep's block
 -- on is known

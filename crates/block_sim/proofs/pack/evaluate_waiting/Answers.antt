@@ -49,10 +49,9 @@ returns-clause-some g c = λ same some.
     let gate = c.args.gate in
     let word = c.and-word.result in
     let long = c.requires.room in
-    let count = c.requires.view.count in
     let low = c.requires.within in
     let here : slice_index_or (set delta gate (number word)) gate 0 ≡ number word =
-    get_or-set_same delta gate (number word) 0 (omega (arith, long, count, low)) in
+    get_or-set_same delta gate (number word) 0 (omega (arith, long, low)) in
     let is = ap (λ xs. slice_index_or xs gate 0) c.change.ensures.changed ∙ here in
     let one = some_lane word.parts word.fits word.room (λ none. some (is ∙ none)) in (
       one.0,

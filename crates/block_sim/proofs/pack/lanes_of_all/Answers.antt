@@ -11,7 +11,7 @@ use Rattle.block_sim.proofs.pack.lanes_of_all.Goals as goal
 pub loop-place-init : goal.loop-place-init
 loop-place-init g c = record {
   all = λ k lt. c.pin_lanes-all.ensures k lt
-      ∙ all_first (wide_bit g.C.Copies.layout c.args.good.now c.args.deltas.now k)
+      ∙ all_first (wide_bit g.C.Copies.layout (g.C.Copies.rows c.args.copies) c.args.deltas.now k)
       c.args.gate.pins.now (λ b. inverted_if c.args.gate.form.inverts_inputs b)
       c.args.gate.first c.requires.some c.requires.ends.0;
   within = omega (arith, c.requires.some);
@@ -26,7 +26,8 @@ loop-place-preserved g c =
     record {
       all = λ k lt. ap (λ n. lane n k) c.and-all.ensures
           ∙ (lane_and (number c.loop-place.all) (number c.pin_lanes-word.result) k
-          ∙ all_more (wide_bit g.C.Copies.layout c.args.good.now c.args.deltas.now k)
+          ∙ all_more (wide_bit g.C.Copies.layout (g.C.Copies.rows c.args.copies) c.args.deltas.now
+          k)
           c.args.gate.pins.now (λ b. inverted_if c.args.gate.form.inverts_inputs b)
           c.loop-place.place (lane (number c.loop-place.all) k)
           (lane (number c.pin_lanes-word.result) k) more (c.loop-place.invariant.all k lt)
@@ -41,7 +42,7 @@ returns g c = λ k lt.
     let started : 0 < c.loop-place.place = omega (arith, c.loop-place.auto.place) in
     ap (λ n. lane n k) c.and.ensures
     ∙ (lane_and (number c.loop-place.all) (number c.pin_lanes-word-2.result) k
-    ∙ all_last (wide_bit g.C.Copies.layout c.args.good.now c.args.deltas.now k) pins
+    ∙ all_last (wide_bit g.C.Copies.layout (g.C.Copies.rows c.args.copies) c.args.deltas.now k) pins
     (λ b. inverted_if c.args.gate.form.inverts_inputs b) c.loop-place.place (length pins - 1)
     c.args.gate.last (lane (number c.loop-place.all) k)
     (lane (number c.pin_lanes-word-2.result) k) count

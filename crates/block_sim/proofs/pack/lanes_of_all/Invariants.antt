@@ -10,6 +10,7 @@ abbrev pub invariant-loop-place : goal.invariant-loop-place
 invariant-loop-place g l = record {
   all : (k : ℕ) → k < 512 → lane (number l.all) k
       ≡ list_all (λ b. inverted_if l.gate.form.inverts_inputs b)
-      (take l.place (map (wide_bit g.C.Copies.layout l.good l.deltas k) l.gate.pins.now));
+      (take l.place (map (wide_bit g.C.Copies.layout (g.C.Copies.rows l.copies) l.deltas k)
+      l.gate.pins.now));
   within : l.place ≤ length l.gate.pins.now;
 }

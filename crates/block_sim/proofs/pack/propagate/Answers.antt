@@ -12,7 +12,7 @@ use Rattle.block_sim.specs.Propagation.{is_pending}
 use Rattle.block_sim.specs.Words.{lane}
 use Rattle.block_sim.proofs.Lanes.{lane_zero}
 use Rattle.block_sim.proofs.OneLane.{bit_cases, self}
-use Rattle.block_sim.proofs.PackRuns.{gate_words, goes_on, listed, more_hits, one_less}
+use Rattle.block_sim.proofs.PackRuns.{gate_rows, goes_on, listed, more_hits, one_less}
 use Rattle.block_sim.proofs.PackRuns.{or_on, stays_inside, told}
 use Rattle.block_sim.proofs.PackStarts.{started, stem_low}
 use Rattle.block_sim.proofs.PackSteps.{stepped}
@@ -41,7 +41,8 @@ loop-gate-init g c =
       settled = λ k lt on off. absurd (false≢true (sym off ∙ on));
       state = λ tests group well rising free.
           started g.C.Copies.layout g.C.Copies.sized c.args.circuit.now.arranged well rising
-          tests group c.args.good.now free c.as_slice-stems.result.now c.args.followed.now
+          tests group (g.C.Copies.rows c.args.copies) free c.as_slice-stems.result.now
+          c.args.followed.now
           c.begin_stems-begun.new.deltas c.begin_stems-begun.new.waiting
           (number c.begin_stems-begun.result.kept) (number c.none.result)
           c.begin_stems-begun.result.from
@@ -64,15 +65,14 @@ next_gate-requires-clause-within g c =
 pub next_gate-requires-clause-low : goal.next_gate-requires-clause-low
 next_gate-requires-clause-low g c =
     let w = c.requires.free in
-    (c.loop-gate.invariant.state w.0 w.1 c.requires.words.circuit.well_formed
+    (c.loop-gate.invariant.state w.0 w.1 c.requires.circuit.well_formed
     c.signals-signals.ensures.rising w.2).not_below
 
 pub evaluate_waiting-fresh-requires-clause-room : goal.evaluate_waiting-fresh-requires-clause-room
 evaluate_waiting-fresh-requires-clause-room g c =
     let a = c.requires.room.deltas in
     let b = c.loop-gate.invariant.deltas in
-    let d = c.begin_stems-begun.ensures.room.0 in
-    let e = c.requires.words.count in omega (arith, a, b, d, e)
+    let d = c.begin_stems-begun.ensures.room.0 in omega (arith, a, b, d)
 
 pub evaluate_waiting-fresh-requires-clause-gates : goal.evaluate_waiting-fresh-requires-clause-gates
 evaluate_waiting-fresh-requires-clause-gates g c =
@@ -85,8 +85,8 @@ evaluate_waiting-fresh-requires-clause-gates g c =
 pub evaluate_waiting-fresh-requires-clause-words : goal.evaluate_waiting-fresh-requires-clause-words
 evaluate_waiting-fresh-requires-clause-words g c =
     let w = c.requires.free in
-    gate_words c.args.circuit.now.arranged c.requires.words.circuit.well_formed w.0 w.1
-    c.args.good.now w.2
+    gate_rows c.args.circuit.now.arranged c.requires.circuit.well_formed w.0 g.C.Copies.layout w.1
+    (g.C.Copies.rows c.args.copies) w.2
 
 -- a signal that the gate reads differs
 touched : (g : _) (c : In-Some g) → (s : ℕ) × (k : ℕ) × (k < 512)
@@ -94,14 +94,14 @@ touched : (g : _) (c : In-Some g) → (s : ℕ) × (k : ℕ) × (k < 512)
     ≡ true)
 touched g c =
     let w = c.requires.free in
-    (c.loop-gate.invariant.state w.0 w.1 c.requires.words.circuit.well_formed
+    (c.loop-gate.invariant.state w.0 w.1 c.requires.circuit.well_formed
     c.signals-signals.ensures.rising w.2).touched c.in-Some.gate
     (let one = c.in-Some.ensures.some.0 in λ e. omega (arith, one, e))
 
 from_behind : (g : _) (c : In-Some g) → c.loop-gate.from ≤ c.in-Some.gate
 from_behind g c =
     let w = c.requires.free in
-    (c.loop-gate.invariant.state w.0 w.1 c.requires.words.circuit.well_formed
+    (c.loop-gate.invariant.state w.0 w.1 c.requires.circuit.well_formed
     c.signals-signals.ensures.rising w.2).not_below c.in-Some.gate
     (let one = c.in-Some.ensures.some.0 in λ e. omega (arith, one, e))
 
@@ -111,7 +111,7 @@ evaluate_waiting-fresh-requires-clause-driven g c =
     let r = (touched g (goal.at.evaluate_waiting-fresh-requires-clause-driven g c).In-Some).3 in (
       (r.kind, map (signal c.args.circuit.now.arranged) r.args),
       gate_named c.args.circuit.now.arranged r.name r.kind r.args c.in-Some.gate
-          c.requires.words.circuit.well_formed r.number r.gate,
+          c.requires.circuit.well_formed r.number r.gate,
     )
 
 pub evaluate_waiting-fresh-requires-clause-within :
@@ -149,8 +149,9 @@ loop-gate-preserved g c =
     let room = c.requires.room.deltas in
     let begun = c.begin_stems-begun.ensures.room.0 in
     let same = last.deltas in
-    let ev = stepped g.C.Copies.layout circuit c.requires.words.circuit.well_formed
-    c.args.good.now (number c.loop-gate.found.kept) gate c.loop-gate.deltas c.next_gate.new.waiting
+    let ev = stepped g.C.Copies.layout circuit c.requires.circuit.well_formed
+    (g.C.Copies.rows c.args.copies) (number c.loop-gate.found.kept) gate c.loop-gate.deltas
+    c.next_gate.new.waiting
     c.evaluate_waiting-fresh.new.deltas c.evaluate_waiting-fresh.new.waiting
     (number c.evaluate_waiting-fresh.result) (omega (arith, lt, room, begun, same)) fresh.evaluated
     fresh.some fresh.scheduled fresh.same fresh.shown in
@@ -163,7 +164,7 @@ loop-gate-preserved g c =
       within = omega (arith, lt);
       grown = (let a = c.count_evaluation.ensures.grown in let b =
           last.grown in omega (arith, a, b));
-      inside = stays_inside g.C.Copies.layout circuit c.args.good.now (number
+      inside = stays_inside g.C.Copies.layout circuit (g.C.Copies.rows c.args.copies) (number
           c.loop-gate.found.kept)
           gate by.0 by.3 c.loop-gate.deltas c.next_gate.new.waiting
           c.evaluate_waiting-fresh.new.deltas c.evaluate_waiting-fresh.new.waiting
@@ -181,7 +182,8 @@ loop-gate-preserved g c =
           ] in go (bit_cases (lane (number c.loop-gate.found.kept) k)));
       state = λ tests group well rising free.
           goes_on g.C.Copies.layout g.C.Copies.sized circuit well rising tests group
-          c.args.good.now free c.as_slice-stems.result.now c.loop-gate.deltas c.loop-gate.waiting
+          (g.C.Copies.rows c.args.copies) free c.as_slice-stems.result.now c.loop-gate.deltas
+          c.loop-gate.waiting
           c.loop-gate.from gate (number c.loop-gate.found.kept) (number c.loop-gate.found.seen)
           c.next_gate.new.waiting c.evaluate_waiting-fresh.new.deltas
           c.evaluate_waiting-fresh.new.waiting (number c.evaluate_waiting-fresh.result)
@@ -189,11 +191,12 @@ loop-gate-preserved g c =
           (last.state tests group well rising free) c.in-Some.ensures.least waits
           c.in-Some.ensures.some.1 ev on.seen on.narrow;
       counted = λ tests group gates free active.
-          let well = c.requires.words.circuit.well_formed in
+          let well = c.requires.circuit.well_formed in
           let rising = c.signals-signals.ensures.rising in
           let le = last.counted tests group gates free active in
           let there = listed g.C.Copies.layout g.C.Copies.sized circuit well rising tests group
-          c.args.good.now free c.as_slice-stems.result.now c.loop-gate.deltas c.loop-gate.waiting
+          (g.C.Copies.rows c.args.copies) free c.as_slice-stems.result.now c.loop-gate.deltas
+          c.loop-gate.waiting
           c.loop-gate.from gate (number c.loop-gate.found.kept) (number c.loop-gate.found.seen)
           c.next_gate.new.waiting c.evaluate_waiting-fresh.new.deltas
           c.evaluate_waiting-fresh.new.waiting (number c.evaluate_waiting-fresh.result)
@@ -203,7 +206,8 @@ loop-gate-preserved g c =
           (lane (number c.begin_stems-begun.result.kept)) gates last.inside
           c.begin_stems-begun.ensures.started.lanes active in
           let less = one_less g.C.Copies.layout g.C.Copies.sized circuit well rising tests group
-          c.args.good.now free c.as_slice-stems.result.now c.loop-gate.deltas c.loop-gate.waiting
+          (g.C.Copies.rows c.args.copies) free c.as_slice-stems.result.now c.loop-gate.deltas
+          c.loop-gate.waiting
           c.loop-gate.from gate (number c.loop-gate.found.kept) (number c.loop-gate.found.seen)
           c.next_gate.new.waiting c.evaluate_waiting-fresh.new.deltas
           c.evaluate_waiting-fresh.new.waiting (number c.evaluate_waiting-fresh.result)
@@ -228,7 +232,7 @@ clear-requires-clause-low g c =
     let w = c.requires.free in
     subst (λ a. (place : ℕ) → slice_index_or a place 0 ≢ 0 → c.loop-gate.from ≤ place)
     (sym c.in_default.ensures.none.0)
-    (c.loop-gate.invariant.state w.0 w.1 c.requires.words.circuit.well_formed
+    (c.loop-gate.invariant.state w.0 w.1 c.requires.circuit.well_formed
     c.signals-signals.ensures.rising w.2).not_below
 
 pub returns-clause-detected : goal.returns-clause-detected
@@ -237,11 +241,12 @@ returns-clause-detected g c = λ tests group free.
     subst (λ slots. TellsPack g.C.Copies.layout c.args.circuit.now.arranged tests group slots
     c.args.followed.now (number c.loop-gate.found.seen)) c.as_slice-stems.ensures.value
     (told g.C.Copies.layout g.C.Copies.sized c.args.circuit.now.arranged
-    c.requires.words.circuit.well_formed c.signals-signals.ensures.rising tests group
-    c.args.good.now free c.as_slice-stems.result.now c.args.followed.now c.loop-gate.deltas
+    c.requires.circuit.well_formed c.signals-signals.ensures.rising tests group
+    (g.C.Copies.rows c.args.copies) free c.as_slice-stems.result.now c.args.followed.now
+    c.loop-gate.deltas
     c.loop-gate.waiting c.loop-gate.from (number c.begin_stems-begun.result.kept)
     (number c.loop-gate.found.kept) (number c.loop-gate.found.seen)
-    (last.state tests group c.requires.words.circuit.well_formed c.signals-signals.ensures.rising
+    (last.state tests group c.requires.circuit.well_formed c.signals-signals.ensures.rising
     free) (stem_low g.C.Copies.layout c.args.circuit.now.arranged c.as_slice-stems.result.now
     (subst (λ xs. All (λ slot. slot.stem < length (names c.args.circuit.now.arranged)) xs)
     (sym c.as_slice-stems.ensures.value) c.requires.slots.signals))
@@ -251,7 +256,8 @@ pub returns-clause-counted : goal.returns-clause-counted
 returns-clause-counted g c = λ tests group gates free active.
     let le = c.loop-gate.invariant.counted tests group gates free
     (subst (λ slots. HasActiveByPack g.C.Copies.layout c.args.circuit.now.arranged tests group
-    c.args.good.now slots c.args.followed.now gates) (sym c.as_slice-stems.ensures.value) active) in
+    (g.C.Copies.rows c.args.copies) slots c.args.followed.now gates) (sym
+    c.as_slice-stems.ensures.value) active) in
     omega (arith, le)
 
 pub returns-clause-grown : goal.returns-clause-grown

@@ -1,13 +1,13 @@
 use Rattle.std.proofs.Common.{◌≡◌, ◌<◌, ◌≤◌, ◌+◌, ◌-◌, ℕ, List, length, true, false}
-use Rattle.std.specs.Prelude.{None, count_by}
+use Rattle.std.specs.Prelude.{count_by}
 use Rattle.bench_net.specs.Circuit.{IsWellFormed}
 use Rattle.bench_net.specs.Scan.{names}
 use Rattle.fault_model.specs.Solution.{Test}
 use Rattle.wide_words.specs.Wide.{number}
 use Rattle.block_sim.specs.Events.{IsRising}
-use Rattle.block_sim.specs.Pack.{HasActiveByPack, AreHitIn}
+use Rattle.block_sim.specs.Pack.{AreHitIn, AreRows, HasActiveByPack}
 use Rattle.block_sim.specs.Propagation.{is_pending}
-use Rattle.block_sim.specs.Words.{AreWords, lane}
+use Rattle.block_sim.specs.Words.{lane}
 use Rattle.block_sim.proofs.OneLane.{self}
 use Rattle.block_sim.proofs.PackLanes.{ArePropagating}
 use Rattle.block_sim.proofs.PackStarts.{pack_moment, stem_lanes}
@@ -27,17 +27,19 @@ invariant-loop-gate g l = record {
   settled : (k : ℕ) → k < 512 → lane (number l.initial.found.kept) k ≡ true
       → lane (number l.found.kept) k ≡ false
       → AreHitIn g.C.Copies.layout l.stems l.followed (number l.found.seen) k;
-  state : (tests : List Test) (group : ℕ) (well : IsWellFormed l.circuit.arranged)
+  state : (tests : List Test) (group : ℕ → ℕ) (well : IsWellFormed l.circuit.arranged)
       (rising : IsRising l.circuit.arranged)
-      (free : AreWords l.circuit.arranged tests group None l.good)
+      (free : AreRows l.circuit.arranged tests g.C.Copies.layout group (g.C.Copies.rows l.copies))
       → ArePropagating l.circuit.arranged 512
       (stem_lanes g.C.Copies.layout g.C.Copies.sized l.circuit.arranged well rising tests group
-      l.good free l.stems)
+      (g.C.Copies.rows l.copies) free l.stems)
       (pack_moment g.C.Copies.layout g.C.Copies.sized l.circuit.arranged well rising tests group
-      l.good free l.stems l.deltas l.waiting l.from (number l.found.kept) (number l.found.seen));
-  counted : (tests : List Test) (group : ℕ) (gates : List ℕ)
-      → AreWords l.circuit.arranged tests group None l.good
-      → HasActiveByPack g.C.Copies.layout l.circuit.arranged tests group l.good l.stems l.followed
+      (g.C.Copies.rows l.copies) free l.stems l.deltas l.waiting l.from (number l.found.kept)
+      (number l.found.seen));
+  counted : (tests : List Test) (group : ℕ → ℕ) (gates : List ℕ)
+      → AreRows l.circuit.arranged tests g.C.Copies.layout group (g.C.Copies.rows l.copies)
+      → HasActiveByPack g.C.Copies.layout l.circuit.arranged tests group (g.C.Copies.rows l.copies)
+      l.stems l.followed
       gates → l.evaluations + count_by (is_pending self l.waiting l.from) gates
       ≤ l.initial.evaluations + length gates;
 }

@@ -1,30 +1,41 @@
 use Rattle.std.proofs.Common.{◌≤◌, ◌∙◌, ap, length, subst, sym}
-use Rattle.std.specs.Prelude.{All, vec_capacity}
+use Rattle.std.specs.Prelude.{All, None, vec_capacity}
 use Rattle.wide_words.specs.Lanes.{slots}
 use Rattle.wide_words.specs.Wide.{number}
 use Rattle.block_sim.specs.BlockSpans.{group_of}
-use Rattle.block_sim.specs.Pack.{IsWithin}
+use Rattle.block_sim.specs.Pack.{AreRows, IsWithin}
 use Rattle.block_sim.specs.RegionHits.{AreSlotsConcluded}
+use Rattle.block_sim.specs.Words.{AreWords}
 use Rattle.block_sim.proofs.ArrangedSignals.{reordered}
 use Rattle.block_sim.proofs.ArrangedWords.{circuit_there}
-use Rattle.block_sim.proofs.PackedRegions.{found_all, pack_active}
+use Rattle.block_sim.proofs.PackedRegions.{found_all, pack_active, slots_active}
 use Rattle.block_sim.proofs.RegionHits.{member_at}
 use Rattle.block_sim.proofs.region_simulation.flip_pack.Goals as goal
+use Rattle.block_sim.proofs.region_simulation.flip_pack.Goals.{Start}
+
+pub propagate-seen-requires-clause-circuit : goal.propagate-seen-requires-clause-circuit
+propagate-seen-requires-clause-circuit g c =
+    let view = c.requires.view in
+    circuit_there c.args.job.now.circuit c.args.view.circuit.now.arranged view.together.circuit
+    view.arranged
 
 pub propagate-seen-requires-clause-words : goal.propagate-seen-requires-clause-words
-propagate-seen-requires-clause-words g c =
-    let view = c.requires.view in
-    record {
-      circuit = circuit_there c.args.job.now.circuit c.args.view.circuit.now.arranged
-          view.together.circuit view.arranged;
-      count = view.count;
-    }
+propagate-seen-requires-clause-words g c = λ slot lt.
+    ap length (c.requires.rows slot) ∙ c.requires.view.count
+
+-- each slot has the words of the group
+slots_free : (g : _) (c : Start g)
+    → AreRows c.args.view.circuit.now.arranged c.args.job.now.tests.tests g.C.Copies.layout
+    (λ slot. group_of c.args.span) (g.C.Copies.rows c.args.copies)
+slots_free g c = λ slot lt.
+    subst (AreWords c.args.view.circuit.now.arranged c.args.job.now.tests.tests
+    (group_of c.args.span) None) (sym (c.requires.rows slot)) c.requires.view.fault_free
 
 pub propagate-seen-requires-clause-free : goal.propagate-seen-requires-clause-free
 propagate-seen-requires-clause-free g c = (
   c.args.job.now.tests.tests,
-  group_of c.args.span,
-  c.requires.view.fault_free,
+  λ slot. group_of c.args.span,
+  slots_free g (goal.at.propagate-seen-requires-clause-free g c).Start,
 )
 
 pub conclude_slots-requires-clause-slots : goal.conclude_slots-requires-clause-slots
@@ -53,7 +64,8 @@ returns-clause-found g c = λ rows firsts from to gathered.
     found_all job there c.args.span rows firsts from to stems followed c.args.hits.now last layout
     g.C.Copies.sized wide well (reordered job.circuit there well view.arranged) c.requires.span
     c.requires.slots.few c.requires.copied
-    (c.propagate-seen.ensures.detected job.tests.tests (group_of c.args.span) view.fault_free)
+    (c.propagate-seen.ensures.detected job.tests.tests (λ slot. group_of c.args.span)
+    (slots_free g (goal.at.returns-clause-found g c).Start))
     (subst (λ l. AreSlotsConcluded layout c.args.span wide followed l (length l) c.args.hits.now
     last) (c.as_slice-stems.ensures.value ∙ ap (λ v. v.items) c.propagate-seen.ensures.slots)
     c.conclude_slots.ensures.concluded)
@@ -69,10 +81,15 @@ returns-clause-counted g c = λ gates has inside.
     let there = c.args.view.circuit.now.arranged in
     let view = c.requires.view in
     let is = circuit_there job.circuit there view.together.circuit view.arranged in
-    c.propagate-seen.ensures.counted job.tests.tests (group_of c.args.span) gates view.fault_free
+    let stems = c.args.pack.now.slots.items in
+    c.propagate-seen.ensures.counted job.tests.tests (λ slot. group_of c.args.span) gates
+    (slots_free g (goal.at.returns-clause-counted g c).Start)
+    (slots_active g.C.Copies.layout there job.tests.tests (group_of c.args.span)
+    c.args.view.good.now (g.C.Copies.rows c.args.copies) c.requires.rows stems c.args.followed.now
+    gates
     (pack_active g.C.Copies.layout g.C.Copies.sized there is.well_formed job.tests.tests c.args.span
-    c.args.view.good.now view.fault_free c.args.pack.now.slots.items c.args.followed.now gates
-    c.requires.slots.signals has inside)
+    c.args.view.good.now view.fault_free stems c.args.followed.now gates c.requires.slots.signals
+    has inside))
 
 pub returns-clause-room : goal.returns-clause-room
 returns-clause-room g c = record {

@@ -1,20 +1,98 @@
-use Rattle.std.proofs.Common.{◌≡◌, ◌∙◌, All, ap, arith, drop, inl, inr, length}
+use Rattle.std.proofs.Common.{◌≡◌, ◌∙◌, ◌/◌, All, ap, arith, drop, false, inl, inr, length, true}
 use Rattle.std.proofs.Common.{map, subst, sym}
 use Rattle.std.specs.Prelude.{Contains, None, Some, slice_get}
 use Rattle.std.proofs.lemmas.List.{length-map}
 use Rattle.fault_model.specs.Reordered.{place}
 use Rattle.patterns.specs.Tests.{TestList}
-use Rattle.block_sim.specs.BlockSpans.{span_of}
+use Rattle.block_sim.specs.BlockSpans.{begins_unit, span_of, unit_of}
 use Rattle.block_sim.specs.Pack.{IsWithin}
 use Rattle.block_sim.specs.RegionHits.{AreGathered, HaveFirsts, IsFollowedAt, IsHiddenStem}
 use Rattle.block_sim.specs.RegionHits.{ServesRegions}
+use Rattle.block_sim.specs.Units.{unit_span}
 use Rattle.block_sim.specs.Ways.{HasActiveByFlip}
 use Rattle.block_sim.proofs.ArrangedSignals.{count_there, reordered}
 use Rattle.block_sim.proofs.KeptOutcomes.{room_at_rest}
 use Rattle.block_sim.proofs.KnownWords.{written}
 use Rattle.block_sim.proofs.PackedRegions.{all_slots, in_span}
 use Rattle.block_sim.proofs.ReorderedGates.{same_active}
+use Rattle.block_sim.proofs.UnitSpans.{no_unit_begins, unit_begins}
 use Rattle.block_sim.proofs.region_simulation.RegionSimulation.simulate_region.Goals as goal
+
+pub invariant_of-self : goal.invariant_of-self
+invariant_of-self c =
+    let before = c.self.invariant in
+    let rest = before.regions.rest in
+    let unit = c.simulate_unit.ensures.unit in
+    let room = c.simulate_unit.ensures.room in
+    record {
+      regions = record {
+        rest = record {
+          clear = record { words = rest.clear.words; gates = rest.clear.gates };
+          gates = rest.gates;
+        };
+        room = before.regions.room;
+      };
+      clear = c.simulate_unit.ensures.clear;
+      deltas = room.deltas ∙ before.deltas;
+      waiting = (let w = before.waiting in let e = room.waiting in omega (arith, w, e));
+      slots = (let s = before.slots in let e = room.slots in omega (arith, s, e));
+      unit_region = record {
+        known = (let k = before.unit_region.known in let e = unit.known in omega (arith, k, e));
+        path = (let k = before.unit_region.path in let e = unit.path in omega (arith, k, e));
+      };
+      unit_classes = (let k = before.unit_classes in let e = unit.classes in omega (arith, k, e));
+      unit_parts = (let k = before.unit_parts in let e = unit.followed in omega (arith, k, e));
+    }
+
+pub returns-then-is_unit-clause-found : goal.returns-then-is_unit-clause-found
+returns-then-is_unit-clause-found c =
+    let job = c.args.job.now in
+    let block = c.args.block in
+    let rows = c.args.rows.now in
+    let firsts = c.args.firsts.now in
+    let end = c.simulate_unit.result in
+    let items = c.self.inside.hits.items in
+    let last = c.simulate_unit.new.hits in
+    let begins : begins_unit (length job.tests.tests) block ≡ true =
+    ap (λ (t : TestList). begins_unit (length t.tests) block) (sym c.tests.ensures.part)
+    ∙ (sym c.is_unit.ensures.begins ∙ c.if-is_unit.true) in
+    let here : unit_of (length job.tests.tests) block ≡ unit_span (block / 2) =
+    unit_begins (length job.tests.tests) block begins
+    (c.is_unit.ensures.is.0 c.if-is_unit.true).whole in
+    let long : length last ≡ c.self.inside.hits.len =
+    c.simulate_unit.ensures.places ∙ c.as_mut_slice-hits.ensures.len in
+    subst (HaveFirsts job (unit_of (length job.tests.tests) block) rows firsts c.args.from end)
+    (sym (written c.self.inside.hits.len last (drop (length last) items) long))
+    (subst (λ s. HaveFirsts job s rows firsts c.args.from end last) (sym here)
+    c.simulate_unit.ensures.found)
+
+pub returns-then-is_unit-clause-known : goal.returns-then-is_unit-clause-known
+returns-then-is_unit-clause-known c = λ place test e.
+    let items = c.self.inside.hits.items in
+    let last = c.simulate_unit.new.hits in
+    let long : length last ≡ c.self.inside.hits.len =
+    c.simulate_unit.ensures.places ∙ c.as_mut_slice-hits.ensures.len in
+    ap (λ l. slice_get l place)
+    (written c.self.inside.hits.len last (drop (length last) items) long)
+    ∙ (c.simulate_unit.ensures.known place test e
+    ∙ (ap (λ l. slice_get l place) c.as_mut_slice-hits.ensures.value
+    ∙ ap (λ v. slice_get v.hits place) c.self.view_is))
+
+pub returns-then-is_unit-clause-counted : goal.returns-then-is_unit-clause-counted
+returns-then-is_unit-clause-counted c = λ way gates ways active.
+    let job = c.args.job.now in
+    let block = c.args.block in
+    let tests = job.tests.tests in
+    let begins : begins_unit (length tests) block ≡ true =
+    ap (λ (t : TestList). begins_unit (length t.tests) block) (sym c.tests.ensures.part)
+    ∙ (sym c.is_unit.ensures.begins ∙ c.if-is_unit.true) in
+    let here : unit_of (length tests) block ≡ unit_span (block / 2) =
+    unit_begins (length tests) block begins (c.is_unit.ensures.is.0 c.if-is_unit.true).whole in
+    let own = c.simulate_unit.ensures.counted way gates ways
+    (λ place row le lt idle. subst (λ s. HasActiveByFlip job.circuit tests s row.stem gates) here
+    (active place row le lt idle)) in
+    let was = ap (λ v. v.evaluations) c.self.view_is in
+    omega (arith, own, was)
 
 pub gather_regions-end-requires-clause-room : goal.gather_regions-end-requires-clause-room
 gather_regions-end-requires-clause-room c =
@@ -52,7 +130,7 @@ flip_all-requires-clause-places c = λ one there.
     let within = c.gather_regions-end.ensures.within in
     let few = c.requires.few in
     let kept = c.gather_regions-end.ensures.places in
-    let whole = ap length c.as_mut_slice-hits.ensures.value in
+    let whole = ap length c.as_mut_slice-hits-2.ensures.value in
     omega (arith, low, room, within, few, kept, whole)
 
 pub flip_all-requires-clause-room : goal.flip_all-requires-clause-room
@@ -108,17 +186,21 @@ returns-clause-found c =
     let items = c.self.inside.hits.items in
     let last = c.flip_all.new.hits in
     let all = c.as_slice-all.ensures.value in
-    let here : span ≡ span_of (length job.tests.tests) c.args.block =
+    let none : begins_unit (length job.tests.tests) c.args.block ≡ false =
+    ap (λ (t : TestList). begins_unit (length t.tests) c.args.block) (sym c.tests.ensures.part)
+    ∙ (sym c.is_unit.ensures.begins ∙ c.if-is_unit.false) in
+    let here : span ≡ unit_of (length job.tests.tests) c.args.block =
     c.from-span.ensures.span_is
-    ∙ ap (λ (t : TestList). span_of (length t.tests) c.args.block) c.tests.ensures.part in
+    ∙ (ap (λ (t : TestList). span_of (length t.tests) c.args.block) c.tests-2.ensures.part
+    ∙ sym (no_unit_begins (length job.tests.tests) c.args.block none)) in
     let found = c.flip_all.ensures.found rows firsts c.args.from end
     (subst (λ l. AreGathered job c.view_of-view.result.circuit.now.arranged span rows firsts
     c.args.from end c.gather_regions-end.new.stems.items l c.gather_regions-end.new.hits) (sym all)
     c.gather_regions-end.ensures.gathered) in
     let long : length last ≡ c.self.inside.hits.len =
     c.flip_all.ensures.places ∙ (c.gather_regions-end.ensures.places ∙
-    c.as_mut_slice-hits.ensures.len) in
-    subst (HaveFirsts job (span_of (length job.tests.tests) c.args.block) rows firsts c.args.from
+    c.as_mut_slice-hits-2.ensures.len) in
+    subst (HaveFirsts job (unit_of (length job.tests.tests) c.args.block) rows firsts c.args.from
     end) (sym (written c.self.inside.hits.len last (drop (length last) items) long))
     (subst (λ s. HaveFirsts job s rows firsts c.args.from end last) here found)
 
@@ -129,7 +211,7 @@ returns-clause-others c = λ place outside.
     let all = c.as_slice-all.ensures.value in
     let long : length last ≡ c.self.inside.hits.len =
     c.flip_all.ensures.places ∙ (c.gather_regions-end.ensures.places ∙
-    c.as_mut_slice-hits.ensures.len) in
+    c.as_mut_slice-hits-2.ensures.len) in
     let none : IsFollowedAt c.as_slice-all.result.now place → ⊥ = λ h.
     let own = c.gather_regions-end.ensures.gathered.at h.0 (subst (λ l. Contains l h.0) all h.1) in
     let from = own.0 in
@@ -142,7 +224,7 @@ returns-clause-others c = λ place outside.
     ap (λ l. slice_get l place)
     (written c.self.inside.hits.len last (drop (length last) items) long)
     ∙ (c.flip_all.ensures.kept place none ∙ (c.gather_regions-end.ensures.others place outside
-    ∙ (ap (λ l. slice_get l place) c.as_mut_slice-hits.ensures.value
+    ∙ (ap (λ l. slice_get l place) c.as_mut_slice-hits-2.ensures.value
     ∙ ap (λ v. slice_get v.hits place) c.self.view_is)))
 
 pub returns-clause-known : goal.returns-clause-known
@@ -153,7 +235,7 @@ returns-clause-known c = λ place test e.
     let all = c.as_slice-all.ensures.value in
     let long : length last ≡ c.self.inside.hits.len =
     c.flip_all.ensures.places ∙ (c.gather_regions-end.ensures.places ∙
-    c.as_mut_slice-hits.ensures.len) in
+    c.as_mut_slice-hits-2.ensures.len) in
     let none : IsFollowedAt c.as_slice-all.result.now place → ⊥ = λ h.
     let idle = c.gather_regions-end.ensures.gathered.idle h.0 (subst (λ l. Contains l h.0) all h.1)
     in
@@ -162,7 +244,7 @@ returns-clause-known c = λ place test e.
     ap (λ l. slice_get l place)
     (written c.self.inside.hits.len last (drop (length last) items) long)
     ∙ (c.flip_all.ensures.kept place none ∙ (c.gather_regions-end.ensures.known place test e
-    ∙ (ap (λ l. slice_get l place) c.as_mut_slice-hits.ensures.value
+    ∙ (ap (λ l. slice_get l place) c.as_mut_slice-hits-2.ensures.value
     ∙ ap (λ v. slice_get v.hits place) c.self.view_is)))
 
 pub returns-clause-counted : goal.returns-clause-counted
@@ -176,9 +258,13 @@ returns-clause-counted c = λ way gates ways active.
     let tests = job.tests.tests in
     let all = c.as_slice-all.ensures.value in
     let gathered = c.gather_regions-end.ensures.gathered in
-    let here : span ≡ span_of (length job.tests.tests) c.args.block =
+    let none : begins_unit (length job.tests.tests) c.args.block ≡ false =
+    ap (λ (t : TestList). begins_unit (length t.tests) c.args.block) (sym c.tests.ensures.part)
+    ∙ (sym c.is_unit.ensures.begins ∙ c.if-is_unit.false) in
+    let here : span ≡ unit_of (length job.tests.tests) c.args.block =
     c.from-span.ensures.span_is
-    ∙ ap (λ (t : TestList). span_of (length t.tests) c.args.block) c.tests.ensures.part in
+    ∙ (ap (λ (t : TestList). span_of (length t.tests) c.args.block) c.tests-2.ensures.part
+    ∙ sym (no_unit_begins (length job.tests.tests) c.args.block none)) in
     let moved = map (place circuit there) gates in
     let turned = c.flip_all.ensures.counted moved
     (λ slot at.

@@ -1,29 +1,11 @@
-use Rattle.std.proofs.Common.{◌≡◌, ◌+◌, ◌*◌, ◌∙◌, ◌%◌, ap, arith, inl, inr}
-use Rattle.std.proofs.lemmas.Bool.{cases_lt}
-use Rattle.wide_words.specs.Lanes.{lane}
-use Rattle.wide_words.specs.Wide.{number}
+use Rattle.std.proofs.Common.{arith, inl, inr}
 use Rattle.wide_words.proofs.copies.BothCopies.part.Goals as goal
 
 pub returns-clause-own : goal.returns-clause-own
-returns-clause-own c = λ k lt here. elim (cases_lt (k % 128) 64) [
-  | inl few ↦
-      let same : 0 + k % 128 ≡ k % 64 = omega (arith, few) in
-      let place : 64 * (2 * c.args.slot) + k % 64 ≡ k = omega (arith, here, few) in
-      ap (lane c.joined.result) same
-      ∙ (c.joined.ensures.low (k % 64) (omega arith)
-      ∙ (c.to_parts-parts.ensures (2 * c.args.slot) (k % 64) (omega arith)
-      ∙ ap (lane (number c.args.word)) place))
-  | inr up ↦
-      let same : 0 + k % 128 ≡ 64 + k % 64 = omega (arith, up) in
-      let place : 64 * (2 * c.args.slot + 1) + k % 64 ≡ k = omega (arith, here, up) in
-      ap (lane c.joined.result) same
-      ∙ (c.joined.ensures.high (k % 64) (omega arith)
-      ∙ (c.to_parts-parts.ensures (2 * c.args.slot + 1) (k % 64) (omega arith)
-      ∙ ap (lane (number c.args.word)) place))
-]
+returns-clause-own c = c.part_of_group.ensures.own
 
 pub returns-clause-rest : goal.returns-clause-rest
 returns-clause-rest c = λ k out. elim out [
   | inl low ↦ absurd (omega (arith, low))
-  | inr up ↦ c.joined.ensures.rest k up
+  | inr up ↦ c.part_of_group.ensures.rest k up
 ]
