@@ -4,7 +4,7 @@
     bench/soak.py [--runs N] [--seed N] [--built]
 
 It builds baseline.cpp with g++ and the program with `rt run`, as compare.py does; --built takes the program
-in out/. Each run has a circuit of generate.py's `tiny_circuit` or of 10 to 200 random gates, 1 to 300 tests,
+in out/. Each run has a circuit of generate.py's `tiny_circuit` or of 10 to 200 random gates, 1 to 2,500 tests,
 one of the fault models, and 2 to 64 workers with one to three parts each. The report with the list, and
 the status, must be byte for byte the same as with `--workers 1` and as the baseline's. It ends with status 1
 at the first run that differs, and prints its seed.
@@ -30,8 +30,9 @@ def inputs_of(seed):
         net = generate.random_circuit(rng.randint(10, 200), inputs=rng.randint(2, 12), outputs=rng.randint(1, 8),
                                       ffs=rng.randint(0, 4), depth=rng.randint(2, 12), seed=seed)
     bench = net.text()
-    tests = generate.tests(generate.width_of(bench), rng.choice((1, 2, 63, 64, 65, rng.randint(66, 300))), seed,
-                           weighted=rng.random() < 0.5)
+    # From 1,024 tests on a run has units of 512 tests.
+    count = rng.choice((1, 2, 63, 64, 65, rng.randint(66, 300), rng.randint(1000, 2500)))
+    tests = generate.tests(generate.width_of(bench), count, seed, weighted=rng.random() < 0.5)
     return bench, tests, rng.choice(("stuck", "transition", "transition-pairs")), rng.randint(2, 64)
 
 
