@@ -50,6 +50,8 @@ PHASES = {
 }
 WAITS = "waits"
 BEGIN = "start"
+# Threads read both files at the same time, so until the next phase each has the phase of its own functions.
+READING = ("read bench", "read tests")
 
 
 def phase_of(symbol):
@@ -57,25 +59,31 @@ def phase_of(symbol):
 
 
 def samples(data):
-    """The samples of a recording: whether of the first thread, the milliseconds, and the function."""
+    """The samples of a recording: the thread, whether it is the first, the milliseconds, and the function."""
     words = ["perf", "script", "-i", str(data), "-F", "pid,tid,period,ip,sym"]
     out = subprocess.run(words, stdout=subprocess.PIPE, stderr=subprocess.DEVNULL, check=True, text=True)
     for line in out.stdout.splitlines():
         found = re.match(r"\s*(\d+)/(\d+)\s+(\d+)\s+\w+ (.*)", line)
         if found:
             pid, tid, period, symbol = found.groups()
-            yield pid == tid, int(period) / 1e6, symbol.strip()
+            yield tid, pid == tid, int(period) / 1e6, symbol.strip()
 
 
 def times(data):
     """The milliseconds of each phase of the first thread, and those of all other threads by phase."""
-    own, others, now = {}, {}, BEGIN
-    for is_first, took, symbol in samples(data):
+    own, others, now, reads = {}, {}, BEGIN, {}
+    for thread, is_first, took, symbol in samples(data):
         if is_first:
             now = phase_of(symbol) or now
             own[now] = own.get(now, 0) + took
+            continue
+        if now == BEGIN or now in READING:
+            if phase_of(symbol) in READING:
+                reads[thread] = phase_of(symbol)
+            phase = reads.get(thread, now)
         else:
-            others[now] = others.get(now, 0) + took
+            phase = now
+        others[phase] = others.get(phase, 0) + took
     return own, others
 
 

@@ -31,6 +31,11 @@ abbrev pub IsJobFor : Model → List Statement → TestList → Parts → Type 0
 IsJobFor m c tests job =
     (job.circuit ≡ c) × (job.tests ≡ tests) × BelongTogether job × (job.list.model ≡ m)
 
+-- the tests of a test file, if each source has one of the bits of its rows: they are read before
+-- the number of sources is known
+abbrev pub IsGuessOf : List ℕ → TestList → Type 0
+IsGuessOf text tests = HasTests text tests.width tests × IsTestList tests
+
 -- The error of the bench file or the test file. The bench file is read first.
 abbrev pub IsInputFault : List ℕ → List ℕ → SimFault → Type 0
 IsInputFault bench text (fault.Bench f) = (f ≡ bench_fault.Memory) ⊎ IsRefused bench f

@@ -1,22 +1,36 @@
 //! The job of a bench file and a test file.
 
-ghost use Rattle.std.specs.Prelude.{◌≡◌, ◌≤◌, length, IfErr, IfOk, true};
-ghost use Rattle.bench_net.specs.Refusal.{IsAccepted};
+ghost use Rattle.std.specs.Prelude.{◌≡◌, ◌≤◌, ◌⊎◌, length, IfErr, IfOk, IfSome, true};
+ghost use Rattle.bench_net.specs.Circuit.{IsCircuit};
+ghost use Rattle.bench_net.specs.Refusal.{IsAccepted, IsRefused};
 ghost use Rattle.bench_net.specs.Scan.{sources};
-ghost use Rattle.patterns.specs.Tests.{HasTests, max_pieces};
+ghost use Rattle.patterns.specs.Tests.{HasTests, IsTestList, IsTestRefusal, max_pieces};
 ghost use Rattle.block_sim.specs.Parts.{piece_count};
 ghost use Rattle.job_loading.specs.Jobs.{AreTestsFor, IsInputFault, IsJobFault, IsJobFor, IsJobOf};
-ghost use Rattle.job_loading.specs.Jobs.{IsPiecesFault, IsReadFault};
+ghost use Rattle.job_loading.specs.Jobs.{IsGuessOf, IsPiecesFault, IsReadFault};
 
 use crate::fault::SimFault;
 use crate::run_job::{RunJob, make_run_in_threads};
-use bench_net::{Circuit, read_bench};
+use bench_net::{BenchFault, Circuit, read_bench};
 use block_sim::Job;
 use fault_model::{Model, collapse, list_faults_in};
-use patterns::{Tests, read_tests, read_tests_in_threads};
+use patterns::{TestFault, Tests, read_tests, read_tests_in_threads};
 use std::alloc::{AllocError, Global};
 use std::sync::Wait;
+use std::thread;
 use std::thread::Threads;
+use text_lines::Rows;
+
+/// A bench file is long if it has this number of bytes. One thread reads them in about a
+/// millisecond, 20 times as long as its start.
+const LONG_BENCH: usize = 1 << 16;
+
+/// A test file is long if it has this number of bytes. One thread reads them in about a
+/// millisecond.
+const LONG_TESTS: usize = 1 << 20;
+
+/// The least number of bytes of the line that defines a source, as `INPUT(a)`.
+const BYTES_OF_A_SOURCE: usize = 8;
 
 /// Reads the job of a bench file and a test file under a model.
 ///
@@ -144,8 +158,10 @@ pub fn read_inputs(alloc: Global, bench: &[u8], tests: &[u8]) -> Result<(Circuit
     Ok((circuit, tests))
 }
 
-/// Reads the circuit and the tests as [`read_inputs`] does, with the same errors. It reads the
-/// tests in at most as many threads as there are workers ([`read_tests_in_threads`]).
+/// Reads the circuit and the tests as [`read_inputs`] does, with the same errors, in at most as
+/// many threads as there are workers. It reads long files at the same time: one thread reads the
+/// bench file, and the others the tests, with the width of their first row as a guess. If the
+/// circuit has another number of sources, it reads the tests again.
 pub fn read_inputs_in_threads<R: Threads + Wait>(
     rt: &R,
     alloc: Global,
@@ -158,9 +174,84 @@ pub fn read_inputs_in_threads<R: Threads + Wait>(
     ensures fit { IfOk result (λ read. AreTestsFor read.0 read.1) }
     ensures refused { IfErr result (IsInputFault bench.now tests.now) }
 {
-    let circuit = read_bench(alloc, bench)?;
-    let tests = read_tests_in_threads(rt, alloc, tests, circuit.sources(), workers)?;
+    let (circuit, guessed) = read_and_guess(rt, alloc, bench, tests, workers);
+    let circuit = circuit?;
+    let tests = tests_of_width(rt, alloc, tests, guessed, circuit.sources(), workers)?;
     Ok((circuit, tests))
+}
+
+/// Reads the circuit of a bench file. If both files are long and there is a second worker, it reads
+/// the tests at the same time, with a guessed width.
+fn read_and_guess<R: Threads + Wait>(
+    rt: &R,
+    alloc: Global,
+    bench: &[u8],
+    tests: &[u8],
+    workers: u32,
+) -> (Result<Circuit, BenchFault>, Option<Tests>)
+    ensures accepted { IfOk result.0 (λ c. IsAccepted bench.now c) }
+    ensures circuit { IfOk result.0 (λ c. IsCircuit c) }
+    ensures refused { IfErr result.0 (λ fault. (fault ≡ BenchFault.Memory)
+        ⊎ IsRefused bench.now fault) }
+    ensures guessed { IfSome result.1 (IsGuessOf tests.now) }
+{
+    if workers < 2 || bench.len() < LONG_BENCH || tests.len() < LONG_TESTS {
+        return (read_bench(alloc, bench), None);
+    }
+    let most = bench.len() / BYTES_OF_A_SOURCE;
+    thread::join(
+        rt,
+        move || read_bench(alloc, bench),
+        move || guess_tests(rt, alloc, tests, most, workers - 1),
+    )
+}
+
+/// Reads tests with the width of their first row, if there is one. Returns `None` if the file has an
+/// error at this width, or memory ran out. A row of more than `most` digits is no guess, so a file
+/// without line feeds takes no memory.
+fn guess_tests<R: Threads + Wait>(
+    rt: &R,
+    alloc: Global,
+    text: &[u8],
+    most: usize,
+    workers: u32,
+) -> Option<Tests>
+    ensures { IfSome result (IsGuessOf text.now) }
+{
+    let first = Rows::new(text, 0).next()?;
+    if first.bytes.len() > most {
+        return None;
+    }
+    let width = u32::try_from(first.bytes.len()).ok()?;
+    if width == 0 {
+        return None;
+    }
+    read_tests_in_threads(rt, alloc, text, width, workers).ok()
+}
+
+/// Returns the tests of a file: the guessed ones if they have this width. If not, it lets them go and
+/// reads the file.
+fn tests_of_width<R: Threads + Wait>(
+    rt: &R,
+    alloc: Global,
+    text: &[u8],
+    guessed: Option<Tests>,
+    width: u32,
+    workers: u32,
+) -> Result<Tests, TestFault>
+    requires width { 1 ≤ width }
+    requires guessed { IfSome guessed (IsGuessOf text.now) }
+    ensures tests { IfOk result (λ t. HasTests text.now width t) }
+    ensures list { IfOk result (λ t. IsTestList t) }
+    ensures refused { IfErr result (λ fault.
+        (fault ≡ TestFault.Memory) ⊎ IsTestRefusal text.now width fault) }
+{
+    if let Some(tests) = guessed {
+        if tests.width() == width {
+            return Ok(tests);
+        }
+    }
+    read_tests_in_threads(rt, alloc, text, width, workers)
 }
 
 /// Makes the job of a circuit and of tests for it under a model. Only its number of pieces, or

@@ -1,6 +1,8 @@
-//! Test files of a few megabytes, which threads read.
+//! Test files of a few megabytes, which threads read, alone and beside a long bench file.
 
 use crate::checks::check_ok;
+use bench_net::BenchFault;
+use job_loading::{SimFault, read_inputs_in_threads};
 use patterns::{TestFault, Tests, read_tests_in_threads};
 use std::alloc::{AllocError, Global};
 use std::sync::Wait;
@@ -116,5 +118,102 @@ fn is_read<R: Threads + Wait>(rt: &R, alloc: Global, case: &Case) -> Result<bool
 fn threads_read_long_texts(rt: HostRuntime) {
     for case in &CASES {
         check_ok(&rt, is_read(&rt, rt.alloc(), case), case.name);
+    }
+}
+
+/// The number of gates of a long bench file, which has more than 64 kilobytes.
+const GATES: u32 = 4_000;
+
+/// The number of tests of a long test file, which has more than a megabyte.
+const ROWS: u32 = 30_000;
+
+/// A bench file and a test file: the last line of the first, the first lines and the last line of
+/// the second. Then their error.
+struct Pair {
+    name: &'static str,
+    bench_last: &'static str,
+    tests_first: &'static str,
+    tests_last: &'static str,
+    refused: Option<SimFault>,
+}
+
+static PAIRS: [Pair; 4] = [
+    Pair {
+        name: "a_comment_before_the_first_row",
+        bench_last: "",
+        tests_first: "# 01\n\n",
+        tests_last: "# end",
+        refused: None,
+    },
+    Pair {
+        name: "a_first_row_of_another_width",
+        bench_last: "",
+        tests_first: "01\n",
+        tests_last: "",
+        refused: Some(SimFault::Tests(TestFault::BadWidth(1))),
+    },
+    Pair {
+        name: "a_further_source",
+        bench_last: "INPUT(more)",
+        tests_first: "",
+        tests_last: "",
+        refused: Some(SimFault::Tests(TestFault::BadWidth(1))),
+    },
+    Pair {
+        name: "an_error_in_each_file",
+        bench_last: "INPUT(i0)",
+        tests_first: "",
+        tests_last: "2",
+        refused: Some(SimFault::Bench(BenchFault::Redefined(4_048))),
+    },
+];
+
+/// Returns the bench file of a pair.
+fn bench_of(alloc: Global, pair: &Pair) -> Result<Vec<u8>, AllocError> {
+    let mut text = Vec::new(alloc);
+    for source in 0..WIDTH {
+        let line = format!(in alloc; "INPUT(i{source})\n")?;
+        text.extend_from_slice(line.as_bytes())?;
+    }
+    for gate in 0..GATES {
+        let (one, other) = (gate % WIDTH, gate % 46);
+        let line = format!(in alloc; "g{gate} = NAND(i{one}, i{other})\n")?;
+        text.extend_from_slice(line.as_bytes())?;
+    }
+    text.extend_from_slice(pair.bench_last.as_bytes())?;
+    Ok(text)
+}
+
+/// Returns the test file of a pair.
+fn tests_of(alloc: Global, pair: &Pair) -> Result<Vec<u8>, AllocError> {
+    let mut text = Vec::new(alloc);
+    text.extend_from_slice(pair.tests_first.as_bytes())?;
+    for test in 0..ROWS {
+        push_row(&mut text, test)?;
+    }
+    text.extend_from_slice(pair.tests_last.as_bytes())?;
+    Ok(text)
+}
+
+/// Returns whether threads read a pair as they should.
+fn are_read<R: Threads + Wait>(rt: &R, alloc: Global, pair: &Pair) -> Result<bool, AllocError> {
+    let bench = bench_of(alloc, pair)?;
+    let tests = tests_of(alloc, pair)?;
+    Ok(
+        match read_inputs_in_threads(rt, alloc, &bench, &tests, WORKERS) {
+            Ok((circuit, tests)) => {
+                pair.refused.is_none()
+                    && circuit.signals() == WIDTH + GATES
+                    && have_bits(&tests, ROWS)
+            }
+            Err(fault) => pair.refused == Some(fault),
+        },
+    )
+}
+
+#[test]
+fn threads_read_both_texts(rt: HostRuntime) {
+    for pair in &PAIRS {
+        check_ok(&rt, are_read(&rt, rt.alloc(), pair), pair.name);
     }
 }
