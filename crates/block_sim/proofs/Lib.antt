@@ -70,6 +70,7 @@ mod FollowedRows
 mod FollowedUnits
 mod Ways
 mod KnownWords
+mod KnownWideWords
 mod SensitizedLanes
 mod Groups
 mod PartsOfJobs

@@ -3,31 +3,37 @@
 ghost use Rattle.std.specs.Prelude.{◌≡◌, ℕ, ◌<◌, ◌≤◌, IfOk, None, Some, length, slice_index_or};
 ghost use Rattle.std.specs.Prelude.{slice_set};
 
-use crate::known_words::next_unit;
 use std::alloc::{AllocError, Global};
 use std::marker::Model;
 use wide_words::Wide;
 
-/// A wide word for each signal, with the number of the unit of work in which it was computed. It is
-/// known only in that unit, so the next unit forgets all words. After the last number, which takes
-/// 4 billion units, all marks are cleared.
+/// A signal and its word.
+#[derive(Clone, Copy)]
+pub struct KnownWord {
+    pub signal: u32,
+    pub word: Wide,
+}
+
+/// The wide words that are known. They stand in the order in which they came, so the memory that is
+/// in use grows with the words that are known at once, and not with the signals. For each signal
+/// there is a place among them, which counts only if the word there is the signal's: so all words
+/// are forgotten at once.
 #[derive(Drop)]
 pub struct KnownWide {
-    words: Vec<Wide>,
-    marks: Vec<u32>,
-    unit: u32,
+    places: Vec<u32>,
+    known: Vec<KnownWord>,
 }
 
 impl Model for KnownWide {
-    ghost use Rattle.std.specs.Prelude.{List, Option};
+    ghost use Rattle.std.specs.Prelude.{List, Option, vec_capacity};
     ghost use Rattle.wide_words.specs.declared.wide.Wide.{Wide};
-    ghost use Rattle.block_sim.specs.KnownWords.{AreMarkedWide, known_words};
+    ghost use Rattle.block_sim.specs.KnownWide.{AreKnownAt, known_wide};
 
     ghost Value = { List (Option Wide) };
 
-    ghost view = { λ k. known_words k.unit k.marks.items k.words.items };
+    ghost view = { λ k. known_wide k.known.items k.places.items };
 
-    ghost invariant = { λ k. AreMarkedWide k.unit k.marks.items k.words.items };
+    ghost invariant = { λ k. AreKnownAt k.places.items k.known.items (vec_capacity k.known) };
 }
 
 impl KnownWide {
@@ -35,22 +41,19 @@ impl KnownWide {
     pub fn new(alloc: Global, signals: u32) -> Result<KnownWide, AllocError>
         ensures { IfOk result (λ known. length known ≡ signals) }
     {
-        let words = vec![in alloc; Wide::none(); signals as usize]?;
-        let marks = vec![in alloc; 0u32; signals as usize]?;
-        Ok(KnownWide {
-            words,
-            marks,
-            unit: 1,
-        })
+        let places = vec![in alloc; 0u32; signals as usize]?;
+        let known = Vec::with_capacity(alloc, signals as usize)?;
+        Ok(KnownWide { places, known })
     }
 
     /// Forgets all words.
     #[inline(always)]
+    #[tactic(auto, using(crate::proofs::KnownWideWords::none_known))]
     pub fn forget(&mut self)
         ensures room { length self.new ≡ length self.old }
         ensures none { (signal : ℕ) → slice_index_or self.new signal None ≡ None }
     {
-        self.unit = next_unit(self.unit, &mut self.marks);
+        self.known.clear();
     }
 
     /// Returns the word of a signal, if it is known.
@@ -59,8 +62,9 @@ impl KnownWide {
         requires { signal < length self.now }
         ensures { result ≡ slice_index_or self.now signal None }
     {
-        if self.marks[signal as usize] == self.unit {
-            Some(self.words[signal as usize])
+        let place = self.places[signal as usize] as usize;
+        if place < self.known.len() && self.known[place].signal == signal {
+            Some(self.known[place].word)
         } else {
             None
         }
@@ -72,7 +76,12 @@ impl KnownWide {
         requires { signal < length self.old }
         ensures { self.new ≡ slice_set self.old signal (Some word) }
     {
-        self.words[signal as usize] = word;
-        self.marks[signal as usize] = self.unit;
+        let place = self.places[signal as usize] as usize;
+        if place < self.known.len() && self.known[place].signal == signal {
+            self.known[place] = KnownWord { signal, word };
+        } else {
+            self.places[signal as usize] = self.known.len() as u32;
+            self.known.push_reserved(KnownWord { signal, word });
+        }
     }
 }

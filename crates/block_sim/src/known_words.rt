@@ -76,7 +76,7 @@ impl KnownWords {
 
 /// Returns the number of the next unit, which no mark has.
 #[inline(always)]
-pub fn next_unit(unit: u32, marks: &mut [u32]) -> u32
+fn next_unit(unit: u32, marks: &mut [u32]) -> u32
     requires { (signal : ℕ) → slice_index_or marks.old signal 0 ≤ unit }
     ensures room { length marks.new ≡ length marks.old }
     ensures later { (signal : ℕ) → slice_index_or marks.new signal 0 < result }
