@@ -1,5 +1,5 @@
 -- The windows of a run, one after another.
-use Rattle.std.proofs.Common.{◌≡◌, ◌<◌, ◌≤◌, ◌+◌, ◌*◌, ℕ, List, arith, length, min}
+use Rattle.std.proofs.Common.{◌≡◌, ◌<◌, ◌≤◌, ◌+◌, ◌*◌, ◌∙◌, ℕ, List, ap, arith, length, min, sym}
 use Rattle.std.proofs.lemmas.Grind.{div_ceil_times}
 use Rattle.std.proofs.Math.Nat.{le-min, min-eq_left, min-eq_right, mul-le-mul_right}
 use Rattle.std.specs.Int.{div_ceil}
@@ -68,3 +68,12 @@ part_with job tests parts part classes are = record {
   ordered = are.ordered;
   few = are.few;
 }
+
+-- parts that are as they were have their own tests
+pub tests_kept : (next job : Parts) → next ≡ job → next ≡ with_tests job next.tests
+tests_kept next job is = is ∙ ap (λ (j : Parts). with_tests job j.tests) (sym is)
+
+-- so have parts that took other tests
+pub tests_set : (next job : Parts) (tests : TestList) → next ≡ with_tests job tests
+    → next ≡ with_tests job next.tests
+tests_set next job tests is = is ∙ ap (λ (j : Parts). with_tests job j.tests) (sym is)

@@ -5,7 +5,7 @@
 //! then those that no test detects yet on the next, and so on.
 
 ghost use Rattle.std.specs.Prelude.{◌≡◌, ◌⊎◌, ◌<◌, ◌≤◌, ◌+◌, ◌*◌, All, IfErr, IfOk};
-ghost use Rattle.std.specs.Prelude.{List, OnOk, Option};
+ghost use Rattle.std.specs.Prelude.{[], List, OnOk, Option};
 ghost use Rattle.std.specs.Prelude.{⊤, ℕ, filter, is_none, length, map, min, slice_index_or, zip};
 ghost use Rattle.bench_net.specs.Scan.{sources};
 ghost use Rattle.patterns.specs.Tests.{IsTestList, TestList, blocks};
@@ -220,6 +220,40 @@ fn run_classes_left<G: Gate + Sync, R: Threads + Wait>(
     Ok(table)
 }
 
+/// Gives a job no tests, so that its fault-free words take no memory.
+fn forget_tests(alloc: Global, job: &mut Job) -> Result<(), AllocError>
+    ensures none { OnOk result (job.new.tests.tests ≡ []) }
+    ensures kept { job.new ≡ with_tests job.old job.new.tests }
+{
+    let none = Tests::new(alloc, job.circuit().sources());
+    job.set_tests_of_any_size(alloc, none)?;
+    Ok(())
+}
+
+/// Gives a job the tests of a window. It forgets those of the window before first, so that the job
+/// has the fault-free words of one window at a time.
+fn take_window<R: Threads + Wait>(
+    rt: &R,
+    alloc: Global,
+    job: &mut Job,
+    tests: &Tests,
+    window: Window,
+    workers: u32,
+) -> Result<(), RunFault>
+    requires list { IsTestList tests.now }
+    requires width { tests.now.width ≡ length (sources job.old.circuit) }
+    requires window { (first : ℕ) × GoesOnFrom (blocks (length tests.now.tests)) first window }
+    ensures tests { OnOk result (IsWindowOf tests.now.tests (64 * window.from)
+        (64 * window.end) job.new.tests.tests) }
+    ensures refused { IfErr result (λ fault. fault ≡ RunFault.Memory) }
+    ensures kept { job.new ≡ with_tests job.old job.new.tests }
+{
+    forget_tests(alloc, job)?;
+    let some = tests_of(alloc, tests, window)?;
+    job.set_tests_of_any_size_in_threads(rt, alloc, some, workers)?;
+    Ok(())
+}
+
 /// Runs the classes of a list that have no first test yet on a window. Returns the first tests of
 /// all of them after it. The job has the tests of the window then.
 fn run_window<G: Gate + Sync, R: Threads + Wait>(
@@ -252,8 +286,7 @@ fn run_window<G: Gate + Sync, R: Threads + Wait>(
     if left.is_empty() {
         return Ok(firsts);
     }
-    let some = tests_of(alloc, tests, window)?;
-    job.set_tests_of_any_size_in_threads(rt, alloc, some, workers)?;
+    take_window(rt, alloc, job, tests, window, workers)?;
     gate.opens(window.first, window.end);
     let shifted = Shifted {
         gate,
@@ -299,13 +332,15 @@ fn run_windows<G: Gate + Sync, R: Threads + Wait>(
             rt, alloc, job, tests, window, classes, firsts, workers, gate,
         )?;
     }
+    forget_tests(alloc, job)?;
     Ok(firsts)
 }
 
 /// Runs all classes of a job on a list of tests that is not its own, window by window: on this
 /// number of blocks at a time ([`window_blocks`] suits), with the fault-free words of these and of
 /// the block before. The verdicts are those that [`crate::run_in_parts`] returns for a job with
-/// these tests. The job has the tests of some window then.
+/// these tests. The job has none then, so that no fault-free words take memory. After an error it
+/// has its own or those of some window.
 ///
 /// The workers run the open classes of each window in a number of stretches that suits them. The
 /// limit on pieces is that of [`crate::run_in_parts`] for this number of parts.

@@ -32,12 +32,13 @@ returns-then-is_empty-clause-firsts g c =
 pub returns-then-is_empty-clause-kept : goal.returns-then-is_empty-clause-kept
 returns-then-is_empty-clause-kept g c = (c.args.job.now.tests, refl)
 
-pub returns-in_err-some-clause-kept : goal.returns-in_err-some-clause-kept
-returns-in_err-some-clause-kept g c = (c.args.job.now.tests, refl)
+pub returns-in_err-take_window-clause-kept : goal.returns-in_err-take_window-clause-kept
+returns-in_err-take_window-clause-kept g c =
+    ((c.take_window.new.job).tests, c.in_err-take_window.ensures.kept)
 
 pub run_classes_left-requires-clause-few : goal.run_classes_left-requires-clause-few
 run_classes_left-requires-clause-few g c κs within =
-    let set = c.in_ok-set_tests_of_any_size_in_threads.ensures.job in
+    let set = c.in_ok-take_window.ensures.kept in
     let is : c.in_ok-left.left.items ≡ left_of c.args.classes.now c.as_slice.result.now =
     c.in_ok-left.ensures in
     let few = left_few c.args.classes.now c.as_slice.result.now in
@@ -52,7 +53,7 @@ run_classes_left-requires-clause-few g c κs within =
 pub run_classes_left-requires-clause-within : goal.run_classes_left-requires-clause-within
 run_classes_left-requires-clause-within g c κs within =
     let job = c.args.job.now in
-    let set = c.in_ok-set_tests_of_any_size_in_threads.ensures.job in
+    let set = c.in_ok-take_window.ensures.kept in
     let is : c.in_ok-left.left.items ≡ left_of c.args.classes.now c.as_slice.result.now =
     c.in_ok-left.ensures in
     subst (λ (j : Parts). All (λ class. class < length j.classes.representative)
@@ -67,9 +68,9 @@ returns-clause-firsts g c =
     let window = c.args.window in
     let classes = c.args.classes.now in
     let firsts = c.args.firsts.items in
-    let some = c.in_ok-some.some in
+    let some = (c.take_window.new.job).tests in
     let left = c.in_ok-left.left.items in
-    let set = c.in_ok-set_tests_of_any_size_in_threads.ensures.job in
+    let set = c.in_ok-take_window.ensures.kept in
     let table = c.in_ok-table.table.items in
     let found = c.in_ok-table.ensures.found in
     let is : left ≡ left_of classes firsts =
@@ -86,7 +87,7 @@ returns-clause-firsts g c =
     (zip classes l)) c.as_slice-2.ensures.value in
     firsts_after job.list.model job.circuit c.args.tests.now.tests some.tests (64 * window.from)
     (64 * window.first) (64 * window.end) (32 * window.from) (length job.classes.representative)
-    classes left firsts found.0 c.in_ok-next.next.items table c.in_ok-some.ensures.tests
+    classes left firsts found.0 c.in_ok-next.next.items table c.in_ok-take_window.ensures.tests
     (omega arith) (after begins.2) (omega (arith, begins.1))
     (omega (arith, c.requires.window.some))
     (omega (arith, c.requires.window.within, c.requires.list.count)) c.requires.firsts is

@@ -110,5 +110,18 @@ returns-clause-firsts g c =
     (subst (λ n. AreFirstsBelow job.list.model job.circuit tests (64 * n) c.args.classes.now
     c.loop-number.firsts.items) all c.loop-number.invariant.firsts)
 
+pub returns-in_err-forget_tests-clause-kept : goal.returns-in_err-forget_tests-clause-kept
+returns-in_err-forget_tests-clause-kept g c =
+    let tests = (c.forget_tests.new.job).tests in (
+      tests,
+      c.in_err-forget_tests.ensures.kept
+          ∙ ap (λ j. with_tests j tests) c.loop-number.invariant.kept.1,
+    )
+
 pub returns-clause-kept : goal.returns-clause-kept
-returns-clause-kept g c = c.loop-number.invariant.kept
+returns-clause-kept g c =
+    let tests = (c.forget_tests.new.job).tests in (
+      tests,
+      c.in_ok-forget_tests.ensures.kept
+          ∙ ap (λ j. with_tests j tests) c.loop-number.invariant.kept.1,
+    )
