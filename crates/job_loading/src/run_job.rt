@@ -4,7 +4,8 @@ ghost use Rattle.std.specs.Prelude.{◌≡◌, ◌<◌, ◌≤◌, IfErr, IfOk, 
 ghost use Rattle.bench_net.specs.Scan.{sources};
 ghost use Rattle.patterns.specs.Tests.{IsTestList};
 ghost use Rattle.block_sim.specs.Parts.{BelongTogether, with_tests};
-ghost use Rattle.workers.specs.Refused.{ArePartsWithin, IsPartsFault};
+ghost use Rattle.workers.specs.Part.{ArePartVerdicts};
+ghost use Rattle.workers.specs.Refused.{ArePartsWithin, IsPartFault, IsPartsFault, IsPartWithin};
 ghost use Rattle.workers.specs.Verdict.{AreAfterHits, AreFirsts};
 ghost use Rattle.job_loading.specs.Jobs.{AreTestsFor, IsJobFor};
 
@@ -17,7 +18,10 @@ use std::alloc::{AllocError, Global};
 use std::marker;
 use std::sync::Wait;
 use std::thread::Threads;
-use workers::{Gate, RunFault, Verdicts, run_in_parts, run_in_windows, window_blocks};
+use workers::{
+    Gate, PartVerdict, RunFault, Verdicts, run_in_parts, run_in_windows, run_part,
+    run_part_in_windows, window_blocks,
+};
 
 /// A job to be run. If the fault-free words of all tests would take more memory than those of a
 /// window ([`workers::window_blocks`]), its tests may stand apart, and it runs window by window.
@@ -110,6 +114,38 @@ impl RunJob {
                 let blocks = window_blocks(self.job.circuit().signals());
                 let job = &mut self.job;
                 run_in_windows(rt, alloc, job, tests, blocks, parts, workers, gate)
+            }
+        }
+    }
+
+    /// Runs the classes of one part, counted from 0, of a number of parts, with the verdicts and the
+    /// errors of [`workers::run_part`]. If the tests stand apart, it runs window by window
+    /// ([`workers::run_part_in_windows`]), under a gate that lets each piece pass.
+    pub fn run_part<R: Threads + Wait, G: Gate + Sync>(
+        &mut self,
+        rt: &R,
+        alloc: Global,
+        part: u32,
+        parts: u32,
+        workers: u32,
+        gate: &G,
+    ) -> Result<Vec<PartVerdict>, RunFault>
+        requires gate { self.old.apart ≡ true → G.passing gate.now }
+        requires part { part < parts }
+        ensures verdicts { IfOk result (λ verdicts.
+            ArePartVerdicts self.old.parts parts part verdicts.items) }
+        ensures workers { OnOk result ((0 < workers) × (workers ≤ 64)) }
+        ensures within { OnOk result (IsPartWithin self.old.parts parts part) }
+        ensures refused { IfErr result (IsPartFault self.old.parts parts part workers
+            (G.passing gate.now) (G.stops gate.now)) }
+        ensures kept { self.new ≡ self.old }
+    {
+        match &self.apart {
+            None => run_part(rt, alloc, &self.job, part, parts, workers, gate),
+            Some(tests) => {
+                let blocks = window_blocks(self.job.circuit().signals());
+                let job = &mut self.job;
+                run_part_in_windows(rt, alloc, job, tests, blocks, part, parts, workers, gate)
             }
         }
     }

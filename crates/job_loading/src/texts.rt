@@ -96,7 +96,7 @@ pub fn job_of_any_size_in_threads<R: Threads + Wait>(
 
 /// Reads the job as [`job_of_any_size_in_threads`] does, with the same errors, for a run. Its tests
 /// may stand apart if `apart` is set.
-pub(crate) fn run_of_any_size<R: Threads + Wait>(
+pub fn run_of_any_size<R: Threads + Wait>(
     rt: &R,
     alloc: Global,
     model: Model,
