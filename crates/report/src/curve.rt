@@ -1,7 +1,7 @@
 //! The curve of a run: the number of detected faults after each test.
 
 ghost use Rattle.std.specs.Prelude.{◌≡◌, ◌+◌, ◌-◌, ◌<◌, ◌≤◌, ◌^◌, ℕ, get_or, length, IfErr, IfOk};
-ghost use Rattle.std.specs.Prelude.{OnOk};
+ghost use Rattle.std.specs.Prelude.{OnOk, true};
 ghost use Rattle.std.specs.List.{flat_map};
 ghost use Rattle.block_sim.specs.Parts.{BelongTogether};
 ghost use Rattle.job_loading.specs.Splits.{HasSomePart};
@@ -18,7 +18,7 @@ use byte_output::{Out, OutFailed, put_pieces};
 use fault_model::Model;
 use fault_model::laws::stems;
 use itoa::Buffer;
-use job_loading::{ReportFault, SimFault, Split, Watch, run_watched, split_job_of};
+use job_loading::{ReportFault, RunJob, SimFault, Split, Watch, run_apart_watched, split_run_of};
 use std::alloc::{AllocError, Global};
 use std::sync::Wait;
 use std::thread::Threads;
@@ -75,7 +75,7 @@ pub fn curve_text_in<R: Threads + Wait, W: Out>(
 /// Reads a circuit and tests for it, and writes the curve that [`curve_text_in`] writes, with the
 /// same bytes, for each split of the run. It calls the gate when the run begins and when it ends,
 /// and asks it before each piece of work. The gate decides whether there is a curve, but not its
-/// bytes.
+/// bytes. It runs window by window as [`crate::simulate_text_watched`] does.
 ///
 /// It fails as [`crate::simulate_text_watched`] does.
 pub fn curve_text_watched<R: Threads + Wait, G: Watch + Sync, W: Out>(
@@ -97,31 +97,35 @@ pub fn curve_text_watched<R: Threads + Wait, G: Watch + Sync, W: Out>(
     ensures workers { OnOk result ((0 < workers) × (workers ≤ 64)) }
     ensures within { OnOk result (IsWithin model bench.now tests.now split) }
 {
-    let (job, parts) = split_job_of(rt, alloc, model, bench, tests, split, workers)?;
-    report_curve(rt, alloc, &job, parts, workers, gate, out)
+    let apart = gate.lets_all_pass();
+    let (run, parts) = split_run_of(rt, alloc, model, bench, tests, split, apart, workers)?;
+    let mut run = run;
+    report_curve(rt, alloc, &mut run, parts, workers, gate, out)
 }
 
 /// Runs a job in parts by workers in threads of their own, and writes its curve.
 fn report_curve<R: Threads + Wait, G: Watch + Sync, W: Out>(
     rt: &R,
     alloc: Global,
-    job: &Job,
+    run: &mut RunJob,
     parts: u32,
     workers: u32,
     gate: &G,
     out: &mut W,
 ) -> Result<(), SimFault>
-    requires job { BelongTogether job.now }
+    requires job { BelongTogether run.old.parts }
+    requires gate { run.old.apart ≡ true → G.passing gate.now }
     requires parts { 0 < parts }
-    ensures written { WritesOneOf (IsCurveOfJob job.now) result (W.seen out.old) (W.seen out.new) }
+    ensures written { WritesOneOf (IsCurveOfJob run.old.parts) result (W.seen out.old)
+        (W.seen out.new) }
     ensures refused { IfErr result (IsJobTextFault workers
-        (IsPartsFault job.now parts workers (G.passing gate.now) (G.stops gate.now))) }
+        (IsPartsFault run.old.parts parts workers (G.passing gate.now) (G.stops gate.now))) }
     ensures workers { OnOk result ((0 < workers) × (workers ≤ 64)) }
-    ensures within { OnOk result (ArePartsWithin job.now parts) }
+    ensures within { OnOk result (ArePartsWithin run.old.parts parts) }
 {
-    let verdicts = run_watched(rt, alloc, job, parts, workers, gate)?;
-    let points = curve_of(alloc, &verdicts, job.tests().count())?;
-    write_curve(job, &verdicts, &points, out)?;
+    let verdicts = run_apart_watched(rt, alloc, run, parts, workers, gate)?;
+    let points = curve_of(alloc, &verdicts, run.tests().count())?;
+    write_curve(run.job(), &verdicts, &points, out)?;
     Ok(())
 }
 

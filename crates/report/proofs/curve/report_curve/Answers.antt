@@ -1,5 +1,7 @@
-use Rattle.std.proofs.Common.{◌≡◌, ◌∙◌, ap, length}
+use Rattle.std.proofs.Common.{◌≡◌, ◌∙◌, ap, length, sym}
 use Rattle.std.proofs.lemmas.Result.{err_from_is_err_and}
+use Rattle.fault_model.specs.Fault.{FaultList}
+use Rattle.job_loading.specs.RunJobs.{RunParts}
 use Rattle.report.specs.Curve.{curve, curve_text}
 use Rattle.report.proofs.VerdictsOfRuns.{verdicts_counted}
 use Rattle.report.proofs.curve.report_curve.Goals as goal
@@ -9,8 +11,9 @@ returns-in_err-write_curve-clause-written g c =
     let p = err_from_is_err_and c.from_residual-in_err-write_curve.result
     c.from_residual-in_err-write_curve.ensures.1 in
     let firsts = c.in_ok-verdicts.verdicts.firsts in
-    let count = c.count.ensures ∙ ap (λ t. length t.tests) c.tests.ensures.part in
-    let same : c.deref.result.now ≡ curve (length c.args.job.now.tests.tests) firsts =
+    let count = c.count.ensures ∙ ap (λ t. length t.tests) c.tests.ensures.tests
+    ∙ ap (λ (r : RunParts). length r.parts.tests.tests) c.in_ok-verdicts.ensures.kept in
+    let same : c.deref.result.now ≡ curve (length c.args.run.now.parts.tests.tests) firsts =
     c.deref.ensures.value ∙ (c.in_ok-points.ensures ∙ ap (λ n. curve n firsts) count) in
     rw (p.1, p.2) (
       curve_text c.deref.result.now firsts,
@@ -25,8 +28,9 @@ returns-in_err-write_curve-clause-written g c =
 pub returns-clause-written : goal.returns-clause-written
 returns-clause-written g c =
     let firsts = c.in_ok-verdicts.verdicts.firsts in
-    let count = c.count.ensures ∙ ap (λ t. length t.tests) c.tests.ensures.part in
-    let same : c.deref.result.now ≡ curve (length c.args.job.now.tests.tests) firsts =
+    let count = c.count.ensures ∙ ap (λ t. length t.tests) c.tests.ensures.tests
+    ∙ ap (λ (r : RunParts). length r.parts.tests.tests) c.in_ok-verdicts.ensures.kept in
+    let same : c.deref.result.now ≡ curve (length c.args.run.now.parts.tests.tests) firsts =
     c.deref.ensures.value ∙ (c.in_ok-points.ensures ∙ ap (λ n. curve n firsts) count) in (
       curve_text c.deref.result.now firsts,
       (
@@ -38,5 +42,8 @@ returns-clause-written g c =
     )
 
 pub write_curve-requires : goal.write_curve-requires
-write_curve-requires g c = verdicts_counted c.args.job.now c.in_ok-verdicts.verdicts.firsts
-    c.requires.job c.in_ok-verdicts.ensures.firsts
+write_curve-requires g c =
+    verdicts_counted c.args.run.now.parts c.in_ok-verdicts.verdicts.firsts c.requires.job
+    c.in_ok-verdicts.ensures.firsts
+    ∙ sym (ap (λ (l : FaultList). length l.list) c.job.ensures.list
+    ∙ ap (λ (r : RunParts). length r.parts.list.list) c.in_ok-verdicts.ensures.kept)
