@@ -1,7 +1,7 @@
 //! From the bytes of files to the file of one part of a run.
 
 ghost use Rattle.std.specs.Prelude.{◌≡◌, ◌<◌, ◌≤◌, ◌++◌, ◌+◌, IfErr, OnOk, Some, count_by, length};
-ghost use Rattle.std.specs.Prelude.{slice_get, zip};
+ghost use Rattle.std.specs.Prelude.{slice_get, true, zip};
 ghost use Rattle.std.specs.List.{flat_map};
 ghost use Rattle.fault_model.specs.Fault.{faults};
 ghost use Rattle.block_sim.specs.Parts.{BelongTogether};
@@ -17,12 +17,12 @@ use block_sim::Job;
 use byte_output::{Out, OutFailed, put_pieces};
 use fault_model::{Faults, Model};
 use itoa::Buffer;
-use job_loading::{ReportFault, SimFault, Watch, job_of_any_size_in_threads};
+use job_loading::{ReportFault, RunJob, SimFault, Watch, run_of_any_size};
 use report::{first_text, model_name, put_fault_line, sum_of};
 use std::alloc::Global;
 use std::sync::Wait;
 use std::thread::Threads;
-use workers::{OpenGate, PartVerdict, part_of, run_part};
+use workers::{OpenGate, PartVerdict, part_of};
 
 /// The rule of parts, as a part file names it: by the stem of a class's region.
 const RULE: &str = "region";
@@ -63,6 +63,9 @@ pub fn part_text_in<R: Threads + Wait, W: Out>(
 /// same bytes. It calls the gate when the run of the part begins and when it ends, and asks it
 /// before each piece of work. The gate decides whether there is a part file, but not its bytes.
 ///
+/// Under a gate that lets each piece pass it runs window by window if the fault-free words of all
+/// tests would take much memory, as [`report::simulate_text_watched`] does.
+///
 /// It fails as [`part_text_in`] does. If the gate stops workers and not all classes of the part are
 /// settled, it fails with [`workers::RunFault::Unfinished`].
 pub fn part_text_watched<R: Threads + Wait, G: Watch + Sync, W: Out>(
@@ -84,7 +87,9 @@ pub fn part_text_watched<R: Threads + Wait, G: Watch + Sync, W: Out>(
         (λ job. IsPartFault job parts part workers (G.passing gate.now) (G.stops gate.now))) }
     ensures workers { OnOk result ((0 < workers) × (workers ≤ 64)) }
 {
-    let job = job_of_any_size_in_threads(rt, alloc, model, bench, tests, workers)?;
+    let apart = gate.lets_all_pass();
+    let run = run_of_any_size(rt, alloc, model, bench, tests, apart, workers)?;
+    let mut run = run;
     let bench_sum = sum_of(alloc, bench)?;
     let test_sum = sum_of(alloc, tests)?;
     let head = Head {
@@ -95,7 +100,7 @@ pub fn part_text_watched<R: Threads + Wait, G: Watch + Sync, W: Out>(
         bench: bench_sum.as_str(),
         tests: test_sum.as_str(),
     };
-    report_part(rt, alloc, &job, &head, workers, gate, out)
+    report_part(rt, alloc, &mut run, &head, workers, gate, out)
 }
 
 /// The data of the first line of a part file. Parts count from 0.
@@ -127,25 +132,27 @@ fn count_classes(job: &Job, part: u32, parts: u32) -> u32
 fn report_part<R: Threads + Wait, G: Watch + Sync, W: Out>(
     rt: &R,
     alloc: Global,
-    job: &Job,
+    run: &mut RunJob,
     head: &Head<'_>,
     workers: u32,
     gate: &G,
     out: &mut W,
 ) -> Result<(), SimFault>
-    requires job { BelongTogether job.now }
+    requires job { BelongTogether run.old.parts }
+    requires gate { run.old.apart ≡ true → G.passing gate.now }
     requires part { head.now.part < head.now.parts }
-    ensures written { WritesOneOf (IsPartTextOfJob (said_by head.now) job.now) result
+    ensures written { WritesOneOf (IsPartTextOfJob (said_by head.now) run.old.parts) result
         (W.seen out.old) (W.seen out.new) }
     ensures refused { IfErr result (IsJobReportFault workers
-        (IsPartFault job.now head.now.parts head.now.part workers (G.passing gate.now)
+        (IsPartFault run.old.parts head.now.parts head.now.part workers (G.passing gate.now)
         (G.stops gate.now))) }
     ensures workers { OnOk result ((0 < workers) × (workers ≤ 64)) }
 {
     let (part, parts) = (head.part, head.parts);
-    gate.starts(count_classes(job, part, parts), job.tests().blocks());
-    let verdicts = run_part(rt, alloc, job, part, parts, workers, gate)?;
+    gate.starts(count_classes(run.job(), part, parts), run.tests().blocks());
+    let verdicts = run.run_part(rt, alloc, part, parts, workers, gate)?;
     gate.ends();
+    let job = run.job();
     write_part(job.circuit(), job.faults(), head, verdicts.as_slice(), out)?;
     Ok(())
 }

@@ -7,7 +7,14 @@ use Rattle.part_files.proofs.part_writer.report_part.Goals as goal
 pub write_part-requires : goal.write_part-requires
 write_part-requires g c =
     let list = ap (λ (l : FaultList). l.list) c.requires.job.list in
-    rw (c.circuit.ensures.part, c.faults.ensures.part, c.as_slice.ensures.value) (record {
+    rw (
+      c.circuit.ensures.part,
+      c.faults.ensures.part,
+      c.as_slice.ensures.value,
+      c.job-job.ensures.list,
+      c.job-job.ensures.circuit,
+      c.in_ok-verdicts.ensures.kept,
+    ) (record {
       list = list;
       count = c.in_ok-verdicts.ensures.verdicts.count ∙ sym (ap length list);
     })
@@ -21,12 +28,15 @@ pub returns-in_err-write_part-clause-written : goal.returns-in_err-write_part-cl
 returns-in_err-write_part-clause-written g c =
     let p = err_from_is_err_and c.from_residual-in_err-write_part.result
     c.from_residual-in_err-write_part.ensures.1 in
-    let job = c.args.job.now in
+    let job = c.args.run.now.parts in
     let verdicts = c.in_ok-verdicts.verdicts.items in
     let wrote = rw (
       c.circuit.ensures.part,
       c.faults.ensures.part,
       c.as_slice.ensures.value,
+      c.job-job.ensures.list,
+      c.job-job.ensures.circuit,
+      c.in_ok-verdicts.ensures.kept,
     ) at c.in_err-write_part.ensures in
     rw (p.1, p.2) (
       job_part_text (said_by c.args.head.now) job.list.model job.circuit verdicts,
@@ -36,12 +46,15 @@ returns-in_err-write_part-clause-written g c =
 
 pub returns-clause-written : goal.returns-clause-written
 returns-clause-written g c =
-    let job = c.args.job.now in
+    let job = c.args.run.now.parts in
     let verdicts = c.in_ok-verdicts.verdicts.items in
     let wrote = rw (
       c.circuit.ensures.part,
       c.faults.ensures.part,
       c.as_slice.ensures.value,
+      c.job-job.ensures.list,
+      c.job-job.ensures.circuit,
+      c.in_ok-verdicts.ensures.kept,
     ) at c.in_ok-write_part.ensures in (
       job_part_text (said_by c.args.head.now) job.list.model job.circuit verdicts,
       (verdicts, c.in_ok-verdicts.ensures.verdicts, refl),
