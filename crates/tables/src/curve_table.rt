@@ -1,6 +1,6 @@
 //! Tables of the curve of a run, as comma-separated values (RFC 4180) and as JSON (RFC 8259).
 
-ghost use Rattle.std.specs.Prelude.{◌≡◌, ◌<◌, ◌≤◌, ◌++◌, codes, IfErr, IfOk, OnOk, length};
+ghost use Rattle.std.specs.Prelude.{◌≡◌, ◌<◌, ◌≤◌, ◌++◌, codes, IfErr, IfOk, OnOk, length, true};
 ghost use Rattle.std.specs.List.{flat_map};
 ghost use Rattle.block_sim.specs.Parts.{BelongTogether};
 ghost use Rattle.job_loading.specs.Splits.{HasSomePart};
@@ -13,11 +13,10 @@ ghost use Rattle.workers.specs.Refused.{ArePartsWithin, IsPartsFault};
 
 use crate::json_table::{add_pieces, hundredths, without_first};
 use crate::table::{Format, put_text};
-use block_sim::Job;
 use fault_model::Model;
 use fault_model::laws::stems;
 use itoa::Buffer;
-use job_loading::{run_watched, split_job_of};
+use job_loading::{RunJob, run_apart_watched, split_run_of};
 use report::{CurvePoint, Out, SimFault, Split, Watch, curve_of};
 use std::alloc::{AllocError, Global};
 use std::sync::Wait;
@@ -62,32 +61,35 @@ pub fn curve_table_watched<R: Threads + Wait, G: Watch + Sync, W: Out>(
     ensures workers { OnOk result ((0 < workers) × (workers ≤ 64)) }
     ensures within { OnOk result (IsWithin model bench.now tests.now split) }
 {
-    let (job, parts) = split_job_of(rt, alloc, model, bench, tests, split, workers)?;
-    write_run(rt, alloc, &job, parts, workers, format, gate, out)
+    let apart = gate.lets_all_pass();
+    let (run, parts) = split_run_of(rt, alloc, model, bench, tests, split, apart, workers)?;
+    let mut run = run;
+    write_run(rt, alloc, &mut run, parts, workers, format, gate, out)
 }
 
 /// Runs a job in parts by workers in threads of their own, and writes the table of its curve.
 fn write_run<R: Threads + Wait, G: Watch + Sync, W: Out>(
     rt: &R,
     alloc: Global,
-    job: &Job,
+    run: &mut RunJob,
     parts: u32,
     workers: u32,
     format: Format,
     gate: &G,
     out: &mut W,
 ) -> Result<(), SimFault>
-    requires job { BelongTogether job.now }
+    requires job { BelongTogether run.old.parts }
+    requires gate { run.old.apart ≡ true → G.passing gate.now }
     requires parts { 0 < parts }
-    ensures written { WritesOneOf (IsCurveTableOfJob job.now format) result
+    ensures written { WritesOneOf (IsCurveTableOfJob run.old.parts format) result
         (W.seen out.old) (W.seen out.new) }
     ensures refused { IfErr result (IsJobTextFault workers
-        (IsPartsFault job.now parts workers (G.passing gate.now) (G.stops gate.now))) }
+        (IsPartsFault run.old.parts parts workers (G.passing gate.now) (G.stops gate.now))) }
     ensures workers { OnOk result ((0 < workers) × (workers ≤ 64)) }
-    ensures within { OnOk result (ArePartsWithin job.now parts) }
+    ensures within { OnOk result (ArePartsWithin run.old.parts parts) }
 {
-    let verdicts = run_watched(rt, alloc, job, parts, workers, gate)?;
-    let points = curve_of(alloc, &verdicts, job.tests().count())?;
+    let verdicts = run_apart_watched(rt, alloc, run, parts, workers, gate)?;
+    let points = curve_of(alloc, &verdicts, run.tests().count())?;
     let total = verdicts.total();
     stems();
     prove!(total > 0);

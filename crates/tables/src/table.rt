@@ -1,6 +1,6 @@
 //! Tables of faults, from the bytes of files.
 
-ghost use Rattle.std.specs.Prelude.{◌≡◌, ◌<◌, ◌≤◌, IfErr, OnOk, length};
+ghost use Rattle.std.specs.Prelude.{◌≡◌, ◌<◌, ◌≤◌, IfErr, OnOk, length, true};
 ghost use Rattle.block_sim.specs.Parts.{BelongTogether};
 ghost use Rattle.fault_model.specs.Fault.{faults};
 ghost use Rattle.byte_output.specs.Output.{Writes};
@@ -16,10 +16,9 @@ use crate::column::Column;
 use crate::csv_table::csv_table;
 use crate::json_table::{json_rows, put_json};
 use bench_net::{Circuit, read_bench};
-use block_sim::Job;
 use byte_output::put_all;
 use fault_model::{Faults, Model, collapse, list_faults_in};
-use job_loading::{Watch, run_watched, split_job_of};
+use job_loading::{RunJob, Watch, run_apart_watched, split_run_of};
 use report::{Lines, OpenGate, Out, ReportFault, SimFault, Split};
 use std::alloc::Global;
 use std::sync::Wait;
@@ -170,7 +169,9 @@ pub fn run_table_in<R: Threads + Wait, W: Out>(
 }
 
 /// Writes the table that [`run_table_in`] writes, for each split of the run. It calls the gate when
-/// the run begins and when it ends, and asks it before each piece of work.
+/// the run begins and when it ends, and asks it before each piece of work. Under a gate that lets
+/// each piece pass it runs window by window if the fault-free words of all tests would take much
+/// memory, as `report::simulate_text_watched` does.
 ///
 /// It fails as `report::curve_text_watched` does.
 pub fn run_table_watched<R: Threads + Wait, G: Watch + Sync, W: Out>(
@@ -194,15 +195,19 @@ pub fn run_table_watched<R: Threads + Wait, G: Watch + Sync, W: Out>(
     ensures workers { OnOk result ((0 < workers) × (workers ≤ 64)) }
     ensures within { OnOk result (IsWithin model bench.now tests.now split) }
 {
-    let (job, parts) = split_job_of(rt, alloc, model, bench, tests, split, workers)?;
-    write_run(rt, alloc, &job, parts, workers, lines, format, gate, out)
+    let apart = gate.lets_all_pass();
+    let (run, parts) = split_run_of(rt, alloc, model, bench, tests, split, apart, workers)?;
+    let mut run = run;
+    write_run(
+        rt, alloc, &mut run, parts, workers, lines, format, gate, out,
+    )
 }
 
 /// Runs a job in parts by workers in threads of their own, and writes the table of its first tests.
 fn write_run<R: Threads + Wait, G: Watch + Sync, W: Out>(
     rt: &R,
     alloc: Global,
-    job: &Job,
+    run: &mut RunJob,
     parts: u32,
     workers: u32,
     lines: Lines,
@@ -210,19 +215,21 @@ fn write_run<R: Threads + Wait, G: Watch + Sync, W: Out>(
     gate: &G,
     out: &mut W,
 ) -> Result<(), SimFault>
-    requires job { BelongTogether job.now }
+    requires job { BelongTogether run.old.parts }
+    requires gate { run.old.apart ≡ true → G.passing gate.now }
     requires parts { 0 < parts }
-    ensures written { WritesOneOf (IsFirstTableOfJob job.now lines format) result
+    ensures written { WritesOneOf (IsFirstTableOfJob run.old.parts lines format) result
         (W.seen out.old) (W.seen out.new) }
     ensures refused { IfErr result (IsJobTextFault workers
-        (IsPartsFault job.now parts workers (G.passing gate.now) (G.stops gate.now))) }
+        (IsPartsFault run.old.parts parts workers (G.passing gate.now) (G.stops gate.now))) }
     ensures workers { OnOk result ((0 < workers) × (workers ≤ 64)) }
-    ensures within { OnOk result (ArePartsWithin job.now parts) }
+    ensures within { OnOk result (ArePartsWithin run.old.parts parts) }
 {
-    let verdicts = run_watched(rt, alloc, job, parts, workers, gate)?;
+    let verdicts = run_apart_watched(rt, alloc, run, parts, workers, gate)?;
     let column = Column::First {
         verdicts: &verdicts,
         lines,
     };
+    let job = run.job();
     write_table(alloc, job.circuit(), job.faults(), &column, format, out)
 }

@@ -2,6 +2,7 @@ use Rattle.std.proofs.Common.{◌≡◌, ◌∙◌, ap, arith, false, length, re
 use Rattle.std.proofs.lemmas.Result.{err_from_is_err_and}
 use Rattle.bench_net.proofs.Public.{some_signal}
 use Rattle.fault_model.specs.Fault.{faults}
+use Rattle.job_loading.specs.RunJobs.{RunParts}
 use Rattle.report.specs.Curve.{curve}
 use Rattle.workers.specs.Verdict.{detected_count}
 use Rattle.tables.specs.CurveTables.{curve_table}
@@ -10,7 +11,7 @@ use Rattle.tables.proofs.curve_table.write_run.Goals as goal
 
 pub prove-unreachable-requires : goal.prove-unreachable-requires
 prove-unreachable-requires g c =
-    let job = c.args.job.now in
+    let job = c.args.run.now.parts in
     let together = c.requires.job in
     let has = c.stems.ensures job.list.model job.circuit 0 false
     (some_signal job.circuit together.circuit.well_formed) in
@@ -25,8 +26,9 @@ returns-in_err-put_text-clause-written g c =
     let p = err_from_is_err_and c.from_residual-in_err-put_text.result
     c.from_residual-in_err-put_text.ensures.1 in
     let firsts = c.in_ok-verdicts.verdicts.firsts in
-    let count = c.count.ensures ∙ ap (λ t. length t.tests) c.tests.ensures.part in
-    let points = curve (length c.args.job.now.tests.tests) firsts in
+    let count = c.count.ensures ∙ ap (λ t. length t.tests) c.tests.ensures.tests
+    ∙ ap (λ (r : RunParts). length r.parts.tests.tests) c.in_ok-verdicts.ensures.kept in
+    let points = curve (length c.args.run.now.parts.tests.tests) firsts in
     let same : c.deref.result.now ≡ points =
     c.deref.ensures.value ∙ (c.in_ok-points.ensures ∙ ap (λ n. curve n firsts) count) in
     let text = rw (
@@ -44,8 +46,9 @@ returns-in_err-put_text-clause-written g c =
 pub returns-clause-written : goal.returns-clause-written
 returns-clause-written g c =
     let firsts = c.in_ok-verdicts.verdicts.firsts in
-    let count = c.count.ensures ∙ ap (λ t. length t.tests) c.tests.ensures.part in
-    let points = curve (length c.args.job.now.tests.tests) firsts in
+    let count = c.count.ensures ∙ ap (λ t. length t.tests) c.tests.ensures.tests
+    ∙ ap (λ (r : RunParts). length r.parts.tests.tests) c.in_ok-verdicts.ensures.kept in
+    let points = curve (length c.args.run.now.parts.tests.tests) firsts in
     let same : c.deref.result.now ≡ points =
     c.deref.ensures.value ∙ (c.in_ok-points.ensures ∙ ap (λ n. curve n firsts) count) in
     let text = rw (

@@ -6,44 +6,44 @@ use Rattle.tables.specs.Tables.{IsFirstTableOf, IsFirstTableOfJob}
 use Rattle.tables.proofs.TablesOfTexts.{firsts_of_texts, written_as}
 use Rattle.tables.proofs.table.run_table_watched.Goals as goal
 
-pub returns-in_err-job-clause-refused : goal.returns-in_err-job-clause-refused
-returns-in_err-job-clause-refused g c =
+pub returns-in_err-run-clause-refused : goal.returns-in_err-run-clause-refused
+returns-in_err-run-clause-refused g c =
     let p = err_from_is_err_and c.from_residual.result
     c.from_residual.ensures.1 in
     rw (p.1, p.2) (split_refused c.args.model c.args.bench.now c.args.tests.now c.args.split
     c.args.workers (g.G.Gate.passing c.args.gate.now) (g.G.Gate.stops c.args.gate.now) _
-    c.in_err-job.ensures.refused)
+    c.in_err-run.ensures.refused)
 
 pub returns-clause-refused : goal.returns-clause-refused
 returns-clause-refused g c =
-    let job = c.in_ok-job.job in
-    let parts = c.in_ok-job.parts in
+    let job = c.in_ok-run.run'.parts in
+    let parts = c.in_ok-run.parts in
     let passing = g.G.Gate.passing c.args.gate.now in
     let stops = g.G.Gate.stops c.args.gate.now in
     refused_as (IsJobTextFault c.args.workers (IsPartsFault job parts c.args.workers passing stops))
     (IsWatchedFault c.args.model c.args.bench.now c.args.tests.now c.args.split c.args.workers
     passing stops)
     c.write_run.result (split_text_fault c.args.model c.args.bench.now c.args.tests.now
-    c.args.split parts c.args.workers passing stops job c.in_ok-job.ensures.job
-    c.in_ok-job.ensures.parts)
+    c.args.split parts c.args.workers passing stops job c.in_ok-run.ensures.job
+    c.in_ok-run.ensures.parts)
     c.write_run.ensures.refused
 
 pub returns-clause-written : goal.returns-clause-written
 returns-clause-written g c =
-    let job = c.in_ok-job.job in
+    let job = c.in_ok-run.run'.parts in
     written_as (IsFirstTableOfJob job c.args.lines c.args.format)
     (IsFirstTableOf c.args.model c.args.bench.now c.args.tests.now c.args.lines c.args.format)
     c.write_run.result _ _
     (firsts_of_texts c.args.model c.args.bench.now c.args.tests.now job c.args.lines
-    c.args.format c.in_ok-job.ensures.job)
+    c.args.format c.in_ok-run.ensures.job)
     c.write_run.ensures.written
 
 pub returns-clause-within : goal.returns-clause-within
 returns-clause-within g c =
-    let job = c.in_ok-job.job in
-    let parts = c.in_ok-job.parts in
+    let job = c.in_ok-run.run'.parts in
+    let parts = c.in_ok-run.parts in
     ok_as (ArePartsWithin job parts)
     (IsWithin c.args.model c.args.bench.now c.args.tests.now c.args.split) c.write_run.result
     (split_within c.args.model c.args.bench.now c.args.tests.now c.args.split parts c.args.workers
-    job c.in_ok-job.ensures.job c.in_ok-job.ensures.parts)
+    job c.in_ok-run.ensures.job c.in_ok-run.ensures.parts)
     c.write_run.ensures.within
