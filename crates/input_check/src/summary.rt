@@ -9,9 +9,13 @@ use fault_model::{Model, collapse, list_faults_in};
 use patterns::{BLOCK_SIZE, MAX_PIECES, MAX_TESTS, Tests};
 use std::alloc::{AllocError, Global};
 use std::fmt::{self, Display, Formatter};
+use workers::window_blocks;
 
 /// The blocks of the most tests that a run takes.
 const MAX_BLOCKS: u32 = MAX_TESTS / BLOCK_SIZE;
+
+/// The number of workers of `run` by default.
+const USUAL_WORKERS: u64 = 4;
 
 /// The kinds of gates and their names, in the order of [`Counts::gates`].
 static KINDS: [(Kind, &str); 8] = [
@@ -120,18 +124,17 @@ impl Counts {
         self.classes.div_ceil(classes_of_part).max(1)
     }
 
-    /// Estimates the bytes of a run of these tests, by the figures of the README.
-    fn memory(&self, tests: &Tests, workers: u64) -> u64 {
+    /// Estimates the bytes of a run of this number of tests, by the figures of the README. The run
+    /// has the fault-free words of this number of groups of two blocks at a time.
+    fn memory(&self, tests: u32, groups: u32, workers: u64) -> u64 {
         let signals = u64::from(self.signals);
         let classes = u64::from(self.classes);
         let sources = self.inputs.saturating_add(self.cells) as u64;
-        let blocks = u64::from(tests.blocks());
-        let text = sources
-            .saturating_add(1)
-            .saturating_mul(u64::from(tests.count()));
+        let blocks = u64::from(tests.div_ceil(BLOCK_SIZE));
+        let text = sources.saturating_add(1).saturating_mul(u64::from(tests));
         let words = signals
             .saturating_mul(16)
-            .saturating_mul(blocks.div_ceil(2))
+            .saturating_mul(u64::from(groups))
             .saturating_add(sources.saturating_mul(8).saturating_mul(blocks));
         let lists = self
             .all_gates()
@@ -141,12 +144,34 @@ impl Counts {
             .saturating_add(u64::from(self.faults).saturating_mul(4))
             .saturating_add(classes.saturating_mul(12 + 40));
         let each = signals
-            .saturating_mul(53)
+            .saturating_mul(61)
             .saturating_add(classes.saturating_mul(48));
         text.saturating_add(words)
             .saturating_add(lists)
             .saturating_add(each.saturating_mul(workers))
     }
+
+    /// Estimates the bytes of a run as a whole, with the words of all tests.
+    fn memory_whole(&self, tests: u32, workers: u64) -> u64 {
+        self.memory(tests, groups_of(tests), workers)
+    }
+
+    /// Estimates the bytes of a run in parts, which goes window by window.
+    fn memory_in_windows(&self, tests: u32, workers: u64) -> u64 {
+        // The blocks by which a window goes on, and the block before.
+        let window = window_blocks(self.signals) / 2 + 1;
+        self.memory(tests, window.min(groups_of(tests)), workers)
+    }
+}
+
+/// Returns the number of groups of two blocks that this number of tests has.
+fn groups_of(tests: u32) -> u32 {
+    tests.div_ceil(2 * BLOCK_SIZE)
+}
+
+/// Returns the least number of megabytes that is above a number of bytes.
+fn megabytes(bytes: u64) -> u64 {
+    bytes / 1_000_000 + 1
 }
 
 /// Returns the name of a model on the command line.
@@ -174,11 +199,19 @@ fn fmt_gates<W: fmt::Write>(gates: &[u64], f: &mut Formatter<W>) -> fmt::Result 
 }
 
 impl Counts {
-    /// Writes the number of parts for the most tests, if they are too many for one run.
+    /// Writes the number of parts for the most tests, and the memory of a run in these, if the tests
+    /// are too many for one run.
     fn fmt_parts<W: fmt::Write>(&self, f: &mut Formatter<W>) -> fmt::Result {
         match self.parts_of(MAX_BLOCKS) {
             1 => Ok(()),
-            parts => writeln!(f, "parts       {parts:>10} at least, for {MAX_TESTS} tests"),
+            parts => {
+                writeln!(f, "parts       {parts:>10} at least, for {MAX_TESTS} tests")?;
+                let megabytes = megabytes(self.memory_in_windows(MAX_TESTS, USUAL_WORKERS));
+                writeln!(
+                    f,
+                    "  memory    {megabytes:>10} MB, some, for {USUAL_WORKERS} workers"
+                )
+            }
         }
     }
 }
@@ -203,9 +236,6 @@ impl Display for Counts {
     }
 }
 
-/// The number of workers of `run` by default.
-const USUAL_WORKERS: u64 = 4;
-
 /// The size of a run of tests.
 #[derive(Clone, Copy, Debug, PartialEq, Eq)]
 pub struct TestCounts {
@@ -216,6 +246,8 @@ pub struct TestCounts {
     pub pieces: u64,
     /// An estimate of the bytes of a run with four workers.
     pub bytes: u64,
+    /// The same for a run in parts, which has the fault-free words of some tests at a time.
+    pub bytes_in_parts: u64,
 }
 
 /// Computes the size of a run of tests on a circuit with these counts.
@@ -227,7 +259,8 @@ pub fn count_tests(counts: &Counts, tests: &Tests) -> TestCounts
         tests: tests.count(),
         blocks,
         pieces: u64::from(counts.classes).saturating_mul(u64::from(blocks)),
-        bytes: counts.memory(tests, USUAL_WORKERS),
+        bytes: counts.memory_whole(tests.count(), USUAL_WORKERS),
+        bytes_in_parts: counts.memory_in_windows(tests.count(), USUAL_WORKERS),
     }
 }
 
@@ -288,7 +321,14 @@ impl Display for TestCounts {
         fmt_row("tests", u64::from(self.tests), f)?;
         fmt_row("blocks", u64::from(self.blocks), f)?;
         fmt_row("pieces", self.pieces, f)?;
-        let megabytes = self.bytes / 1_000_000 + 1;
-        writeln!(f, "memory      {megabytes:>10} MB, some, for 4 workers")
+        let whole = megabytes(self.bytes);
+        writeln!(
+            f,
+            "memory      {whole:>10} MB, some, for {USUAL_WORKERS} workers"
+        )?;
+        match megabytes(self.bytes_in_parts) {
+            parts if parts < whole => writeln!(f, "  --parts   {parts:>10} MB, some"),
+            _ => Ok(()),
+        }
     }
 }

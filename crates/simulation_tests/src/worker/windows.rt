@@ -48,14 +48,16 @@ fn are_firsts(verdicts: &[PartVerdict]) -> bool {
     verdicts.len() == FIRSTS.len()
 }
 
-/// Returns whether a job whose tests stand apart runs on these.
+/// Returns whether a job whose tests stand apart runs on these: all classes, and one part of one.
 fn is_right_apart<R: Threads + Wait>(rt: &R, alloc: Global) -> Result<bool, SimFault> {
     let job = job_of(alloc, &BEFORE)?;
     let text = rows_text(alloc, EDGES)?;
     let tests: Tests = read_tests(alloc, text.as_slice(), job.circuit().sources())?;
     let mut run = RunJob::apart(job, tests);
     let verdicts = run.run(rt, alloc, 1, 2, &OpenGate)?;
-    Ok(has_firsts(&verdicts, &FIRSTS) && run.tests().count() == 129)
+    let part = run.run_part(rt, alloc, 0, 1, 2, &OpenGate)?;
+    let is_right = has_firsts(&verdicts, &FIRSTS) && are_firsts(part.as_slice());
+    Ok(is_right && run.tests().count() == 129)
 }
 
 #[test]
