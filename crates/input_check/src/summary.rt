@@ -199,8 +199,8 @@ fn fmt_gates<W: fmt::Write>(gates: &[u64], f: &mut Formatter<W>) -> fmt::Result 
 }
 
 impl Counts {
-    /// Writes the number of parts for the most tests, and the memory of a run in these, if the tests
-    /// are too many for one run.
+    /// Writes the number of parts for the most tests, and the memory of a run in these, if the
+    /// tests are too many for one run.
     fn fmt_parts<W: fmt::Write>(&self, f: &mut Formatter<W>) -> fmt::Result {
         match self.parts_of(MAX_BLOCKS) {
             1 => Ok(()),

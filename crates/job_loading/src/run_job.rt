@@ -118,8 +118,8 @@ impl RunJob {
         }
     }
 
-    /// Runs the classes of one part, counted from 0, of a number of parts, with the verdicts and the
-    /// errors of [`workers::run_part`]. If the tests stand apart, it runs window by window
+    /// Runs the classes of one part, counted from 0, of a number of parts, with the verdicts and
+    /// the errors of [`workers::run_part`]. If the tests stand apart, it runs window by window
     /// ([`workers::run_part_in_windows`]), under a gate that lets each piece pass.
     pub fn run_part<R: Threads + Wait, G: Gate + Sync>(
         &mut self,

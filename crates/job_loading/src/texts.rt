@@ -206,9 +206,9 @@ fn read_and_guess<R: Threads + Wait>(
     )
 }
 
-/// Reads tests with the width of their first row, if there is one. Returns `None` if the file has an
-/// error at this width, or memory ran out. A row of more than `most` digits is no guess, so a file
-/// without line feeds takes no memory.
+/// Reads tests with the width of their first row, if there is one. Returns `None` if the file has
+/// an error at this width, or memory ran out. A row of more than `most` digits is no guess, so a
+/// file without line feeds takes no memory.
 fn guess_tests<R: Threads + Wait>(
     rt: &R,
     alloc: Global,
@@ -229,8 +229,8 @@ fn guess_tests<R: Threads + Wait>(
     read_tests_in_threads(rt, alloc, text, width, workers).ok()
 }
 
-/// Returns the tests of a file: the guessed ones if they have this width. If not, it lets them go and
-/// reads the file.
+/// Returns the tests of a file: the guessed ones if they have this width. If not, it lets them go
+/// and reads the file.
 fn tests_of_width<R: Threads + Wait>(
     rt: &R,
     alloc: Global,
