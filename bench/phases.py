@@ -10,6 +10,10 @@ function of its own (PHASES) and goes on until that of another one, so what the 
 handing out memory, counts for it. The times of a busy machine are still shares of the work, since a
 sample is of processor time.
 
+It also prints how long the simulation took by the clock: from the first sample of a thread in a
+function of the simulation (SIMULATION) to the last, the least of all rounds. This time is only right
+on a quiet machine.
+
 It wants a program with symbols, such as `contrib/build -O 3` leaves in out/faultsim, which is the
 default. The circuits and tests are made in a temporary folder, or stay in the one that --folder names.
 """
@@ -20,6 +24,7 @@ import re
 import subprocess
 import sys
 import tempfile
+from typing import NamedTuple
 
 import compare
 from compare import Case
@@ -31,6 +36,7 @@ CASES = [
     Case("picosoc16k", "picosoc, 16,384 tests", "design picosoc", 16384),
     Case("r100k", "100,000 random gates, 256 tests", compare.R100K, 256),
     Case("r100k64k", "100,000 random gates, 65,536 tests", compare.R100K, 65536),
+    Case("V2", "22,179 random gates, 10 outputs, 2,048 tests", compare.DEEP + " --join-unread", 2048),
     Case("list900k", "900,000 random gates, listed", compare.R900K),
 ]
 # As many parts as the tests of these need.
@@ -48,8 +54,9 @@ PHASES = {
     "verdicts": r"workers::(parts|verdicts|stretch_run::lowest)",
     "report": r"report::|part_files::|byte_output::|itoa::",
 }
-WAITS = "waits"
 BEGIN = "start"
+# The functions of a thread that simulates.
+SIMULATION = r"block_sim::(region_simulation|pack|unit_\w+|sensitized|known_\w+)::|workers::stretch_run::"
 # Threads read both files at the same time, so until the next phase each has the phase of its own functions.
 READING = ("read bench", "read tests")
 
@@ -58,33 +65,47 @@ def phase_of(symbol):
     return next((name for name, words in PHASES.items() if re.match(words, symbol)), None)
 
 
+class Sample(NamedTuple):
+    thread: str
+    is_first: bool      # whether it is of the thread that starts the program
+    clock: float        # when, in milliseconds of the machine's clock
+    took: float         # the milliseconds of processor time that it stands for
+    symbol: str         # the function
+
+
 def samples(data):
-    """The samples of a recording: the thread, whether it is the first, the milliseconds, and the function."""
-    words = ["perf", "script", "-i", str(data), "-F", "pid,tid,period,ip,sym"]
+    """The samples of a recording."""
+    words = ["perf", "script", "-i", str(data), "-F", "pid,tid,time,period,ip,sym"]
     out = subprocess.run(words, stdout=subprocess.PIPE, stderr=subprocess.DEVNULL, check=True, text=True)
     for line in out.stdout.splitlines():
-        found = re.match(r"\s*(\d+)/(\d+)\s+(\d+)\s+\w+ (.*)", line)
+        found = re.match(r"\s*(\d+)/(\d+)\s+([\d.]+):\s+(\d+)\s+\w+ (.*)", line)
         if found:
-            pid, tid, period, symbol = found.groups()
-            yield tid, pid == tid, int(period) / 1e6, symbol.strip()
+            pid, tid, clock, period, symbol = found.groups()
+            yield Sample(tid, pid == tid, float(clock) * 1e3, int(period) / 1e6, symbol.strip())
 
 
-def times(data):
+def times(taken):
     """The milliseconds of each phase of the first thread, and those of all other threads by phase."""
     own, others, now, reads = {}, {}, BEGIN, {}
-    for thread, is_first, took, symbol in samples(data):
-        if is_first:
-            now = phase_of(symbol) or now
-            own[now] = own.get(now, 0) + took
+    for sample in taken:
+        if sample.is_first:
+            now = phase_of(sample.symbol) or now
+            own[now] = own.get(now, 0) + sample.took
             continue
         if now == BEGIN or now in READING:
-            if phase_of(symbol) in READING:
-                reads[thread] = phase_of(symbol)
-            phase = reads.get(thread, now)
+            if phase_of(sample.symbol) in READING:
+                reads[sample.thread] = phase_of(sample.symbol)
+            phase = reads.get(sample.thread, now)
         else:
             phase = now
-        others[phase] = others.get(phase, 0) + took
+        others[phase] = others.get(phase, 0) + sample.took
     return own, others
+
+
+def simulation(taken):
+    """How many milliseconds the simulation took by the clock."""
+    clocks = [it.clock for it in taken if not it.is_first and re.match(SIMULATION, it.symbol)]
+    return max(clocks) - min(clocks) if clocks else 0
 
 
 def recorded(words, folder):
@@ -93,19 +114,22 @@ def recorded(words, folder):
     ran = subprocess.run(command, stdout=subprocess.DEVNULL, stderr=subprocess.PIPE, check=False)
     if ran.returncode:
         sys.exit(f"perf: {ran.stderr.decode()[:500]}")
-    return times(data)
+    return list(samples(data))
 
 
 def measure(words, options, folder):
-    own, others = {}, {}
+    """The means of the phases of the first thread and of the others, and the least time of the simulation."""
+    own, others, spans = {}, {}, []
     for _ in range(options.rounds):
-        for table, found in zip((own, others), recorded(words, folder)):
+        taken = recorded(words, folder)
+        spans.append(simulation(taken))
+        for table, found in zip((own, others), times(taken)):
             for phase, took in found.items():
                 table[phase] = table.get(phase, 0) + took / options.rounds
-    return own, others
+    return own, others, min(spans)
 
 
-def told(case, workers, own, others):
+def told(case, workers, own, others, span):
     whole = sum(own.values()) + sum(others.values())
     print(f"{case.name}, {case.title}, {workers} workers: {whole:.0f} ms of processor time")
     for phase in [BEGIN, *PHASES]:
@@ -115,6 +139,8 @@ def told(case, workers, own, others):
             print(f"  {phase:20} {mine:8.1f}{beside}")
     alone = sum(own.values())
     print(f"  {'first thread':20} {alone:8.1f}, {alone / whole:.0%} of all", flush=True)
+    if span:
+        print(f"  {'simulation':20} {span:8.1f} by the clock", flush=True)
 
 
 def words_of(case, folder, program, workers):
@@ -144,8 +170,9 @@ def main():
             if options.only and options.only != case.name:
                 continue
             for workers in options.workers if case.tests else [1]:
-                own, others = measure(words_of(case, folder, options.program.resolve(), workers), options, pathlib.Path(name))
-                told(case, workers, own, others)
+                words = words_of(case, folder, options.program.resolve(), workers)
+                own, others, span = measure(words, options, pathlib.Path(name))
+                told(case, workers, own, others, span)
 
 
 if __name__ == "__main__":
