@@ -22,7 +22,8 @@ use Rattle.bench_net.specs.Stored.{statements_of, read_numbers, numbers, name_at
 use Rattle.bench_net.specs.Stored.{AreStatements, AreRefused, IsFirstStuck}
 use Rattle.bench_net.specs.Tables.{defines_number, output_number, signal_read, pin_readers}
 use Rattle.bench_net.specs.Tables.{output_readers, line_readers, all_readers, PinsFit, input_number}
-use Rattle.bench_net.specs.Tables.{cell_numbers, source_signals, sinks_at, line_gate}
+use Rattle.bench_net.specs.Tables.{cell_numbers, source_signals, sinks_at, line_gate, signals_in}
+use Rattle.bench_net.specs.Tables.{all_pins}
 use Rattle.list_lemmas.proofs.Members.{Among, contained, among_left, among_right, among}
 use Rattle.list_lemmas.proofs.Members.{mapped_from, filtered_from, among_joined}
 use Rattle.std.proofs.lemmas.List.Elements.{Contains-get_or, filter-append, All-contains}
@@ -41,7 +42,7 @@ use Rattle.bench_net.specs.declared.BenchFault.{BenchFault}
 use Rattle.bench_net.specs.declared.BenchFault.TheVariants.{Memory, Cycle}
 use Rattle.bench_net.specs.Circuit.{IsCircuit, sink_count}
 use Rattle.bench_net.specs.Marks.{pins_in, gate_pins, AreLevelsOf, IsLowestStuck, IsLevelFault}
-use Rattle.bench_net.specs.Inside.{signals_in, AreTableLines, AreTables, IsInside, IsPlace}
+use Rattle.bench_net.specs.Inside.{AreTableLines, AreTables, IsInside, IsPlace}
 use Rattle.list_lemmas.proofs.Places.{at_place}
 use Rattle.bench_net.proofs.LineTables.{definition_count}
 use Rattle.bench_net.proofs.NumberedLines.{reads_numbers, reads_held, known}
@@ -71,6 +72,15 @@ line_count : (lines : List NumberedLine) (l : NumberedLine) → Contains lines l
     → length (read_numbers l) ≤ length (flat_map read_numbers lines)
 line_count lines l (k, lt, is) =
     grind (arith, is, length-flat_map-take read_numbers lines k l lt)
+
+-- the pins read no more than the lines
+pin_count : (lines : List NumberedLine)
+    → length (all_pins lines) ≤ length (flat_map read_numbers lines)
+pin_count [] = omega arith
+pin_count (line.Gate s g ∷ lines) = grind (arith, common_steps, pin_count lines)
+pin_count (line.Input s ∷ lines) = pin_count lines
+pin_count (line.Output s ∷ lines) = grind (arith, common_steps, pin_count lines)
+pin_count (line.Dff q d ∷ lines) = grind (arith, common_steps, pin_count lines)
 
 fits : (l : NumberedLine) → length (read_numbers l) < 2 ^ 32 → PinsFit l
 fits (line.Gate s g) few = few
@@ -312,20 +322,16 @@ module _ (ns : List Name) (lines : List NumberedLine) (at : List ℕ)
       omega (arith, below, from.2, name_count, count)
 
   -- the pins of a signal are the names that a line reads
-  reads : (s : ℕ) → (length (gate_pins lines s) ≤ length (flat_map read_numbers lines))
-      × ((p : ℕ) → Among p (gate_pins lines s) → Among p (flat_map read_numbers lines))
+  reads : (s p : ℕ) → Among p (gate_pins lines s) → Among p (flat_map read_numbers lines)
   reads s = go (slice_get (filter defines_number lines) s) refl
     where
       go : (o : Option NumberedLine) → slice_get (filter defines_number lines) s ≡ o
-          → (length (pins_in (line_gate o)) ≤ length (flat_map read_numbers lines))
-          × ((p : ℕ) → Among p (pins_in (line_gate o)) → Among p (flat_map read_numbers lines))
+          → (p : ℕ) → Among p (pins_in (line_gate o)) → Among p (flat_map read_numbers lines)
       go (Some (line.Gate t g)) e =
           let own = at_place (filter defines_number lines) s (line.Gate t g) e in
-          let there = (filtered_from defines_number lines (line.Gate t g) own).0 in (
-            line_count lines (line.Gate t g) (contained lines (line.Gate t g) there),
-            λ p a. among_joined read_numbers lines (line.Gate t g) p there a,
-          )
-      go _ e = (omega arith, λ p a. absurd a)
+          let there = (filtered_from defines_number lines (line.Gate t g) own).0 in
+          λ p a. among_joined read_numbers lines (line.Gate t g) p there a
+      go _ e = λ p a. absurd a
 
   pub table_lines : AreTableLines lines
   table_lines = record {
@@ -342,10 +348,8 @@ module _ (ns : List Name) (lines : List NumberedLine) (at : List ℕ)
     pins_fit = λ l has. fits l (omega (arith, line_count lines l has, read_count, are.sinks));
     graph = record {
       few = omega (arith, count, are.signals);
-      few_lines = omega (arith, few_lines);
-      definitions_are = refl;
-      few_pins = λ s. omega (arith, (reads s).0, read_count, are.sinks);
-      pins_below = λ s p a. omega (arith, count, in_range p (reads_held lines p ((reads s).1 p a)));
+      few_pins = omega (arith, pin_count lines, read_count, are.sinks);
+      pins_below = λ s p a. omega (arith, count, in_range p (reads_held lines p (reads s p a)));
     };
   }
     where
@@ -389,22 +393,22 @@ module _ (ns : List Name) (lines : List NumberedLine) (at : List ℕ)
   inside tables tabled some = record {
     circuit = circuit tables tabled some;
     names_are = are.names_are;
-    inputs_are = tabled.inputs_are ∙ inputs_are ns (signal c) lines all;
-    cells_are = ap (map {B = ℕ × ℕ} (λ cell. (cell.q, cell.d))) tabled.cells_are
+    inputs_are = tabled.of_lines_are.inputs_are ∙ inputs_are ns (signal c) lines all;
+    cells_are = ap (map {B = ℕ × ℕ} (λ cell. (cell.q, cell.d))) tabled.of_lines_are.cells_are
         ∙ cells_are ns (signal c) lines all;
-    outputs_are = tabled.outputs_are ∙ outputs_are ns (signal c) lines all;
-    source_count = ap length tabled.sources_are ∙ source_count;
-    place_count = tabled.places_are.count ∙ count ∙ sym name_count;
+    outputs_are = tabled.of_lines_are.outputs_are ∙ outputs_are ns (signal c) lines all;
+    source_count = ap length tabled.of_lines_are.sources_are ∙ source_count;
+    place_count = tabled.of_lines_are.places_are.count ∙ count ∙ sym name_count;
     places_are = λ s lt. place_at s lt _ refl;
     few_lines = omega (arith, table_lines.few_lines);
-    definitions_are = tabled.definitions_are;
-    definition_count = ap length tabled.definitions_are ∙ count ∙ sym name_count;
+    definitions_are = tabled.of_lines_are.definitions_are;
+    definition_count = ap length tabled.of_lines_are.definitions_are ∙ count ∙ sym name_count;
     gates_are = λ s. gate_is ns c lines s all;
-    have_rows = λ s lt. (tabled.sinks_are.row s (omega (arith, lt, count, name_count))).0;
+    have_rows = λ s lt. (tabled.of_lines_are.sinks_are.row s (omega (arith, lt, count, name_count))).0;
     sinks_are = λ s n e.
         let has = contained (names c) n (at_place (names c) s n e) in
         let lt = slice_get_within (names c) s n e in
-        (tabled.sinks_are.row s (omega (arith, lt, count, name_count))).1
+        (tabled.of_lines_are.sinks_are.row s (omega (arith, lt, count, name_count))).1
         ∙ rw (← number_of s n e) (sinks_are c n has ns lines refl all
         (cells_once c (distinct_from_pairs (names c) once)));
     level_count = levelled.count;
@@ -431,9 +435,9 @@ module _ (ns : List Name) (lines : List NumberedLine) (at : List ℕ)
       levelled = by_names levels tabled.levels_are
 
       place_at : (s : ℕ) → s < length (names c) → (place : Option ℕ)
-          → slice_index_or tables.source_places.items s None ≡ place → IsPlace c s place
+          → slice_index_or tables.of_lines.source_places.items s None ≡ place → IsPlace c s place
       place_at s lt (Some i) e =
-          let at = tabled.places_are.some s i (omega (arith, lt, count, name_count)) e in
+          let at = tabled.of_lines_are.places_are.some s i (omega (arith, lt, count, name_count)) e in
           let within : i < length (sources c) = omega (arith, at.0, source_count) in
           let number = sym (source_at i within) ∙ at.1 in
           let named = named_number c _ s number lt in
@@ -453,7 +457,7 @@ module _ (ns : List Name) (lines : List NumberedLine) (at : List ℕ)
               within,
               name,
               source_at i within,
-              tabled.places_are.none s i,
+              tabled.of_lines_are.places_are.none s i,
               number_of s _ (slice_get-get_or (names c) s [] lt),
             ),
       )

@@ -4,6 +4,7 @@ use Rattle.std.specs.Prelude.{Option, Some, None, IfSome, IfNone, slice_get, sli
 use Rattle.std.specs.Prelude.{slice_index_or}
 use Rattle.std.specs.List.{filter_map}
 use Rattle.bench_net.specs.declared.line.NumberedLine.{NumberedLine}
+use Rattle.bench_net.specs.declared.tables.LineTables.{LineTables}
 use Rattle.bench_net.specs.declared.tables.Tables.{Tables}
 use Rattle.bench_net.specs.Statement.{Name, Statement}
 use Rattle.bench_net.specs.Scan.{names, signal, name_of, gate_of, inputs, outputs, cells, sources}
@@ -12,13 +13,10 @@ use Rattle.bench_net.specs.Circuit.{IsCircuit}
 use Rattle.bench_net.specs.Level.{greatest, HasLevel, HasDepth, IsLevelOrder}
 use Rattle.bench_net.specs.Rows.{AreRows}
 use Rattle.bench_net.specs.Tables.{PinsFit, signal_read, input_number, cell_numbers, output_number}
-use Rattle.bench_net.specs.Tables.{source_signals, ArePlaces, definition_places, defines_number}
+use Rattle.bench_net.specs.Tables.{source_signals, ArePlaces, definition_places, signals_in}
+use Rattle.bench_net.specs.Tables.{defines_number}
 use Rattle.bench_net.specs.Tables.{line_gate, gate_pins, all_readers, AreSinkRows, HasRow, row_of}
 use Rattle.bench_net.specs.Marks.{IsGraph, AreLevelsOf}
-
--- the number of signals that lines define
-abbrev pub signals_in : List NumberedLine → ℕ
-signals_in lines = length (definition_places lines)
 
 -- lines few enough to be numbered, which name no other signals than the ones that they define
 pub record AreTableLines (lines : List NumberedLine) : Type 0 where
@@ -30,10 +28,10 @@ pub record AreTableLines (lines : List NumberedLine) : Type 0 where
   pub readers_below : All (λ s. s < signals_in lines)
       (map signal_read (all_readers lines (filter_map output_number lines)))
   pub pins_fit : (l : NumberedLine) → Contains lines l → PinsFit l
-  pub graph : IsGraph lines (definition_places lines)
+  pub graph : IsGraph lines
 
--- the tables of lines over numbered signals
-pub record AreTables (lines : List NumberedLine) (tables : Tables) : Type 0 where
+-- the tables that passes over lines compute
+pub record AreLineTables (lines : List NumberedLine) (tables : LineTables) : Type 0 where
   pub inputs_are : tables.inputs.items ≡ filter_map input_number lines
   pub cells_are : tables.cells.items ≡ filter_map cell_numbers lines
   pub outputs_are : tables.outputs.items ≡ filter_map output_number lines
@@ -43,6 +41,10 @@ pub record AreTables (lines : List NumberedLine) (tables : Tables) : Type 0 wher
       (length (source_signals lines)) tables.source_places.items
   pub sinks_are : AreSinkRows (all_readers lines (filter_map output_number lines))
       (signals_in lines) tables.sinks.starts.items tables.sinks.sinks.items
+
+-- the tables of lines over numbered signals
+pub record AreTables (lines : List NumberedLine) (tables : Tables) : Type 0 where
+  pub of_lines_are : AreLineTables lines tables.of_lines
   pub levels_are : AreLevelsOf (gate_pins lines) (signals_in lines) tables.levels.levels.items
   pub order_is : (starts : List ℕ) × AreRows tables.levels.levels.items (tables.levels.depth + 1)
       starts tables.levels.order.items
@@ -58,22 +60,22 @@ pub record IsInside (c : List Statement) (ns : List Name) (lines : List Numbered
     (tables : Tables) : Type 0 where
   pub circuit : IsCircuit c
   pub names_are : names c ≡ ns
-  pub inputs_are : tables.inputs.items ≡ map (signal c) (inputs c)
-  pub cells_are : map {B = ℕ × ℕ} (λ cell. (cell.q, cell.d)) tables.cells.items
+  pub inputs_are : tables.of_lines.inputs.items ≡ map (signal c) (inputs c)
+  pub cells_are : map {B = ℕ × ℕ} (λ cell. (cell.q, cell.d)) tables.of_lines.cells.items
       ≡ map (λ cell. (signal c cell.0, signal c cell.1)) (cells c)
-  pub outputs_are : tables.outputs.items ≡ map (signal c) (outputs c)
-  pub source_count : length tables.sources.items ≡ length (sources c)
-  pub place_count : length tables.source_places.items ≡ length (names c)
+  pub outputs_are : tables.of_lines.outputs.items ≡ map (signal c) (outputs c)
+  pub source_count : length tables.of_lines.sources.items ≡ length (sources c)
+  pub place_count : length tables.of_lines.source_places.items ≡ length (names c)
   pub places_are : (s : ℕ) → s < length (names c)
-      → IsPlace c s (slice_index_or tables.source_places.items s None)
+      → IsPlace c s (slice_index_or tables.of_lines.source_places.items s None)
   pub few_lines : length lines < 2 ^ 32
-  pub definitions_are : tables.definitions.items ≡ definition_places lines
-  pub definition_count : length tables.definitions.items ≡ length (names c)
+  pub definitions_are : tables.of_lines.definitions.items ≡ definition_places lines
+  pub definition_count : length tables.of_lines.definitions.items ≡ length (names c)
   pub gates_are : (s : ℕ) → line_gate (slice_get (filter defines_number lines) s) ≡ gate_of c s
   pub have_rows : (s : ℕ) → s < length (names c)
-      → HasRow tables.sinks.starts.items tables.sinks.sinks.items s
+      → HasRow tables.of_lines.sinks.starts.items tables.of_lines.sinks.sinks.items s
   pub sinks_are : (s : ℕ) (n : Name) → name_of c s ≡ Some n
-      → row_of tables.sinks.starts.items tables.sinks.sinks.items s ≡ sinks c n
+      → row_of tables.of_lines.sinks.starts.items tables.of_lines.sinks.sinks.items s ≡ sinks c n
   pub level_count : length tables.levels.levels.items ≡ length (names c)
   pub levels_are : (s : ℕ) → s < length (names c)
       → HasLevel c s (slice_index tables.levels.levels.items s)

@@ -9,16 +9,26 @@ use Rattle.bench_net.specs.declared.levels.Mark.TheVariants.{Unknown, Open, Leve
 use Rattle.bench_net.specs.declared.levels.OpenGate.{OpenGate}
 use Rattle.bench_net.specs.declared.BenchFault.{BenchFault}
 use Rattle.bench_net.specs.declared.BenchFault.TheVariants.{Memory, Cycle}
-use Rattle.bench_net.specs.Tables.{definition_places}
+use Rattle.bench_net.specs.Tables.{signals_in, all_pins, HasRow, row_of}
 pub use Rattle.bench_net.specs.Tables.{pins_in, gate_pins}
 
--- the line of each signal stands at its place, and each pin reads a signal
-pub record IsGraph (lines : List NumberedLine) (definitions : List ℕ) : Type 0 where
-  pub few : length definitions < 2 ^ 31
-  pub few_lines : length lines < 2 ^ 32
-  pub definitions_are : definitions ≡ definition_places lines
-  pub few_pins : (s : ℕ) → length (gate_pins lines s) < 2 ^ 32
-  pub pins_below : (s p : ℕ) → Among p (gate_pins lines s) → p < length definitions
+-- lines few enough to be numbered, whose pins each read a signal
+pub record IsGraph (lines : List NumberedLine) : Type 0 where
+  pub few : signals_in lines < 2 ^ 31
+  pub few_pins : length (all_pins lines) < 2 ^ 32
+  pub pins_below : (s p : ℕ) → Among p (gate_pins lines s) → p < signals_in lines
+
+-- the pins of each signal below a number are a row, and no other signal has pins
+pub record ArePinRows (pins : ℕ → List ℕ) (signals : ℕ) (starts read : List ℕ) : Type 0 where
+  pub have_rows : (s : ℕ) → s < signals → HasRow starts read s
+  pub rows_are : (s : ℕ) → row_of starts read s ≡ pins s
+
+-- each signal below a number has a row of pins, and each pin reads a signal
+pub record IsPinGraph (starts read : List ℕ) (signals : ℕ) : Type 0 where
+  pub few : signals < 2 ^ 31
+  pub have_rows : (s : ℕ) → s < signals → HasRow starts read s
+  pub few_pins : (s : ℕ) → length (row_of starts read s) < 2 ^ 32
+  pub pins_below : (s p : ℕ) → Among p (row_of starts read s) → p < signals
 
 -- signals that all have levels, and one more than the greatest of these
 pub data HaveLevels (pins : ℕ → List ℕ) : List ℕ → ℕ → Type 0 where

@@ -1,7 +1,7 @@
 -- Tables of stored lines, by the numbers that the lines hold.
 use Rattle.std.specs.Prelude.{◌≡◌, ◌≢◌, ℕ, ◌+◌, ◌<◌, ◌≤◌, ◌^◌, ◌==◌, Bool, List, [], ◌∷◌, ◌++◌, map}
 use Rattle.std.specs.Prelude.{filter, length, Option, Some, None, true, false, if◌then◌else◌}
-use Rattle.std.specs.Prelude.{slice_get, slice_index, slice_index_or, slice_range}
+use Rattle.std.specs.Prelude.{flat_map, slice_get, slice_index, slice_index_or, slice_range}
 use Rattle.std.specs.List.{enumerate_from, filter_map}
 use Rattle.bench_net.specs.declared.Kind.{Kind}
 use Rattle.bench_net.specs.declared.line.NumberedLine.{NumberedLine}
@@ -48,9 +48,17 @@ place_in at = if defines_number at.1 then Some at.0 else None
 abbrev pub definition_places : List NumberedLine → List ℕ
 definition_places lines = filter_map place_in (enumerate_from 0 lines)
 
+-- the number of signals that lines define
+abbrev pub signals_in : List NumberedLine → ℕ
+signals_in lines = length (definition_places lines)
+
 -- the numbers that the pins of a signal's gate read
 abbrev pub gate_pins : List NumberedLine → ℕ → List ℕ
 gate_pins lines s = pins_in (line_gate (slice_get (filter defines_number lines) s))
+
+-- the numbers that the pins of all gates read, in order
+abbrev pub all_pins : List NumberedLine → List ℕ
+all_pins lines = flat_map (λ l. pins_in (line_gate (Some l))) lines
 
 -- of each signal below a number its place among the first n sources
 pub record ArePlaces (sources : List ℕ) (signals n : ℕ) (places : List (Option ℕ)) : Type 0 where
@@ -102,15 +110,15 @@ reader_at readers place = slice_index_or readers place no_reader
 abbrev pub sinks_at : List Reader → ℕ → List Sink
 sinks_at readers s = map (λ reader. reader.sink) (filter (λ reader. reader.signal == s) readers)
 
--- a signal has a row of sinks
-pub record HasRow (starts : List ℕ) (sinks : List Sink) (s : ℕ) : Type 0 where
+-- a signal has a row of a list
+pub record HasRow {X : Type 0} (starts : List ℕ) (xs : List X) (s : ℕ) : Type 0 where
   pub known : s + 1 < length starts
   pub in_order : slice_index starts s ≤ slice_index starts (s + 1)
-  pub within : slice_index starts (s + 1) ≤ length sinks
+  pub within : slice_index starts (s + 1) ≤ length xs
 
 -- the row of a signal
-abbrev pub row_of : List ℕ → List Sink → ℕ → List Sink
-row_of starts sinks s = slice_range sinks (slice_index starts s) (slice_index starts (s + 1))
+abbrev pub row_of : {X : Type 0} → List ℕ → List X → ℕ → List X
+row_of starts xs s = slice_range xs (slice_index starts s) (slice_index starts (s + 1))
 
 -- the sinks of each signal below a number, row by row
 pub record AreSinkRows (readers : List Reader) (signals : ℕ) (starts : List ℕ)

@@ -12,10 +12,12 @@ ghost use Rattle.bench_net.specs.Stored.{statements_of, AreStatements, AreRefuse
 use crate::line::{NumberedLine, line_of};
 use crate::name_table::NameTable;
 use crate::read::Lines;
-use crate::tables::{Tables, tables_of};
+use crate::tables::{Tables, tables_of, tables_of_in_threads};
 use crate::{BenchFault, GateLine, ScanCell, Sink};
 use std::alloc::Global;
 use std::marker::Model;
+use std::sync::Wait;
+use std::thread::Threads;
 
 /// A circuit, seen by contracts as its statement list.
 #[derive(Drop)]
@@ -57,14 +59,14 @@ impl Circuit {
         ensures count { result ≡ length (sources self.now) }
         ensures some { 1 ≤ result }
     {
-        self.tables.sources.len() as u32
+        self.tables.of_lines.sources.len() as u32
     }
 
     /// Returns the signals of the INPUT lines, in order.
     pub fn inputs(&self) -> &[u32]
         ensures { result.now ≡ map (signal self.now) (inputs self.now) }
     {
-        self.tables.inputs.as_slice()
+        self.tables.of_lines.inputs.as_slice()
     }
 
     /// Returns the flip-flop cells in order, under full scan: `q` is a source and `d` is observed.
@@ -72,14 +74,14 @@ impl Circuit {
         ensures { map {B = ℕ × ℕ} (λ cell. (cell.q, cell.d)) result.now
             ≡ map (λ cell. (signal self.now cell.0, signal self.now cell.1)) (cells self.now) }
     {
-        self.tables.cells.as_slice()
+        self.tables.of_lines.cells.as_slice()
     }
 
     /// Returns the signal of each OUTPUT line, in order.
     pub fn outputs(&self) -> &[u32]
         ensures { result.now ≡ map (signal self.now) (outputs self.now) }
     {
-        self.tables.outputs.as_slice()
+        self.tables.of_lines.outputs.as_slice()
     }
 
     /// Returns the place of a signal in a test, from 0; `None` for the signal of a gate.
@@ -90,7 +92,7 @@ impl Circuit {
         ensures none { IfNone result ((i : ℕ) →
             slice_get (sources self.now) i ≢ name_of self.now signal) }
     {
-        self.tables.source_places[signal as usize]
+        self.tables.of_lines.source_places[signal as usize]
     }
 
     /// Returns the name of a signal, as the bench file spells it.
@@ -107,7 +109,7 @@ impl Circuit {
         ensures { option_map {U = Kind × List ℕ} (λ g. (g.now.kind, g.now.pins.items)) result
             ≡ gate_of self.now signal }
     {
-        match line_of(&self.lines, &self.tables.definitions, signal) {
+        match line_of(&self.lines, &self.tables.of_lines.definitions, signal) {
             NumberedLine::Gate(_, gate) => Some(gate),
             NumberedLine::Input(_) | NumberedLine::Output(_) | NumberedLine::Dff(_, _) => None,
         }
@@ -119,7 +121,7 @@ impl Circuit {
         requires { signal < length (names self.now) }
         ensures { (n : List ℕ) → name_of self.now signal ≡ Some n → result.now ≡ sinks self.now n }
     {
-        self.tables.sinks.row(signal)
+        self.tables.of_lines.sinks.row(signal)
     }
 
     /// Returns the level of a signal: 0 for a source, and for a gate one more than the greatest
@@ -160,6 +162,31 @@ pub fn circuit_of(alloc: Global, lines: Lines) -> Result<Circuit, BenchFault>
         return Err(BenchFault::Empty);
     }
     let tables = tables_of(alloc, &lines, &at)?;
+    Ok(Circuit {
+        names,
+        lines,
+        tables,
+    })
+}
+
+/// Makes the circuit of numbered statements as [`circuit_of`] does, with the same errors, in two
+/// threads.
+pub fn circuit_of_in_threads<R: Threads + Wait>(
+    rt: &R,
+    alloc: Global,
+    lines: Lines,
+) -> Result<Circuit, BenchFault>
+    requires { AreStatements lines.names lines.lines.items lines.at.items }
+    ensures accepted { IfOk result (λ c.
+        (c ≡ statements_of lines.names lines.lines.items) × IsCircuit c) }
+    ensures refused { IfErr result (λ fault. (fault ≡ BenchFault.Memory)
+        ⊎ AreRefused lines.names lines.lines.items lines.at.items fault) }
+{
+    let Lines { names, lines, at } = lines;
+    if lines.is_empty() {
+        return Err(BenchFault::Empty);
+    }
+    let tables = tables_of_in_threads(rt, alloc, &lines, &at)?;
     Ok(Circuit {
         names,
         lines,

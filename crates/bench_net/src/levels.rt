@@ -3,18 +3,19 @@
 //! The search goes along a path of open gates, without recursion, because a circuit may be as deep
 //! as it has gates.
 
-ghost use Rattle.std.specs.Prelude.{◌≡◌, ◌+◌, ◌<◌, ◌≤◌, ℕ, List, length, map, reverse, slice_get};
-ghost use Rattle.std.specs.Prelude.{slice_index, [], ◌∷◌, Some, IfOk, IfErr, OnOk};
+ghost use Rattle.std.specs.Prelude.{◌≡◌, ◌+◌, ◌<◌, ◌≤◌, ℕ, List, length, map, reverse};
+ghost use Rattle.std.specs.Prelude.{slice_index, [], ◌∷◌, ◌^◌, Some, IfOk, IfErr, OnOk};
 ghost use Rattle.bench_net.specs.Level.{greatest};
 ghost use Rattle.bench_net.specs.Rows.{AreRows};
-ghost use Rattle.bench_net.specs.Tables.{line_gate};
+ghost use Rattle.bench_net.specs.Tables.{line_gate, all_pins, signals_in, HasRow, row_of};
 ghost use Rattle.bench_net.specs.Marks.{pins_in, gate_pins, IsGraph, AreLevelsOf, IsLevelFault};
-ghost use Rattle.bench_net.specs.Marks.{HaveLevelsBelow, IsSearch, steps, level_in};
+ghost use Rattle.bench_net.specs.Marks.{ArePinRows, IsPinGraph, HaveLevelsBelow, IsSearch, steps};
+ghost use Rattle.bench_net.specs.Marks.{level_in};
 
 use crate::BenchFault;
-use crate::line::{NumberedLine, line_of};
+use crate::line::{NumberedLine, defines};
 use crate::rows::rows_of;
-use std::alloc::Global;
+use std::alloc::{AllocError, Global};
 
 /// The level of each signal, the signals in the order of their levels, and the greatest level.
 #[derive(Drop)]
@@ -22,6 +23,26 @@ pub struct Levels {
     pub levels: Vec<u32>,
     pub order: Vec<u32>,
     pub depth: u32,
+}
+
+/// The pins of all gates, close together. The gate of signal `s` reads the signals
+/// `pins[starts[s]..starts[s + 1]]`, which are none if `s` is a source.
+#[derive(Drop)]
+struct PinRows {
+    starts: Vec<u32>,
+    pins: Vec<u32>,
+}
+
+impl PinRows {
+    /// Returns the signals that the gate of a signal reads.
+    fn row(&self, signal: u32) -> &[u32]
+        requires { HasRow self.now.starts.items self.now.pins.items signal }
+        ensures { result.now ≡ row_of self.now.starts.items self.now.pins.items signal }
+    {
+        let start = self.starts[signal as usize] as usize;
+        let end = self.starts[signal as usize + 1] as usize;
+        &self.pins[start..end]
+    }
 }
 
 /// The state of a signal: unknown, an open gate, or a level.
@@ -52,86 +73,91 @@ fn pins(line: &NumberedLine) -> &[u32]
     }
 }
 
-/// Returns the signal that a pin of a signal's gate reads, if there is such a pin.
-fn pin_of(lines: &[NumberedLine], definitions: &[usize], signal: u32, pin: u32) -> Option<u32>
-    requires graph { IsGraph lines.now definitions.now }
-    requires below { signal < length definitions.now }
-    ensures { result ≡ slice_get (gate_pins lines.now signal) pin }
+/// Returns the pins of the lines' gates.
+fn pin_rows(alloc: Global, lines: &[NumberedLine]) -> Result<PinRows, AllocError>
+    requires { length (all_pins lines.now) < 2 ^ 32 }
+    ensures { IfOk result (λ rows. ArePinRows (gate_pins lines.now) (signals_in lines.now)
+        rows.starts.items rows.pins.items) }
 {
-    pins(line_of(lines, definitions, signal))
-        .get(pin as usize)
-        .copied()
+    let mut starts = Vec::new(alloc);
+    let mut all = Vec::new(alloc);
+    for line in lines {
+        if defines(line) {
+            starts.push(all.len() as u32)?;
+            all.extend_from_slice(pins(line))?;
+        }
+    }
+    starts.push(all.len() as u32)?;
+    Ok(PinRows { starts, pins: all })
 }
 
-/// Advances the open gate at the end of the path by one pin. It goes past a pin whose signal has a
-/// level, to an unknown signal, or out of the gate with a level. A pin that reads an open signal
-/// closes a cycle.
+/// Advances the open gate at the end of the path past pins whose signals have levels, to an unknown
+/// signal, or out of the gate with a level. A pin that reads an open signal closes a cycle.
 fn visit(
-    lines: &[NumberedLine],
-    definitions: &[usize],
+    rows: &PinRows,
     at: &[u64],
     start: u32,
-    gate: OpenGate,
+    mut gate: OpenGate,
     marks: &mut Vec<Mark>,
     path: &mut Vec<OpenGate>,
 ) -> Result<(), BenchFault>
-    requires graph { IsGraph lines.now definitions.now }
-    requires at { length at.now ≡ length definitions.now }
-    requires lower { HaveLevelsBelow (gate_pins lines.now) start }
-    requires search { IsSearch (gate_pins lines.now) (length definitions.now) (start + 1)
-        marks.old.items (gate ∷ reverse path.old.items) }
-    ensures search { OnOk result (IsSearch (gate_pins lines.now) (length definitions.now)
-        (start + 1) marks.new.items (reverse path.new.items)
-        × (steps (gate_pins lines.now) marks.new.items (reverse path.new.items)
-        < steps (gate_pins lines.now) marks.old.items (gate ∷ reverse path.old.items))) }
-    ensures fault { IfErr result
-        (IsLevelFault (gate_pins lines.now) (length definitions.now) at.now) }
+    requires graph { IsPinGraph rows.now.starts.items rows.now.pins.items (length at.now) }
+    requires lower { HaveLevelsBelow (row_of rows.now.starts.items rows.now.pins.items) start }
+    requires search { IsSearch (row_of rows.now.starts.items rows.now.pins.items) (length at.now)
+        (start + 1) marks.old.items (gate ∷ reverse path.old.items) }
+    ensures search { OnOk result (IsSearch (row_of rows.now.starts.items rows.now.pins.items)
+        (length at.now) (start + 1) marks.new.items (reverse path.new.items)
+        × (steps (row_of rows.now.starts.items rows.now.pins.items) marks.new.items
+        (reverse path.new.items)
+        < steps (row_of rows.now.starts.items rows.now.pins.items) marks.old.items
+        (gate ∷ reverse path.old.items))) }
+    ensures fault { IfErr result (IsLevelFault (row_of rows.now.starts.items rows.now.pins.items)
+        (length at.now) at.now) }
 {
-    let Some(signal) = pin_of(lines, definitions, gate.signal, gate.pin) else {
-        marks[gate.signal as usize] = Mark::Level(gate.level);
-        return Ok(());
-    };
-    match marks[signal as usize] {
-        Mark::Level(lower) => path.push(OpenGate {
-            pin: gate.pin + 1,
-            level: gate.level.max(lower + 1),
-            ..gate
-        })?,
-        Mark::Unknown => {
-            marks[signal as usize] = Mark::Open;
-            path.push(gate)?;
-            path.push(OpenGate {
-                signal,
-                pin: 0,
-                level: 0,
-            })?;
+    let pins = rows.row(gate.signal);
+    while let Some(pin) = pins.get(gate.pin as usize) {
+        let signal = *pin;
+        match marks[signal as usize] {
+            Mark::Level(lower) => {
+                gate.pin += 1;
+                gate.level = gate.level.max(lower + 1);
+            }
+            Mark::Unknown => {
+                marks[signal as usize] = Mark::Open;
+                path.push(gate)?;
+                path.push(OpenGate {
+                    signal,
+                    pin: 0,
+                    level: 0,
+                })?;
+                return Ok(());
+            }
+            Mark::Open => return Err(BenchFault::Cycle(at[start as usize])),
         }
-        Mark::Open => return Err(BenchFault::Cycle(at[start as usize])),
     }
+    marks[gate.signal as usize] = Mark::Level(gate.level);
     Ok(())
 }
 
 /// Marks a signal with its level, and also the lower signals that need one. Each lower signal has a
 /// level.
 fn settle(
-    lines: &[NumberedLine],
-    definitions: &[usize],
+    rows: &PinRows,
     at: &[u64],
     start: u32,
     marks: &mut Vec<Mark>,
     path: &mut Vec<OpenGate>,
 ) -> Result<(), BenchFault>
-    requires graph { IsGraph lines.now definitions.now }
-    requires at { length at.now ≡ length definitions.now }
-    requires start { start < length definitions.now }
-    requires search { IsSearch (gate_pins lines.now) (length definitions.now) start
-        marks.old.items [] }
+    requires graph { IsPinGraph rows.now.starts.items rows.now.pins.items (length at.now) }
+    requires start { start < length at.now }
+    requires search { IsSearch (row_of rows.now.starts.items rows.now.pins.items) (length at.now)
+        start marks.old.items [] }
     requires path { path.old.items ≡ [] }
-    ensures search { OnOk result (IsSearch (gate_pins lines.now) (length definitions.now)
-        (start + 1) marks.new.items []) }
+    ensures search { OnOk result (IsSearch (row_of rows.now.starts.items rows.now.pins.items)
+        (length at.now) (start + 1) marks.new.items []) }
     ensures path { OnOk result (path.new.items ≡ []) }
-    ensures fault { IfErr result
-        (IsLevelFault (gate_pins lines.now) (length definitions.now) at.now) }
+    ensures fault { IfErr result (IsLevelFault (row_of rows.now.starts.items rows.now.pins.items)
+        (length at.now) at.now) }
 {
     if let Mark::Unknown = marks[start as usize] {
         marks[start as usize] = Mark::Open;
@@ -142,7 +168,7 @@ fn settle(
         })?;
     }
     while let Some(gate) = path.pop() {
-        visit(lines, definitions, at, start, gate, marks, path)?;
+        visit(rows, at, start, gate, marks, path)?;
     }
     Ok(())
 }
@@ -161,46 +187,36 @@ fn level_in(mark: &Mark) -> u32
 /// level of its inputs. The signals get their levels in order, each after the signals that it
 /// needs. A gate goes past each of its pins once, so the time is linear in the number of pins. A
 /// path that meets itself is on a cycle, which feeds the first signal of the path.
-fn signal_levels(
-    alloc: Global,
-    lines: &[NumberedLine],
-    definitions: &[usize],
-    at: &[u64],
-) -> Result<Vec<u32>, BenchFault>
-    requires graph { IsGraph lines.now definitions.now }
-    requires at { length at.now ≡ length definitions.now }
-    ensures levels { IfOk result (λ levels. AreLevelsOf (gate_pins lines.now)
-        (length definitions.now) levels.items) }
-    ensures fault { IfErr result
-        (IsLevelFault (gate_pins lines.now) (length definitions.now) at.now) }
+fn signal_levels(alloc: Global, rows: &PinRows, at: &[u64]) -> Result<Vec<u32>, BenchFault>
+    requires { IsPinGraph rows.now.starts.items rows.now.pins.items (length at.now) }
+    ensures levels { IfOk result (λ levels. AreLevelsOf
+        (row_of rows.now.starts.items rows.now.pins.items) (length at.now) levels.items) }
+    ensures fault { IfErr result (IsLevelFault (row_of rows.now.starts.items rows.now.pins.items)
+        (length at.now) at.now) }
 {
-    let mut marks = vec![in alloc; Mark::Unknown; definitions.len()]?;
+    let mut marks = vec![in alloc; Mark::Unknown; at.len()]?;
     let mut path = Vec::new(alloc);
-    for start in 0..definitions.len() as u32 {
-        settle(lines, definitions, at, start, &mut marks, &mut path)?;
+    for start in 0..at.len() as u32 {
+        settle(rows, at, start, &mut marks, &mut path)?;
     }
     Ok(marks.iter().map(|mark| level_in(mark)).collect(alloc)?)
 }
 
-/// Returns the levels of lines whose definitions are at these places. It fails if a signal is on a
-/// cycle of gates or fed by one, with the lowest such line by its number.
-pub fn levels_of(
-    alloc: Global,
-    lines: &[NumberedLine],
-    definitions: &[usize],
-    at: &[u64],
-) -> Result<Levels, BenchFault>
-    requires graph { IsGraph lines.now definitions.now }
-    requires at { length at.now ≡ length definitions.now }
-    ensures levels { IfOk result (λ l. AreLevelsOf (gate_pins lines.now)
-        (length definitions.now) l.levels.items) }
+/// Returns the levels of the signals of lines, given the number of each signal's line. It fails if
+/// a signal is on a cycle of gates or fed by one, with the lowest such line by its number.
+pub fn levels_of(alloc: Global, lines: &[NumberedLine], at: &[u64]) -> Result<Levels, BenchFault>
+    requires graph { IsGraph lines.now }
+    requires at { length at.now ≡ signals_in lines.now }
+    ensures levels { IfOk result (λ l. AreLevelsOf (gate_pins lines.now) (signals_in lines.now)
+        l.levels.items) }
     ensures order { IfOk result (λ l. (starts : List ℕ)
         × AreRows l.levels.items (l.depth + 1) starts l.order.items) }
     ensures depth { IfOk result (λ l. l.depth ≡ greatest l.levels.items) }
     ensures fault { IfErr result
-        (IsLevelFault (gate_pins lines.now) (length definitions.now) at.now) }
+        (IsLevelFault (gate_pins lines.now) (signals_in lines.now) at.now) }
 {
-    let levels = signal_levels(alloc, lines, definitions, at)?;
+    let rows = pin_rows(alloc, lines)?;
+    let levels = signal_levels(alloc, &rows, at)?;
     let depth = levels.iter().fold(0, |depth, level| depth.max(*level));
     let order = rows_of(alloc, &levels, depth as usize + 1)?.places;
     Ok(Levels {

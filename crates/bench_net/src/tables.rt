@@ -2,20 +2,32 @@
 
 ghost use Rattle.std.specs.Prelude.{◌≡◌, ◌^◌, ◌++◌, ◌<◌, map, length, All, IfOk, IfErr};
 ghost use Rattle.std.specs.List.{filter_map};
-ghost use Rattle.bench_net.specs.Tables.{input_number, output_number, cell_numbers, defines_number};
-ghost use Rattle.bench_net.specs.Tables.{definition_places, gate_pins, ArePlaces};
+ghost use Rattle.bench_net.specs.Tables.{input_number, output_number, cell_numbers};
+ghost use Rattle.bench_net.specs.Tables.{definition_places, signals_in, gate_pins, ArePlaces};
 ghost use Rattle.bench_net.specs.Marks.{IsLevelFault};
-ghost use Rattle.bench_net.specs.Inside.{signals_in, AreTableLines, AreTables};
+ghost use Rattle.bench_net.specs.Inside.{AreTableLines, AreLineTables, AreTables};
 
 use crate::levels::{Levels, levels_of};
-use crate::line::NumberedLine;
+use crate::line::{NumberedLine, defines};
 use crate::sinks::{SinkRows, readers_of, sink_rows};
 use crate::{BenchFault, ScanCell};
 use std::alloc::{AllocError, Global};
+use std::sync::Wait;
+use std::thread;
+use std::thread::Threads;
+
+/// The tables of a circuit.
+#[derive(Drop)]
+pub struct Tables {
+    /// The tables of its lines.
+    pub of_lines: LineTables,
+    /// For each signal its level.
+    pub levels: Levels,
+}
 
 /// The tables that passes over the lines of a circuit compute.
 #[derive(Drop)]
-pub struct Tables {
+pub struct LineTables {
     /// The signals of the INPUT lines.
     pub inputs: Vec<u32>,
     /// The flip-flop cells.
@@ -30,15 +42,6 @@ pub struct Tables {
     pub definitions: Vec<usize>,
     /// For each signal its sinks.
     pub sinks: SinkRows,
-    /// For each signal its level.
-    pub levels: Levels,
-}
-
-/// Returns whether a line defines a signal: every line but an OUTPUT line does.
-fn defines(line: &NumberedLine) -> bool
-    ensures { result ≡ defines_number line.now }
-{
-    !matches!(line, NumberedLine::Output(_))
 }
 
 /// Returns the signals of the INPUT lines, in order.
@@ -122,14 +125,10 @@ pub fn source_places(
     Ok(places)
 }
 
-/// Returns the tables of lines. It fails if a signal is on a cycle of gates or fed by one, with the
-/// lowest such line by its number.
-pub fn tables_of(alloc: Global, lines: &[NumberedLine], at: &[u64]) -> Result<Tables, BenchFault>
-    requires lines { AreTableLines lines.now }
-    requires at { length at.now ≡ signals_in lines.now }
-    ensures tables { IfOk result (AreTables lines.now) }
-    ensures fault { IfErr result
-        (IsLevelFault (gate_pins lines.now) (signals_in lines.now) at.now) }
+/// Returns the tables that passes over the lines compute.
+fn line_tables(alloc: Global, lines: &[NumberedLine]) -> Result<LineTables, AllocError>
+    requires { AreTableLines lines.now }
+    ensures { IfOk result (AreLineTables lines.now) }
 {
     let inputs = input_signals(alloc, lines)?;
     let cells = cells(alloc, lines)?;
@@ -137,13 +136,9 @@ pub fn tables_of(alloc: Global, lines: &[NumberedLine], at: &[u64]) -> Result<Ta
     let sources = sources(alloc, &inputs, &cells)?;
     let definitions = definitions(alloc, lines)?;
     let source_places = source_places(alloc, &sources, definitions.len())?;
-    let sinks = sink_rows(
-        alloc,
-        &readers_of(alloc, lines, &outputs)?,
-        definitions.len(),
-    )?;
-    let levels = levels_of(alloc, lines, &definitions, at)?;
-    Ok(Tables {
+    let readers = readers_of(alloc, lines, &outputs)?;
+    let sinks = sink_rows(alloc, &readers, definitions.len())?;
+    Ok(LineTables {
         inputs,
         cells,
         outputs,
@@ -151,6 +146,43 @@ pub fn tables_of(alloc: Global, lines: &[NumberedLine], at: &[u64]) -> Result<Ta
         source_places,
         definitions,
         sinks,
-        levels,
     })
+}
+
+/// Returns the tables of lines, given the number of each signal's line. It fails if a signal is on
+/// a cycle of gates or fed by one, with the lowest such line by its number.
+pub fn tables_of(alloc: Global, lines: &[NumberedLine], at: &[u64]) -> Result<Tables, BenchFault>
+    requires lines { AreTableLines lines.now }
+    requires at { length at.now ≡ signals_in lines.now }
+    ensures tables { IfOk result (AreTables lines.now) }
+    ensures fault { IfErr result
+        (IsLevelFault (gate_pins lines.now) (signals_in lines.now) at.now) }
+{
+    let of_lines = line_tables(alloc, lines)?;
+    let levels = levels_of(alloc, lines, at)?;
+    Ok(Tables { of_lines, levels })
+}
+
+/// Returns the tables of lines as [`tables_of`] does, with the same errors. One thread finds the
+/// levels while another one makes the other tables.
+pub fn tables_of_in_threads<R: Threads + Wait>(
+    rt: &R,
+    alloc: Global,
+    lines: &[NumberedLine],
+    at: &[u64],
+) -> Result<Tables, BenchFault>
+    requires lines { AreTableLines lines.now }
+    requires at { length at.now ≡ signals_in lines.now }
+    ensures tables { IfOk result (AreTables lines.now) }
+    ensures fault { IfErr result
+        (IsLevelFault (gate_pins lines.now) (signals_in lines.now) at.now) }
+{
+    let (of_lines, levels) = thread::join(
+        rt,
+        move || line_tables(alloc, lines),
+        move || levels_of(alloc, lines, at),
+    );
+    let of_lines = of_lines?;
+    let levels = levels?;
+    Ok(Tables { of_lines, levels })
 }
