@@ -404,7 +404,8 @@ module _ (ns : List Name) (lines : List NumberedLine) (at : List ℕ)
     definitions_are = tabled.of_lines_are.definitions_are;
     definition_count = ap length tabled.of_lines_are.definitions_are ∙ count ∙ sym name_count;
     gates_are = λ s. gate_is ns c lines s all;
-    have_rows = λ s lt. (tabled.of_lines_are.sinks_are.row s (omega (arith, lt, count, name_count))).0;
+    have_rows = λ s lt.
+        (tabled.of_lines_are.sinks_are.row s (omega (arith, lt, count, name_count))).0;
     sinks_are = λ s n e.
         let has = contained (names c) n (at_place (names c) s n e) in
         let lt = slice_get_within (names c) s n e in
@@ -437,7 +438,8 @@ module _ (ns : List Name) (lines : List NumberedLine) (at : List ℕ)
       place_at : (s : ℕ) → s < length (names c) → (place : Option ℕ)
           → slice_index_or tables.of_lines.source_places.items s None ≡ place → IsPlace c s place
       place_at s lt (Some i) e =
-          let at = tabled.of_lines_are.places_are.some s i (omega (arith, lt, count, name_count)) e in
+          let at = tabled.of_lines_are.places_are.some s i
+          (omega (arith, lt, count, name_count)) e in
           let within : i < length (sources c) = omega (arith, at.0, source_count) in
           let number = sym (source_at i within) ∙ at.1 in
           let named = named_number c _ s number lt in

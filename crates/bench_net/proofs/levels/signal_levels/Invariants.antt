@@ -4,7 +4,5 @@ use Rattle.bench_net.specs.Marks.{IsSearch}
 use Rattle.bench_net.proofs.levels.signal_levels.Given as goal
 
 abbrev pub invariant-loop-start : goal.invariant-loop-start
-invariant-loop-start l =
-    IsSearch (row_of l.rows.starts.items l.rows.pins.items)
-    (length l.at) l.start l.marks.items []
-    × (l.path.items ≡ [])
+invariant-loop-start l = IsSearch (row_of l.rows.starts.items l.rows.pins.items) (length l.at)
+    l.start l.marks.items [] × (l.path.items ≡ [])
