@@ -101,7 +101,7 @@ all_readers lines outputs = line_readers 0 lines ++ output_readers outputs
 
 -- the reader at a place, and past the last one a reader of nothing
 abbrev pub no_reader : Reader
-no_reader = record { signal = 0; sink = Out 0 }
+no_reader = record { signal = 0; sink = Pin 0 0 }
 
 abbrev pub reader_at : List Reader → ℕ → Reader
 reader_at readers place = slice_index_or readers place no_reader

@@ -5,11 +5,12 @@ ghost use Rattle.std.specs.Prelude.{Contains, OnOk, IfOk};
 ghost use Rattle.bench_net.specs.Tables.{pin_readers, output_readers, line_readers, all_readers};
 ghost use Rattle.bench_net.specs.Tables.{signal_read, reader_at, row_of, HasRow, AreSinkRows};
 ghost use Rattle.bench_net.specs.Tables.{PinsFit};
+ghost use Rattle.bench_net.specs.Rows.{AreStarts, rows_before};
 ghost use Rattle.bench_net.specs.declared.line.NumberedLine.{NumberedLine};
 
 use crate::Sink;
 use crate::line::NumberedLine;
-use crate::rows::rows_of;
+use crate::rows::starts_of;
 use std::alloc::{AllocError, Global};
 
 /// A sink, and the signal that it reads.
@@ -94,15 +95,24 @@ fn add_lines(readers: &mut Vec<Reader>, lines: &[NumberedLine]) -> Result<(), Al
     Ok(())
 }
 
-/// Returns the sinks of the readers at these places.
-fn sinks_of(alloc: Global, readers: &[Reader], places: &[u32]) -> Result<Vec<Sink>, AllocError>
-    requires { All (λ place. place < length readers.now) places.now }
-    ensures { IfOk result (λ sinks. sinks.items
-        ≡ map (λ place. (reader_at readers.now place).sink) places.now) }
+/// Writes the sink of each reader after the earlier sinks of its signal. `next` has the next free
+/// index of each signal.
+fn placed_sinks(
+    alloc: Global,
+    readers: &[Reader],
+    mut next: Vec<u32>,
+) -> Result<Vec<Sink>, AllocError>
+    requires few { length readers.now < 2 ^ 32 }
+    requires below { All (λ s. s < length next.items) (map signal_read readers.now) }
+    requires starts { AreStarts (map signal_read readers.now) next.items }
+    ensures { IfOk result (λ sinks. sinks.items ≡ map (λ place. (reader_at readers.now place).sink)
+        (rows_before (map signal_read readers.now) (length next.items))) }
 {
-    let mut sinks = Vec::with_capacity(alloc, places.len())?;
-    for place in places {
-        sinks.push(readers[*place as usize].sink)?;
+    let mut sinks = vec![in alloc; Sink::Out { output: 0 }; readers.len()]?;
+    for reader in readers {
+        let spot = next[reader.signal as usize];
+        sinks[spot as usize] = reader.sink;
+        next[reader.signal as usize] = spot + 1;
     }
     Ok(sinks)
 }
@@ -140,10 +150,7 @@ pub fn sink_rows(alloc: Global, readers: &[Reader], signals: usize) -> Result<Si
         AreSinkRows readers.now signals rows.starts.items rows.sinks.items) }
 {
     let keys = signals_of(alloc, readers)?;
-    let rows = rows_of(alloc, &keys, signals + 1)?;
-    let sinks = sinks_of(alloc, readers, &rows.places)?;
-    Ok(SinkRows {
-        starts: rows.starts,
-        sinks,
-    })
+    let starts = starts_of(alloc, &keys, signals + 1)?;
+    let sinks = placed_sinks(alloc, readers, Vec::from_slice(alloc, &starts)?)?;
+    Ok(SinkRows { starts, sinks })
 }

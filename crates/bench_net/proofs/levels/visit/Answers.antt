@@ -81,7 +81,8 @@ bounds-at-start c = omega (arith, (stuck (goal.at.bounds-at-start c).In-Open).0)
 pub returns-in-Open-clause-fault : goal.returns-in-Open-clause-fault
 returns-in-Open-clause-fault c =
     let first = stuck (goal.at.returns-in-Open-clause-fault c).In-Open in
-    (c.args.start, slice_get-get_or c.args.at.now c.args.start 0 first.0, first)
+    let number = slice_get-get_or c.args.at.now c.args.start 0 first.0 in
+    (c.args.start, grind (arith, number), first)
 
 pub returns-clause-search : goal.returns-clause-search
 returns-clause-search c =
