@@ -9,7 +9,8 @@ use Rattle.bench_net.specs.declared.line.NumberedLine.TheVariants as line
 use Rattle.bench_net.specs.Tables.{defines_number, gate_pins, all_pins, HasRow, row_of, signals_in}
 use Rattle.bench_net.specs.Tables.{line_gate}
 use Rattle.bench_net.specs.Marks.{pins_in, ArePinRows, IsGraph, IsPinGraph, AreLevelsOf}
-use Rattle.bench_net.specs.Marks.{IsLevelFault}
+use Rattle.bench_net.specs.Marks.{IsLevelFault, pins_by}
+use Rattle.bench_net.specs.declared.levels.PinRows.{PinRows}
 use Rattle.bench_net.specs.declared.BenchFault.{BenchFault}
 use Rattle.list_lemmas.proofs.Members.{Among}
 use mathlib.Core.Path.{fun_ext}
@@ -100,12 +101,14 @@ has_row (l ∷ lines) xs all n count is (suc s) lt =
       within = omega (arith, next n s (pin_starts (n + length ps) lines), more.within);
     }
 
-pub pin_rows_are : (lines : List NumberedLine) (starts all : List ℕ) → starts ≡ pin_starts 0 lines
-    → all ≡ all_pins lines → ArePinRows (gate_pins lines) (signals_in lines) starts all
-pin_rows_are lines starts all starts_are is = rw starts_are (record {
-  have_rows = λ s lt. has_row lines [] all 0 refl is s (omega (arith, lt, definition_count lines));
-  rows_are = row_at lines [] all 0 refl is;
-})
+pub pin_rows_are : (lines : List NumberedLine) (rows : PinRows)
+    → rows.starts.items ≡ pin_starts 0 lines → rows.pins.items ≡ all_pins lines
+    → ArePinRows (gate_pins lines) (signals_in lines) rows
+pin_rows_are lines rows starts_are is = record {
+  have_rows = λ s lt. rw starts_are
+      (has_row lines [] rows.pins.items 0 refl is s (omega (arith, lt, definition_count lines)));
+  rows_are = λ s. rw starts_are (row_at lines [] rows.pins.items 0 refl is s);
+}
 
 -- a gate has no more pins than all gates
 few : (lines : List NumberedLine) (s : ℕ) → length (gate_pins lines s) ≤ length (all_pins lines)
@@ -116,10 +119,10 @@ few (l ∷ lines) zero = grind (arith, common_steps)
 few (l ∷ lines) (suc s) = grind (arith, common_steps, few lines s)
 
 -- the rows are the pins of the lines' gates
-module _ (lines : List NumberedLine) (starts all : List ℕ) (n : ℕ)
-    (are : ArePinRows (gate_pins lines) (signals_in lines) starts all)
+module _ (lines : List NumberedLine) (rows : PinRows) (n : ℕ)
+    (are : ArePinRows (gate_pins lines) (signals_in lines) rows)
     (count : n ≡ signals_in lines) where
-  pub pin_graph : IsGraph lines → IsPinGraph starts all n
+  pub pin_graph : IsGraph lines → IsPinGraph rows n
   pin_graph graph = record {
     few = omega (arith, count, graph.few);
     have_rows = λ s lt. are.have_rows s (omega (arith, lt, count));
@@ -128,13 +131,13 @@ module _ (lines : List NumberedLine) (starts all : List ℕ) (n : ℕ)
         omega (arith, count, graph.pins_below s p (subst (λ ps. Among p ps) (are.rows_are s) a));
   }
 
-  pub levels_by_rows : (levels : List ℕ) → AreLevelsOf (row_of starts all) n levels
+  pub levels_by_rows : (levels : List ℕ) → AreLevelsOf (pins_by rows) n levels
       → AreLevelsOf (gate_pins lines) (signals_in lines) levels
   levels_by_rows levels by = subst (λ k. AreLevelsOf (gate_pins lines) k levels) count
       (subst (λ f. AreLevelsOf f n levels) (fun_ext are.rows_are) by)
 
   pub fault_by_rows : (at : List ℕ) (fault : BenchFault)
-      → IsLevelFault (row_of starts all) n at fault
+      → IsLevelFault (pins_by rows) n at fault
       → IsLevelFault (gate_pins lines) (signals_in lines) at fault
   fault_by_rows at fault by = subst (λ k. IsLevelFault (gate_pins lines) k at fault) count
       (subst (λ f. IsLevelFault f n at fault) (fun_ext are.rows_are) by)

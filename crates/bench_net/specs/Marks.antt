@@ -7,6 +7,7 @@ use Rattle.bench_net.specs.declared.line.NumberedLine.{NumberedLine}
 use Rattle.bench_net.specs.declared.levels.Mark.{Mark}
 use Rattle.bench_net.specs.declared.levels.Mark.TheVariants.{Unknown, Open, Level}
 use Rattle.bench_net.specs.declared.levels.OpenGate.{OpenGate}
+use Rattle.bench_net.specs.declared.levels.PinRows.{PinRows}
 use Rattle.bench_net.specs.declared.BenchFault.{BenchFault}
 use Rattle.bench_net.specs.declared.BenchFault.TheVariants.{Memory, Cycle}
 use Rattle.bench_net.specs.Tables.{signals_in, all_pins, HasRow, row_of}
@@ -18,17 +19,21 @@ pub record IsGraph (lines : List NumberedLine) : Type 0 where
   pub few_pins : length (all_pins lines) < 2 ^ 32
   pub pins_below : (s p : ℕ) → Among p (gate_pins lines s) → p < signals_in lines
 
+-- the signals that a signal's row of pins reads
+abbrev pub pins_by : PinRows → ℕ → List ℕ
+pins_by rows s = row_of rows.starts.items rows.pins.items s
+
 -- the pins of each signal below a number are a row, and no other signal has pins
-pub record ArePinRows (pins : ℕ → List ℕ) (signals : ℕ) (starts read : List ℕ) : Type 0 where
-  pub have_rows : (s : ℕ) → s < signals → HasRow starts read s
-  pub rows_are : (s : ℕ) → row_of starts read s ≡ pins s
+pub record ArePinRows (pins : ℕ → List ℕ) (signals : ℕ) (rows : PinRows) : Type 0 where
+  pub have_rows : (s : ℕ) → s < signals → HasRow rows.starts.items rows.pins.items s
+  pub rows_are : (s : ℕ) → pins_by rows s ≡ pins s
 
 -- each signal below a number has a row of pins, and each pin reads a signal
-pub record IsPinGraph (starts read : List ℕ) (signals : ℕ) : Type 0 where
+pub record IsPinGraph (rows : PinRows) (signals : ℕ) : Type 0 where
   pub few : signals < 2 ^ 31
-  pub have_rows : (s : ℕ) → s < signals → HasRow starts read s
-  pub few_pins : (s : ℕ) → length (row_of starts read s) < 2 ^ 32
-  pub pins_below : (s p : ℕ) → Among p (row_of starts read s) → p < signals
+  pub have_rows : (s : ℕ) → s < signals → HasRow rows.starts.items rows.pins.items s
+  pub few_pins : (s : ℕ) → length (pins_by rows s) < 2 ^ 32
+  pub pins_below : (s p : ℕ) → Among p (pins_by rows s) → p < signals
 
 -- signals that all have levels, and one more than the greatest of these
 pub data HaveLevels (pins : ℕ → List ℕ) : List ℕ → ℕ → Type 0 where

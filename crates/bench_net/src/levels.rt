@@ -7,10 +7,10 @@ ghost use Rattle.std.specs.Prelude.{◌≡◌, ◌+◌, ◌<◌, ◌≤◌, ℕ,
 ghost use Rattle.std.specs.Prelude.{slice_index, [], ◌∷◌, ◌^◌, Some, IfOk, IfErr, OnOk};
 ghost use Rattle.bench_net.specs.Level.{greatest};
 ghost use Rattle.bench_net.specs.Rows.{AreRows};
-ghost use Rattle.bench_net.specs.Tables.{line_gate, all_pins, signals_in, HasRow, row_of};
+ghost use Rattle.bench_net.specs.Tables.{line_gate, all_pins, signals_in, HasRow};
 ghost use Rattle.bench_net.specs.Marks.{pins_in, gate_pins, IsGraph, AreLevelsOf, IsLevelFault};
-ghost use Rattle.bench_net.specs.Marks.{ArePinRows, IsPinGraph, HaveLevelsBelow, IsSearch, steps};
-ghost use Rattle.bench_net.specs.Marks.{level_in};
+ghost use Rattle.bench_net.specs.Marks.{pins_by, ArePinRows, IsPinGraph, HaveLevelsBelow};
+ghost use Rattle.bench_net.specs.Marks.{IsSearch, steps, level_in};
 
 use crate::BenchFault;
 use crate::line::{NumberedLine, defines};
@@ -37,7 +37,7 @@ impl PinRows {
     /// Returns the signals that the gate of a signal reads.
     fn row(&self, signal: u32) -> &[u32]
         requires { HasRow self.now.starts.items self.now.pins.items signal }
-        ensures { result.now ≡ row_of self.now.starts.items self.now.pins.items signal }
+        ensures { result.now ≡ pins_by self.now signal }
     {
         let start = self.starts[signal as usize] as usize;
         let end = self.starts[signal as usize + 1] as usize;
@@ -76,8 +76,7 @@ fn pins(line: &NumberedLine) -> &[u32]
 /// Returns the pins of the lines' gates.
 fn pin_rows(alloc: Global, lines: &[NumberedLine]) -> Result<PinRows, AllocError>
     requires { length (all_pins lines.now) < 2 ^ 32 }
-    ensures { IfOk result (λ rows. ArePinRows (gate_pins lines.now) (signals_in lines.now)
-        rows.starts.items rows.pins.items) }
+    ensures { IfOk result (ArePinRows (gate_pins lines.now) (signals_in lines.now)) }
 {
     let mut starts = Vec::new(alloc);
     let mut all = Vec::new(alloc);
@@ -101,18 +100,15 @@ fn visit(
     marks: &mut Vec<Mark>,
     path: &mut Vec<OpenGate>,
 ) -> Result<(), BenchFault>
-    requires graph { IsPinGraph rows.now.starts.items rows.now.pins.items (length at.now) }
-    requires lower { HaveLevelsBelow (row_of rows.now.starts.items rows.now.pins.items) start }
-    requires search { IsSearch (row_of rows.now.starts.items rows.now.pins.items) (length at.now)
-        (start + 1) marks.old.items (gate ∷ reverse path.old.items) }
-    ensures search { OnOk result (IsSearch (row_of rows.now.starts.items rows.now.pins.items)
-        (length at.now) (start + 1) marks.new.items (reverse path.new.items)
-        × (steps (row_of rows.now.starts.items rows.now.pins.items) marks.new.items
-        (reverse path.new.items)
-        < steps (row_of rows.now.starts.items rows.now.pins.items) marks.old.items
-        (gate ∷ reverse path.old.items))) }
-    ensures fault { IfErr result (IsLevelFault (row_of rows.now.starts.items rows.now.pins.items)
-        (length at.now) at.now) }
+    requires graph { IsPinGraph rows.now (length at.now) }
+    requires lower { HaveLevelsBelow (pins_by rows.now) start }
+    requires search { IsSearch (pins_by rows.now) (length at.now) (start + 1) marks.old.items
+        (gate ∷ reverse path.old.items) }
+    ensures search { OnOk result (IsSearch (pins_by rows.now) (length at.now) (start + 1)
+        marks.new.items (reverse path.new.items)
+        × (steps (pins_by rows.now) marks.new.items (reverse path.new.items)
+        < steps (pins_by rows.now) marks.old.items (gate ∷ reverse path.old.items))) }
+    ensures fault { IfErr result (IsLevelFault (pins_by rows.now) (length at.now) at.now) }
 {
     let pins = rows.row(gate.signal);
     while let Some(pin) = pins.get(gate.pin as usize) {
@@ -148,16 +144,14 @@ fn settle(
     marks: &mut Vec<Mark>,
     path: &mut Vec<OpenGate>,
 ) -> Result<(), BenchFault>
-    requires graph { IsPinGraph rows.now.starts.items rows.now.pins.items (length at.now) }
+    requires graph { IsPinGraph rows.now (length at.now) }
     requires start { start < length at.now }
-    requires search { IsSearch (row_of rows.now.starts.items rows.now.pins.items) (length at.now)
-        start marks.old.items [] }
+    requires search { IsSearch (pins_by rows.now) (length at.now) start marks.old.items [] }
     requires path { path.old.items ≡ [] }
-    ensures search { OnOk result (IsSearch (row_of rows.now.starts.items rows.now.pins.items)
-        (length at.now) (start + 1) marks.new.items []) }
+    ensures search { OnOk result (IsSearch (pins_by rows.now) (length at.now) (start + 1)
+        marks.new.items []) }
     ensures path { OnOk result (path.new.items ≡ []) }
-    ensures fault { IfErr result (IsLevelFault (row_of rows.now.starts.items rows.now.pins.items)
-        (length at.now) at.now) }
+    ensures fault { IfErr result (IsLevelFault (pins_by rows.now) (length at.now) at.now) }
 {
     if let Mark::Unknown = marks[start as usize] {
         marks[start as usize] = Mark::Open;
@@ -188,11 +182,10 @@ fn level_in(mark: &Mark) -> u32
 /// needs. A gate goes past each of its pins once, so the time is linear in the number of pins. A
 /// path that meets itself is on a cycle, which feeds the first signal of the path.
 fn signal_levels(alloc: Global, rows: &PinRows, at: &[u64]) -> Result<Vec<u32>, BenchFault>
-    requires { IsPinGraph rows.now.starts.items rows.now.pins.items (length at.now) }
-    ensures levels { IfOk result (λ levels. AreLevelsOf
-        (row_of rows.now.starts.items rows.now.pins.items) (length at.now) levels.items) }
-    ensures fault { IfErr result (IsLevelFault (row_of rows.now.starts.items rows.now.pins.items)
-        (length at.now) at.now) }
+    requires { IsPinGraph rows.now (length at.now) }
+    ensures levels { IfOk result (λ levels. AreLevelsOf (pins_by rows.now) (length at.now)
+        levels.items) }
+    ensures fault { IfErr result (IsLevelFault (pins_by rows.now) (length at.now) at.now) }
 {
     let mut marks = vec![in alloc; Mark::Unknown; at.len()]?;
     let mut path = Vec::new(alloc);

@@ -15,11 +15,11 @@ rows_of-requires-clause-below c = λ i d lt.
 
 pub signal_levels-requires : goal.signal_levels-requires
 signal_levels-requires c =
-    pin_graph c.args.lines.now _ _ _ c.in_ok-rows.ensures c.requires.at c.requires.graph
+    pin_graph c.args.lines.now _ _ c.in_ok-rows.ensures c.requires.at c.requires.graph
 
 pub returns-clause-levels : goal.returns-clause-levels
 returns-clause-levels c =
-    levels_by_rows c.args.lines.now _ _ _ c.in_ok-rows.ensures c.requires.at
+    levels_by_rows c.args.lines.now _ _ c.in_ok-rows.ensures c.requires.at
     c.in_ok-levels.levels.items c.in_ok-levels.ensures.levels
 
 pub returns-in_err-levels-clause-fault : goal.returns-in_err-levels-clause-fault
@@ -27,5 +27,5 @@ returns-in_err-levels-clause-fault c =
     let p = err_from_is_err_and c.from_residual-in_err-levels.result
     c.from_residual-in_err-levels.ensures.1 in
     rw (p.1, p.2)
-    (fault_by_rows c.args.lines.now _ _ _ c.in_ok-rows.ensures c.requires.at c.args.at.now _
+    (fault_by_rows c.args.lines.now _ _ c.in_ok-rows.ensures c.requires.at c.args.at.now _
     c.in_err-levels.ensures.fault)

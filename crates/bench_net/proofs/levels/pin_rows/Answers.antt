@@ -8,5 +8,5 @@ loop-line-preserved c =
     grind (arith, common_steps, no_pins c.line-item.result, c.loop-line.invariant)
 
 pub returns : goal.returns
-returns c = pin_rows_are c.args.lines.now _ _ (grind (arith, common_steps, c.loop-line.invariant))
+returns c = pin_rows_are c.args.lines.now _ (grind (arith, common_steps, c.loop-line.invariant))
     (grind (arith, common_steps, c.loop-line.invariant))

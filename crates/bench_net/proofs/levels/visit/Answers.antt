@@ -3,8 +3,7 @@ use Rattle.std.specs.Prelude.{Some, None, slice_get}
 use Rattle.std.proofs.lemmas.List.{reverse-append}
 use Rattle.std.proofs.lemmas.Option.{slice_get_read, slice_get-get_or, gets}
 use Rattle.list_lemmas.proofs.Places.{at_place}
-use Rattle.bench_net.specs.Tables.{row_of}
-use Rattle.bench_net.specs.Marks.{IsLowestStuck}
+use Rattle.bench_net.specs.Marks.{pins_by, IsLowestStuck}
 use Rattle.bench_net.proofs.LevelSearch.{finished, advanced, opened, met}
 use Rattle.bench_net.proofs.levels.visit.Goals.{In-Open, In-Some, After-index}
 use Rattle.bench_net.proofs.levels.visit.Goals as goal
@@ -15,15 +14,14 @@ row-pins-requires c =
 
 -- the signal of the next pin
 read : (c : In-Some)
-    → slice_get (row_of c.args.rows.now.starts.items c.args.rows.now.pins.items
-    c.loop-pin.gate.signal) c.loop-pin.gate.pin ≡ Some c.in-Some.pin.now
+    → slice_get (pins_by c.args.rows.now c.loop-pin.gate.signal) c.loop-pin.gate.pin
+    ≡ Some c.in-Some.pin.now
 read c =
     let found = c.in-Some.ensures.lookup in
     let pins = c.row-pins.result.now in
     let inside : c.loop-pin.gate.pin < length pins = omega arith in
     let here = slice_get-get_or pins c.loop-pin.gate.pin c.in-Some.pin.now inside in
-    let same = ap (row_of c.args.rows.now.starts.items c.args.rows.now.pins.items)
-    c.loop-pin.invariant.signal in
+    let same = ap (pins_by c.args.rows.now) c.loop-pin.invariant.signal in
     grind (arith, found, here, same, c.row-pins.ensures)
 
 below : (c : In-Some) → c.in-Some.pin.now < length c.loop-pin.marks.items
@@ -69,8 +67,7 @@ returns-in-Unknown-clause-search c =
     (rw (c.in_ok-push-in-Unknown.ensures.items, reverse-append)
     (more.0, omega (arith, more.1, c.loop-pin.invariant.fewer)))
 
-stuck : (c : In-Open) → IsLowestStuck (row_of c.args.rows.now.starts.items
-    c.args.rows.now.pins.items) (length c.args.at.now) c.args.start
+stuck : (c : In-Open) → IsLowestStuck (pins_by c.args.rows.now) (length c.args.at.now) c.args.start
 stuck c = met c.loop-pin.invariant.search c.args.start _ refl c.requires.lower
     (read (goal.at.In-Open c).In-Some)
     (mark (goal.at.In-Open c).After-index ∙ ap Some c.in-Open.is)
@@ -87,10 +84,9 @@ returns-in-Open-clause-fault c =
 pub returns-clause-search : goal.returns-clause-search
 returns-clause-search c =
     let found = c.in_default.ensures.lookup in
-    let same = ap (row_of c.args.rows.now.starts.items c.args.rows.now.pins.items)
-    c.loop-pin.invariant.signal in
-    let none : slice_get (row_of c.args.rows.now.starts.items c.args.rows.now.pins.items
-    c.loop-pin.gate.signal) c.loop-pin.gate.pin ≡ None =
+    let same = ap (pins_by c.args.rows.now) c.loop-pin.invariant.signal in
+    let none : slice_get (pins_by c.args.rows.now c.loop-pin.gate.signal) c.loop-pin.gate.pin
+    ≡ None =
     grind (arith, gets, found, same, c.row-pins.ensures, c.in_default.not-Some) in
     let more = finished c.loop-pin.invariant.search none in
     (more.0, omega (arith, more.1, c.loop-pin.invariant.fewer))

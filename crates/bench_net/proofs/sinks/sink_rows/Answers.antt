@@ -15,7 +15,8 @@ returns c =
     sink_rows_are c.args.readers.now c.args.signals starts places c.in_ok-sinks.sinks.items
     (record {
       starts_count = c.in_ok-starts.ensures.len;
-      starts_are = rw (c.deref.ensures.value, c.in_ok-keys.ensures) at c.in_ok-starts.ensures.starts;
+      starts_are =
+          rw (c.deref.ensures.value, c.in_ok-keys.ensures) at c.in_ok-starts.ensures.starts;
       places_are = refl;
     })
     (rw (c.in_ok-from_slice.ensures.items, c.deref-2.ensures.value) at c.in_ok-sinks.ensures)
