@@ -15,7 +15,7 @@ ghost use Rattle.fault_model.specs.Known.{only_gate};
 ghost use Rattle.fault_model.specs.Reordered.{in_order, moved_line, place};
 ghost use Rattle.block_sim.specs.Events.{IsLive, IsObserved, IsRising};
 ghost use Rattle.block_sim.specs.Flat.{ArePlaced, AreReaders, HasMore, IsDriver, IsFlat, IsRow};
-ghost use Rattle.block_sim.specs.Flat.{HasEnds, IsStanding};
+ghost use Rattle.block_sim.specs.Flat.{AreFlatRows, HasEnds, IsStanding};
 ghost use Rattle.block_sim.specs.GateForms.{IsFormOf};
 ghost use Rattle.block_sim.specs.Arranged.{ArePlaces, IsArranged, IsFlowOrder};
 ghost use Rattle.block_sim.specs.Regions.{lone_reader};
@@ -124,21 +124,56 @@ impl Model for FlatCircuit {
         flat.lists.standings.items };
 }
 
+/// The flat arrays of a circuit, apart from the circuit: the order of its signals, the place of
+/// each, and the lists.
+#[derive(Drop)]
+pub struct FlatRows {
+    order: Vec<u32>,
+    places: Vec<u32>,
+    lists: Lists,
+}
+
+/// Makes the rows of a circuit. It takes a row and two numbers for each signal, and a few numbers
+/// for each pin.
+pub fn flat_rows(alloc: Global, circuit: &Circuit) -> Result<FlatRows, AllocError>
+    ensures { IfOk result (λ rows. AreFlatRows circuit.now rows) }
+{
+    let _signals = circuit.signals();
+    let order = flow_order(alloc, circuit)?;
+    let places = places_of(alloc, circuit, order.as_slice())?;
+    let lists = lists_of(alloc, circuit, order.as_slice(), places.as_slice())?;
+    Ok(FlatRows {
+        order,
+        places,
+        lists,
+    })
+}
+
 impl FlatCircuit {
-    /// Makes the rows of a circuit. It takes a row and two numbers for each signal, and a few
-    /// numbers for each pin.
+    /// Makes a circuit in flat arrays, with the rows of [`flat_rows`].
     pub fn new(alloc: Global, circuit: Circuit) -> Result<FlatCircuit, AllocError>
         ensures { IfOk result (λ flat. flat.statements ≡ circuit) }
     {
-        let order = flow_order(alloc, &circuit)?;
-        let places = places_of(alloc, &circuit, order.as_slice())?;
-        let lists = lists_of(alloc, &circuit, order.as_slice(), places.as_slice())?;
-        Ok(FlatCircuit {
+        let rows = flat_rows(alloc, &circuit)?;
+        Ok(FlatCircuit::with_rows(circuit, rows))
+    }
+
+    /// Joins a circuit with its rows.
+    pub fn with_rows(circuit: Circuit, rows: FlatRows) -> FlatCircuit
+        requires { AreFlatRows circuit rows }
+        ensures { result.statements ≡ circuit }
+    {
+        let FlatRows {
+            order,
+            places,
+            lists,
+        } = rows;
+        FlatCircuit {
             circuit,
             order,
             places,
             lists,
-        })
+        }
     }
 
     /// Returns the circuit as it was given.

@@ -1,6 +1,6 @@
 //! A job: a circuit with its faults, its classes and its tests.
 
-ghost use Rattle.std.specs.Prelude.{◌≡◌, ◌↔◌, ◌<◌, ◌≤◌, ◌*◌, List, ℕ, None, length, map};
+ghost use Rattle.std.specs.Prelude.{◌≡◌, ◌↔◌, ◌<◌, ◌≤◌, ◌*◌, ◌⊎◌, List, ℕ, None, length, map};
 ghost use Rattle.std.specs.Prelude.{Err, IfErr, IfOk, IsTrue, OnOk, Some, slice_get};
 ghost use Rattle.bench_net.specs.Scan.{names, sources};
 ghost use Rattle.bench_net.specs.Statement.{Statement};
@@ -8,7 +8,10 @@ ghost use Rattle.patterns.specs.Tests.{IsTestList, blocks, max_pieces};
 ghost use Rattle.block_sim.specs.Job.{AreFaultFree};
 ghost use Rattle.block_sim.specs.Arranged.{ArePlaces, IsArranged};
 ghost use Rattle.block_sim.specs.Origins.{IsListed, IsRepresentativeOf};
-ghost use Rattle.block_sim.specs.Parts.{BelongTogether, piece_count, with_tests};
+ghost use Rattle.block_sim.specs.ClassLists.{AreClassLists};
+ghost use Rattle.block_sim.specs.Flat.{AreFlatRows};
+ghost use Rattle.block_sim.specs.Parts.{BelongTogether, IsJobUnder, Parts, piece_count};
+ghost use Rattle.block_sim.specs.Parts.{with_tests};
 ghost use Rattle.block_sim.specs.Regions.{IsStemOfClass};
 ghost use Rattle.block_sim.specs.BlockSpans.{IsTogether, groups, unit_of};
 ghost use Rattle.block_sim.specs.Words.{IsFaultFreeWord};
@@ -16,10 +19,10 @@ ghost use Rattle.block_sim.specs.Words.{IsFaultFreeWord};
 use crate::block_lanes::block_word;
 use crate::block_span::BlockSpan;
 use crate::block_view::GroupWords;
+use crate::class_lists::{ClassLists, class_lists, class_lists_under};
 use crate::fault_free::{fault_free_rows, fault_free_rows_in_threads};
-use crate::flat::FlatCircuit;
-use crate::origin::{ListedClass, representatives_of};
-use crate::region_classes::{class_stems, next_with_stem};
+use crate::flat::{FlatCircuit, FlatRows, flat_rows};
+use crate::origin::ListedClass;
 use crate::words::Stuck;
 use bench_net::Circuit;
 use fault_model::{Classes, Faults};
@@ -27,8 +30,13 @@ use patterns::{MAX_PIECES, Tests};
 use std::alloc::{AllocError, Global};
 use std::marker::Model;
 use std::sync::Wait;
+use std::thread;
 use std::thread::Threads;
 use thiserror::Error;
+
+/// A circuit is large if it has this number of signals. One thread lists and collapses its faults
+/// in about half a millisecond, 10 times as long as its start.
+const LARGE_CIRCUIT: u32 = 1 << 10;
 
 /// An error of making a job.
 #[derive(Clone, Copy, Debug, PartialEq, Eq, Error)]
@@ -173,7 +181,8 @@ impl Job {
     {
         let flat = FlatCircuit::new(alloc, circuit)?;
         let rows = fault_free_rows(alloc, &flat, &tests)?;
-        Job::with_rows(alloc, flat, faults, classes, tests, rows)
+        let lists = class_lists(alloc, flat.circuit(), faults, classes)?;
+        Job::with_lists(alloc, flat, lists, tests, rows)
     }
 
     /// Makes a job as [`Job::new`] does, with the same errors, in at most as many threads as there
@@ -241,39 +250,114 @@ impl Job {
     {
         let flat = FlatCircuit::new(alloc, circuit)?;
         let rows = fault_free_rows_in_threads(rt, alloc, &flat, &tests, workers)?;
-        Job::with_rows(alloc, flat, faults, classes, tests, rows)
+        let lists = class_lists(alloc, flat.circuit(), faults, classes)?;
+        Job::with_lists(alloc, flat, lists, tests, rows)
     }
 
-    /// Makes the job of a circuit in flat rows with these fault-free words.
-    fn with_rows(
+    /// Makes the job of a circuit under a model, with tests of its width, in at most as many
+    /// threads as there are workers. If the circuit is large, one thread makes its flat arrays and
+    /// another its fault list and classes. Then the threads share the words of its blocks.
+    ///
+    /// It fails with `TooManyPieces` if classes times blocks are more than
+    /// [`patterns::MAX_PIECES`], before the words take memory, and with `Memory` if an allocation
+    /// fails.
+    pub fn under_model_in_threads<R: Threads + Wait>(
+        rt: &R,
+        alloc: Global,
+        model: fault_model::Model,
+        circuit: Circuit,
+        tests: Tests,
+        workers: u32,
+    ) -> Result<Job, JobFault>
+        requires tests { IsTestList tests }
+        requires width { tests.width ≡ length (sources circuit) }
+        ensures job { IfOk result (IsJobUnder model circuit tests) }
+        ensures few { IfOk result (λ job. piece_count job ≤ max_pieces) }
+        ensures refused { IfErr result (λ fault. (fault ≡ JobFault.Memory)
+            ⊎ ((job : Parts) × IsJobUnder model circuit tests job
+            × (max_pieces < piece_count job))) }
+    {
+        let (flat, lists) = flat_and_lists(rt, alloc, circuit, model, workers)?;
+        let _signals = flat.signals();
+        if has_too_many_pieces(&lists.classes, &tests) {
+            return Err(JobFault::TooManyPieces);
+        }
+        Ok(Job::with_words(rt, alloc, flat, lists, tests, workers)?)
+    }
+
+    /// Makes a job as [`Job::under_model_in_threads`] does, for any number of pieces. It fails only
+    /// for memory.
+    pub fn under_model_of_any_size_in_threads<R: Threads + Wait>(
+        rt: &R,
+        alloc: Global,
+        model: fault_model::Model,
+        circuit: Circuit,
+        tests: Tests,
+        workers: u32,
+    ) -> Result<Job, AllocError>
+        requires tests { IsTestList tests }
+        requires width { tests.width ≡ length (sources circuit) }
+        ensures { IfOk result (IsJobUnder model circuit tests) }
+    {
+        let (flat, lists) = flat_and_lists(rt, alloc, circuit, model, workers)?;
+        Job::with_words(rt, alloc, flat, lists, tests, workers)
+    }
+
+    /// Makes the job of a circuit in flat arrays and the lists of its classes. The threads share
+    /// the words of its blocks.
+    fn with_words<R: Threads + Wait>(
+        rt: &R,
         alloc: Global,
         flat: FlatCircuit,
-        faults: Faults,
-        classes: Classes,
+        lists: ClassLists,
+        tests: Tests,
+        workers: u32,
+    ) -> Result<Job, AllocError>
+        requires lists { AreClassLists flat.statements lists }
+        requires tests { IsTestList tests }
+        requires width { tests.width ≡ length (sources flat.statements) }
+        ensures { IfOk result (λ job. job ≡ record {
+          circuit = flat.statements;
+          list = lists.faults;
+          classes = lists.classes;
+          tests = tests;
+        }) }
+    {
+        let rows = fault_free_rows_in_threads(rt, alloc, &flat, &tests, workers)?;
+        Job::with_lists(alloc, flat, lists, tests, rows)
+    }
+
+    /// Makes the job of a circuit in flat arrays and the lists of its classes, with these
+    /// fault-free words.
+    fn with_lists(
+        alloc: Global,
+        flat: FlatCircuit,
+        lists: ClassLists,
         tests: Tests,
         rows: Vec<Vec<u128>>,
     ) -> Result<Job, AllocError>
-        requires together { BelongTogether (record {
-          circuit = flat.statements;
-          list = faults;
-          classes = classes;
-          tests = tests;
-        }) }
+        requires lists { AreClassLists flat.statements lists }
+        requires tests { IsTestList tests }
+        requires width { tests.width ≡ length (sources flat.statements) }
         requires count { length (map (λ row. row.items) rows.items)
             ≡ groups (length tests.tests) }
         requires rows { AreFaultFree flat.arranged tests.tests
             (map (λ row. row.items) rows.items) }
         ensures { IfOk result (λ job. job ≡ record {
           circuit = flat.statements;
-          list = faults;
-          classes = classes;
+          list = lists.faults;
+          classes = lists.classes;
           tests = tests;
         }) }
     {
-        let class_stems = class_stems(alloc, flat.circuit(), &faults, &classes)?;
-        let representatives = representatives_of(alloc, flat.circuit(), &faults, &classes)?;
-        let signals = flat.signals();
-        let next_in_region = next_with_stem(alloc, class_stems.as_slice(), signals)?;
+        let _signals = flat.signals();
+        let ClassLists {
+            faults,
+            classes,
+            stems: class_stems,
+            next_in_region,
+            representatives,
+        } = lists;
         let parts = Box::new(
             alloc,
             JobParts {
@@ -496,6 +580,47 @@ impl Job {
         let place = parts.flat.place_of(signal);
         block_word(parts.rows[(block / 2) as usize][place as usize], block)
     }
+}
+
+/// Makes the flat arrays of a circuit and the lists of its classes under a model. If the circuit is
+/// large, and there is a second worker, a thread makes the lists at the same time.
+fn rows_and_lists<R: Threads + Wait>(
+    rt: &R,
+    alloc: Global,
+    circuit: &Circuit,
+    model: fault_model::Model,
+    workers: u32,
+) -> (Result<FlatRows, AllocError>, Result<ClassLists, AllocError>)
+    ensures rows { IfOk result.0 (λ rows. AreFlatRows circuit.now rows) }
+    ensures lists { IfOk result.1 (λ lists. AreClassLists circuit.now lists) }
+    ensures model { IfOk result.1 (λ lists. lists.faults.model ≡ model) }
+{
+    if workers < 2 || circuit.signals() < LARGE_CIRCUIT {
+        let rows = flat_rows(alloc, circuit);
+        return (rows, class_lists_under(alloc, circuit, model));
+    }
+    thread::join(
+        rt,
+        move || flat_rows(alloc, circuit),
+        move || class_lists_under(alloc, circuit, model),
+    )
+}
+
+/// Returns a circuit in flat arrays, with the lists of its classes under a model.
+fn flat_and_lists<R: Threads + Wait>(
+    rt: &R,
+    alloc: Global,
+    circuit: Circuit,
+    model: fault_model::Model,
+    workers: u32,
+) -> Result<(FlatCircuit, ClassLists), AllocError>
+    ensures flat { IfOk result (λ made. made.0.statements ≡ circuit) }
+    ensures lists { IfOk result (λ made. AreClassLists circuit made.1) }
+    ensures model { IfOk result (λ made. made.1.faults.model ≡ model) }
+{
+    let (rows, lists) = rows_and_lists(rt, alloc, &circuit, model, workers);
+    let lists = lists?;
+    Ok((FlatCircuit::with_rows(circuit, rows?), lists))
 }
 
 /// Returns whether classes times blocks are more than [`patterns::MAX_PIECES`].

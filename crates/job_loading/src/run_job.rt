@@ -9,7 +9,7 @@ ghost use Rattle.workers.specs.Refused.{ArePartsWithin, IsPartFault, IsPartsFaul
 ghost use Rattle.workers.specs.Verdict.{AreAfterHits, AreFirsts};
 ghost use Rattle.job_loading.specs.Jobs.{AreTestsFor, IsJobFor};
 
-use crate::texts::{make_any_job, make_any_job_in_threads};
+use crate::texts::make_any_job_in_threads;
 use bench_net::Circuit;
 use block_sim::Job;
 use fault_model::Model;
@@ -173,6 +173,6 @@ pub(crate) fn make_run_in_threads<R: Threads + Wait>(
         return Ok(RunJob::whole(job));
     }
     let none = Tests::new(alloc, tests.width());
-    let job = make_any_job(alloc, model, circuit, none)?;
+    let job = make_any_job_in_threads(rt, alloc, model, circuit, none, workers)?;
     Ok(RunJob::apart(job, tests))
 }

@@ -46,7 +46,7 @@ pub fn job_of(alloc: Global, model: Model, bench: &[u8], tests: &[u8]) -> Result
 }
 
 /// Reads the job as [`job_of`] does, with the same errors, in at most as many threads as there are
-/// workers ([`read_tests_in_threads`], [`Job::new_in_threads`]).
+/// workers ([`read_inputs_in_threads`], [`Job::under_model_in_threads`]).
 pub fn job_of_in_threads<R: Threads + Wait>(
     rt: &R,
     alloc: Global,
@@ -78,7 +78,7 @@ pub fn job_of_any_size(
 }
 
 /// Reads the job as [`job_of_any_size`] does, with the same errors, in at most as many threads as
-/// there are workers ([`read_tests_in_threads`], [`Job::new_in_threads`]).
+/// there are workers ([`read_inputs_in_threads`], [`Job::under_model_in_threads`]).
 pub fn job_of_any_size_in_threads<R: Threads + Wait>(
     rt: &R,
     alloc: Global,
@@ -115,7 +115,7 @@ pub fn run_of_any_size<R: Threads + Wait>(
 }
 
 /// Makes the job of a circuit and of tests for it under a model, for any number of pieces.
-pub(crate) fn make_any_job(
+fn make_any_job(
     alloc: Global,
     model: Model,
     circuit: Circuit,
@@ -141,9 +141,7 @@ pub(crate) fn make_any_job_in_threads<R: Threads + Wait>(
     requires { AreTestsFor circuit tests }
     ensures { IfOk result (IsJobFor model circuit tests) }
 {
-    let faults = list_faults_in(alloc, &circuit, model)?;
-    let classes = collapse(alloc, &circuit, &faults)?;
-    Job::of_any_size_in_threads(rt, alloc, circuit, faults, classes, tests, workers)
+    Job::under_model_of_any_size_in_threads(rt, alloc, model, circuit, tests, workers)
 }
 
 /// Reads the circuit of a bench file, and then the tests for it of a test file.
@@ -268,7 +266,7 @@ pub fn job_for(alloc: Global, model: Model, circuit: Circuit, tests: Tests) -> R
 }
 
 /// Makes the job as [`job_for`] does, with the same errors, in at most as many threads as there are
-/// workers ([`Job::new_in_threads`]).
+/// workers ([`Job::under_model_in_threads`]).
 pub fn job_for_in_threads<R: Threads + Wait>(
     rt: &R,
     alloc: Global,
@@ -282,7 +280,5 @@ pub fn job_for_in_threads<R: Threads + Wait>(
     ensures few { IfOk result (λ job. piece_count job ≤ max_pieces) }
     ensures refused { IfErr result (IsPiecesFault model circuit tests) }
 {
-    let faults = list_faults_in(alloc, &circuit, model)?;
-    let classes = collapse(alloc, &circuit, &faults)?;
-    Ok(Job::new_in_threads(rt, alloc, circuit, faults, classes, tests, workers)?)
+    Ok(Job::under_model_in_threads(rt, alloc, model, circuit, tests, workers)?)
 }
