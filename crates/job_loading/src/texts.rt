@@ -11,7 +11,7 @@ ghost use Rattle.job_loading.specs.Jobs.{IsGuessOf, IsPiecesFault, IsReadFault};
 
 use crate::fault::SimFault;
 use crate::run_job::{RunJob, make_run_in_threads};
-use bench_net::{BenchFault, Circuit, read_bench};
+use bench_net::{BenchFault, Circuit, read_bench, read_bench_in_threads};
 use block_sim::Job;
 use fault_model::{Model, collapse, list_faults_in};
 use patterns::{TestFault, Tests, read_tests, read_tests_in_threads};
@@ -25,9 +25,12 @@ use text_lines::Rows;
 /// millisecond, 20 times as long as its start.
 const LONG_BENCH: usize = 1 << 16;
 
-/// A test file is long if it has this number of bytes. One thread reads them in about a
-/// millisecond.
-const LONG_TESTS: usize = 1 << 20;
+/// The least number of workers with which one of them reads a bench file beside the others.
+const WORKERS_APART: u32 = 4;
+
+/// A test file is very long if it has this number of times as many bytes as the bench file. Two
+/// threads then take about as long to read it as one thread takes to read the bench file.
+const TIMES_AS_LONG: usize = 32;
 
 /// The least number of bytes of the line that defines a source, as `INPUT(a)`.
 const BYTES_OF_A_SOURCE: usize = 8;
@@ -157,9 +160,10 @@ pub fn read_inputs(alloc: Global, bench: &[u8], tests: &[u8]) -> Result<(Circuit
 }
 
 /// Reads the circuit and the tests as [`read_inputs`] does, with the same errors, in at most as
-/// many threads as there are workers. It reads long files at the same time: one thread reads the
-/// bench file, and the others the tests, with the width of their first row as a guess. If the
-/// circuit has another number of sources, it reads the tests again.
+/// many threads as there are workers. All of them read the bench file, and then the tests. If the
+/// bench file is long and the test file is very long, they read both at the same time: one thread
+/// the bench file, and the others the tests, with the width of their first row as a guess. If the
+/// circuit has another number of sources, they read the tests again.
 pub fn read_inputs_in_threads<R: Threads + Wait>(
     rt: &R,
     alloc: Global,
@@ -178,8 +182,9 @@ pub fn read_inputs_in_threads<R: Threads + Wait>(
     Ok((circuit, tests))
 }
 
-/// Reads the circuit of a bench file. If both files are long and there is a second worker, it reads
-/// the tests at the same time, with a guessed width.
+/// Reads the circuit of a bench file, with all workers. If the bench file is long and the test file
+/// is very long, one worker reads the circuit, and the others read the tests at the same time, with
+/// a guessed width.
 fn read_and_guess<R: Threads + Wait>(
     rt: &R,
     alloc: Global,
@@ -193,8 +198,9 @@ fn read_and_guess<R: Threads + Wait>(
         ⊎ IsRefused bench.now fault) }
     ensures guessed { IfSome result.1 (IsGuessOf tests.now) }
 {
-    if workers < 2 || bench.len() < LONG_BENCH || tests.len() < LONG_TESTS {
-        return (read_bench(alloc, bench), None);
+    let is_short = bench.len() < LONG_BENCH || tests.len() / TIMES_AS_LONG < bench.len();
+    if workers < WORKERS_APART || is_short {
+        return (read_bench_in_threads(rt, alloc, bench, workers), None);
     }
     let most = bench.len() / BYTES_OF_A_SOURCE;
     thread::join(
