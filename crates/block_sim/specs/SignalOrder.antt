@@ -23,9 +23,8 @@ pub record AreKeysOf (keys : List ℕ) (keyed : List Keyed) : Type 0 where
   pub each : (s : ℕ) (at : Keyed) → slice_get keyed s ≡ Some at
       → (at.signal ≡ s) × (slice_get keys s ≡ Some at.key)
 
--- the walk has an entry for each signal of the circuit, and its path consists of signals of the
--- circuit
-pub record IsWalk (c : List Statement) (walk : Walk) : Type 0 where
-  pub entered : length walk.entered.items ≡ length (names c)
-  pub ranks : length walk.ranks.items ≡ length (names c)
-  pub path : All (λ at. at.signal < length (names c)) walk.path.items
+-- the walk has an entry for each of this number of signals, and its path consists of these signals
+pub record IsWalk (signals : ℕ) (walk : Walk) : Type 0 where
+  pub entered : length walk.entered.items ≡ signals
+  pub ranks : length walk.ranks.items ≡ signals
+  pub path : All (λ at. at.signal < signals) walk.path.items

@@ -15,7 +15,7 @@ ghost use Rattle.fault_model.specs.Known.{only_gate};
 ghost use Rattle.fault_model.specs.Reordered.{in_order, moved_line, place};
 ghost use Rattle.block_sim.specs.Events.{IsLive, IsObserved, IsRising};
 ghost use Rattle.block_sim.specs.Flat.{ArePlaced, AreReaders, HasMore, IsDriver, IsFlat, IsRow};
-ghost use Rattle.block_sim.specs.Flat.{AreFlatRows, HasEnds, IsStanding};
+ghost use Rattle.block_sim.specs.Flat.{AreFlatRows, AreLive, HasEnds, IsStanding};
 ghost use Rattle.block_sim.specs.GateForms.{IsFormOf};
 ghost use Rattle.block_sim.specs.Arranged.{ArePlaces, IsArranged, IsFlowOrder};
 ghost use Rattle.block_sim.specs.Regions.{lone_reader};
@@ -28,6 +28,9 @@ use bench_net::{Circuit, Kind, Sink};
 use fault_model::Line;
 use std::alloc::{AllocError, Global};
 use std::marker::Model;
+use std::sync::Wait;
+use std::thread;
+use std::thread::Threads;
 
 /// A gate that drives a signal: its kind and its form, and the signal that each of its pins reads,
 /// in order. The first and the last of these are fields of their own.
@@ -140,8 +143,55 @@ pub fn flat_rows(alloc: Global, circuit: &Circuit) -> Result<FlatRows, AllocErro
 {
     let _signals = circuit.signals();
     let order = flow_order(alloc, circuit)?;
+    let live = live_signals(alloc, circuit)?;
+    rows_with(alloc, circuit, order, live)
+}
+
+/// Makes the rows of a circuit as [`flat_rows`] does. If there is a second worker, it finds out
+/// which signals are live at the same time as the order of the signals.
+pub fn flat_rows_in_threads<R: Threads + Wait>(
+    rt: &R,
+    alloc: Global,
+    circuit: &Circuit,
+    workers: u32,
+) -> Result<FlatRows, AllocError>
+    ensures { IfOk result (λ rows. AreFlatRows circuit.now rows) }
+{
+    if workers < 2 {
+        return flat_rows(alloc, circuit);
+    }
+    let _signals = circuit.signals();
+    let (order, live) = thread::join(
+        rt,
+        move || flow_order(alloc, circuit),
+        move || live_signals(alloc, circuit),
+    );
+    rows_with(alloc, circuit, order?, live?)
+}
+
+/// Makes the rows of a circuit in an order of its signals.
+fn rows_with(
+    alloc: Global,
+    circuit: &Circuit,
+    order: Vec<u32>,
+    live: Vec<bool>,
+) -> Result<FlatRows, AllocError>
+    requires order { IsFlowOrder circuit.now order.items }
+    requires room { length live.items ≡ length (names circuit.now) }
+    requires live { AreLive circuit.now live.items }
+    ensures { IfOk result (λ rows. AreFlatRows circuit.now rows) }
+{
+    let _signals = circuit.signals();
     let places = places_of(alloc, circuit, order.as_slice())?;
-    let lists = lists_of(alloc, circuit, order.as_slice(), places.as_slice())?;
+    let lists = lists_of(
+        alloc,
+        Placed {
+            circuit,
+            order: order.as_slice(),
+            places: places.as_slice(),
+            live: live.as_slice(),
+        },
+    )?;
     Ok(FlatRows {
         order,
         places,
@@ -350,26 +400,14 @@ struct Placed<'a> {
 }
 
 /// Returns the lists of a circuit in the order of its signals.
-fn lists_of(
-    alloc: Global,
-    circuit: &Circuit,
-    order: &[u32],
-    places: &[u32],
-) -> Result<Lists, AllocError>
-    requires order { IsFlowOrder circuit.now order.now }
-    requires room { length places.now ≡ length (names circuit.now) }
-    requires places { ArePlaces circuit.now (in_order circuit.now order.now) places.now }
-    ensures { IfOk result (λ lists. IsFlat (in_order circuit.now order.now) lists.pins.items
+fn lists_of(alloc: Global, placed: Placed<'_>) -> Result<Lists, AllocError>
+    requires { ArePlaced placed.circuit.now placed.order.now placed.places.now placed.live.now }
+    ensures { IfOk result (λ lists.
+        IsFlat (in_order placed.entry.circuit.now placed.entry.order.now) lists.pins.items
         lists.readers.items lists.rows.items lists.standings.items) }
 {
-    let signals = circuit.signals();
-    let live = live_signals(alloc, circuit)?;
-    let placed = Placed {
-        circuit,
-        order,
-        places,
-        live: live.as_slice(),
-    };
+    let signals = placed.circuit.signals();
+    let order = placed.order;
     let mut rows = Vec::with_capacity(alloc, signals as usize)?;
     let mut standings = Vec::with_capacity(alloc, signals as usize)?;
     let mut pins = Vec::new(alloc);

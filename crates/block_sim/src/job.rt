@@ -21,7 +21,7 @@ use crate::block_span::BlockSpan;
 use crate::block_view::GroupWords;
 use crate::class_lists::{ClassLists, class_lists, class_lists_under};
 use crate::fault_free::{fault_free_rows, fault_free_rows_in_threads};
-use crate::flat::{FlatCircuit, FlatRows, flat_rows};
+use crate::flat::{FlatCircuit, FlatRows, flat_rows, flat_rows_in_threads};
 use crate::origin::ListedClass;
 use crate::words::Stuck;
 use bench_net::Circuit;
@@ -599,11 +599,12 @@ fn rows_and_lists<R: Threads + Wait>(
         let rows = flat_rows(alloc, circuit);
         return (rows, class_lists_under(alloc, circuit, model));
     }
-    thread::join(
+    let (lists, rows) = thread::join(
         rt,
-        move || flat_rows(alloc, circuit),
         move || class_lists_under(alloc, circuit, model),
-    )
+        move || flat_rows_in_threads(rt, alloc, circuit, workers - 1),
+    );
+    (rows, lists)
 }
 
 /// Returns a circuit in flat arrays, with the lists of its classes under a model.

@@ -12,20 +12,22 @@ use Rattle.block_sim.proofs.flat.lists_of.Goals as goal
 
 pub add_row-requires-clause-signal : goal.add_row-requires-clause-signal
 add_row-requires-clause-signal c =
-    flow_within c.args.circuit.now c.args.order.now c.loop-place.place c.requires.order
+    flow_within c.args.placed.circuit.now c.args.placed.order.now c.loop-place.place
+    c.requires.ordered
     c.loop-place-test.true
 
 pub standing_of-requires-clause-signal : goal.standing_of-requires-clause-signal
 standing_of-requires-clause-signal c =
-    flow_within c.args.circuit.now c.args.order.now c.loop-place.place c.requires.order
+    flow_within c.args.placed.circuit.now c.args.placed.order.now c.loop-place.place
+    c.requires.ordered
     c.loop-place-test.true
 
 pub loop-place-preserved : goal.loop-place-preserved
 loop-place-preserved c =
-    let circuit = c.args.circuit.now in
-    let order = c.args.order.now in
+    let circuit = c.args.placed.circuit.now in
+    let order = c.args.placed.order.now in
     let there = in_order circuit order in
-    let arranged : IsArranged circuit there = (order, c.requires.order, refl) in
+    let arranged : IsArranged circuit there = (order, c.requires.ordered, refl) in
     let at = c.loop-place.place in
     let is : place circuit there (slice_index_or order at 0) ≡ at =
     at_order circuit there c.signals-signals.ensures.circuit.well_formed arranged at
@@ -55,15 +57,16 @@ loop-place-preserved c =
 
 pub returns : goal.returns
 returns c =
-    let circuit = c.args.circuit.now in
-    let there = in_order circuit c.args.order.now in
-    let arranged : IsArranged circuit there = (c.args.order.now, c.requires.order, refl) in
+    let circuit = c.args.placed.circuit.now in
+    let order = c.args.placed.order.now in
+    let there = in_order circuit order in
+    let arranged : IsArranged circuit there = (order, c.requires.ordered, refl) in
     let count = count_there circuit there c.signals-signals.ensures.circuit.well_formed arranged in
     let end : c.loop-place.place ≡ length (names there) = omega (
       arith,
       c.loop-place-test.false,
       c.loop-place.auto.place-end,
-      c.requires.order.signals.count,
+      c.requires.ordered.signals.count,
       count,
     ) in
     record {
