@@ -74,6 +74,7 @@ mod KnownWideWords
 mod SensitizedLanes
 mod Groups
 mod PartsOfJobs
+mod JobsUnder
 mod ActiveLanes
 mod PackGates
 mod PackSlots

@@ -1,16 +1,11 @@
 -- The parts of a job, as its box lends them.
-use Rattle.std.proofs.Common.{◌≡◌, ◌∙◌, ℕ, List, ap, Global, length, refl, subst, sym, Vec}
+use Rattle.std.proofs.Common.{◌≡◌, ◌∙◌, ℕ, ap, Global, length, subst, sym, Vec}
 use Rattle.std.specs.Prelude.{map}
-use Rattle.bench_net.specs.Circuit.{IsCircuit}
 use Rattle.bench_net.specs.Scan.{sources}
-use Rattle.bench_net.specs.Statement.{Statement}
-use Rattle.fault_model.specs.declared.Model.{Model}
 use Rattle.patterns.specs.Tests.{IsTestList, TestList}
-use Rattle.block_sim.specs.ClassLists.{AreClassLists}
 use Rattle.block_sim.specs.Job.{AreFaultFree, IsJob}
 use Rattle.block_sim.specs.BlockSpans.{groups}
-use Rattle.block_sim.specs.Parts.{IsJobUnder, Parts}
-use Rattle.block_sim.specs.declared.class_lists.ClassLists.{ClassLists}
+use Rattle.block_sim.specs.Parts.{Parts}
 use Rattle.block_sim.specs.declared.job.JobParts.{JobParts}
 
 -- the view of a job with these parts
@@ -58,26 +53,3 @@ taken own new tests rows is was listed width count words = subst IsWhole (sym is
   stuck_count = was.stuck_count;
   stucks_are = was.stucks_are;
 })
-
--- a circuit, the lists of its classes, and tests of its width are the job of them under a model
-pub under : (m : Model) (c : List Statement) (tests : TestList) (lists : ClassLists) → IsCircuit c
-    → AreClassLists c lists → lists.faults.model ≡ m → IsTestList tests
-    → tests.width ≡ length (sources c)
-    → IsJobUnder m c tests (record {
-      circuit = c;
-      list = lists.faults;
-      classes = lists.classes;
-      tests = tests;
-    })
-under m c tests lists circuit are model listed width = (
-  refl,
-  refl,
-  record {
-    circuit = circuit;
-    list = are.list;
-    classes = are.classes;
-    tests = listed;
-    width = width;
-  },
-  model,
-)

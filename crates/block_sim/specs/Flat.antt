@@ -10,7 +10,6 @@ use Rattle.bench_net.specs.Scan.{names, gate_of}
 use Rattle.bench_net.specs.Circuit.{IsCircuit}
 use Rattle.fault_model.specs.Reordered.{in_order}
 use Rattle.block_sim.specs.declared.flat.Driver.{Driver}
-use Rattle.block_sim.specs.declared.flat.FlatRows.{FlatRows}
 use Rattle.block_sim.specs.declared.flat.SignalRow.{SignalRow}
 use Rattle.block_sim.specs.declared.flat.Standing.{Standing}
 use Rattle.block_sim.specs.Events.{Reads, IsObserved, IsLive}
@@ -101,8 +100,3 @@ pub record IsArrangedFlat (c : List Statement) (order places pins readers : List
   pub room : length places ≡ length (names c)
   pub placed : ArePlaces c (in_order c order) places
   pub flat : IsFlat (in_order c order) pins readers rows standings
-
--- these are the flat arrays of the circuit
-abbrev pub AreFlatRows : List Statement → FlatRows → Type 0
-AreFlatRows c rows = IsArrangedFlat c rows.order.items rows.places.items rows.lists.pins.items
-    rows.lists.readers.items rows.lists.rows.items rows.lists.standings.items

@@ -3,7 +3,7 @@
 ghost use Rattle.std.specs.Prelude.{◌≡◌, IfOk};
 ghost use Rattle.fault_model.specs.Collapse.{AreClassesOf};
 ghost use Rattle.fault_model.specs.Fault.{fault_list};
-ghost use Rattle.block_sim.specs.ClassLists.{AreClassLists};
+ghost use Rattle.block_sim.specs.JobParts.{AreClassLists};
 
 use crate::origin::representatives_of;
 use crate::region_classes::{class_stems, next_with_stem};

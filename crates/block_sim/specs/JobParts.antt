@@ -1,10 +1,15 @@
--- The lists that a job has of the classes of its faults.
+-- What a job is made of: the flat arrays of its circuit, and the lists of the classes of its faults.
 use Rattle.std.specs.Prelude.{◌≡◌, ◌<◌, All, List, length}
 use Rattle.bench_net.specs.Statement.{Statement}
+use Rattle.fault_model.specs.declared.Model.{Model}
 use Rattle.fault_model.specs.Fault.{fault_list}
 use Rattle.fault_model.specs.Collapse.{AreClassesOf}
+use Rattle.patterns.specs.Tests.{TestList}
 use Rattle.block_sim.specs.declared.class_lists.ClassLists.{ClassLists}
+use Rattle.block_sim.specs.declared.flat.FlatRows.{FlatRows}
+use Rattle.block_sim.specs.Flat.{IsArrangedFlat}
 use Rattle.block_sim.specs.Origins.{HaveRepresentatives}
+use Rattle.block_sim.specs.Parts.{Parts, BelongTogether}
 use Rattle.block_sim.specs.Regions.{HaveStems}
 
 -- the faults and classes of the circuit; each class has its stem, a next class, and its
@@ -19,3 +24,13 @@ pub record AreClassLists (c : List Statement) (lists : ClassLists) : Type 0 wher
       lists.next_in_region.items
   pub stuck_count : length lists.representatives.items ≡ length lists.classes.representative
   pub stucks_are : HaveRepresentatives lists.faults.model c lists.representatives.items
+
+-- these are the flat arrays of the circuit
+abbrev pub AreFlatRows : List Statement → FlatRows → Type 0
+AreFlatRows c rows = IsArrangedFlat c rows.order.items rows.places.items rows.lists.pins.items
+    rows.lists.readers.items rows.lists.rows.items rows.lists.standings.items
+
+-- the job of a circuit and of tests under a model
+abbrev pub IsJobUnder : Model → List Statement → TestList → Parts → Type 0
+IsJobUnder m c tests job =
+    (job.circuit ≡ c) × (job.tests ≡ tests) × BelongTogether job × (job.list.model ≡ m)
