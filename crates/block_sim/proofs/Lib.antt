@@ -64,6 +64,7 @@ mod UnitRegions
 mod OneFault
 mod UnitStarts
 mod UnitApproaches
+mod DeadRegions
 mod UnitHits
 mod UnitParts
 mod FollowedRows

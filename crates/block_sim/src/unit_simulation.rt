@@ -335,6 +335,10 @@ fn follow_row_in_unit(
         (unit_rows view.entry) region.new }
     ensures same { IsSameUnitRegion region.old region.new }
 {
+    if !view.circuit.is_live(region.stem) {
+        keep(hits, place, None);
+        return;
+    }
     match approach(job, view, group, row, region, evaluations) {
         UnitApproach::Known(lanes) => keep(hits, place, test_in_unit(group, lanes)),
         UnitApproach::AtStem(lanes) => classes.push_reserved(UnitClass {
