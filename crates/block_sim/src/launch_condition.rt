@@ -28,6 +28,7 @@ use crate::words::Stuck;
 /// Returns the lanes of a group whose test before lets the fault be detected: all lanes for a
 /// stuck-at fault. For a transition fault, the test before must give the line the bit that the line
 /// is slow to leave. In a list of pairs only the lanes of capture tests remain.
+#[inline(always)]
 pub fn launch_lanes(job: &Job, group: u32, stuck: Stuck) -> u128
     requires group { group < groups (length job.now.tests.tests) }
     requires stuck { (f : Fault) × IsStuckOf job.now.circuit f stuck }

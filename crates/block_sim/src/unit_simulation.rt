@@ -425,6 +425,9 @@ fn test_in_unit(group: u32, word: Wide) -> Option<u32>
     requires { group < 2 ^ 20 }
     ensures { IsTestInUnit group (number word) result }
 {
+    if word.is_none() {
+        return None;
+    }
     let parts = word.to_parts();
     for part in 0..8u32 {
         match least_lane(parts[part as usize]) {

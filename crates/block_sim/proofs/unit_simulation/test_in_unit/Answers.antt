@@ -1,8 +1,13 @@
-use Rattle.std.proofs.Common.{◌≡◌, ◌<◌, ◌≤◌, ◌+◌, ◌-◌, ◌*◌, ◌∙◌, ℕ, ap, arith, false, inl, inr, sym}
+use Rattle.std.proofs.Common.{◌≡◌, ◌<◌, ◌+◌, ◌-◌, ◌*◌, ◌∙◌, ap, arith, inl, inr, sym}
 use Rattle.std.proofs.lemmas.Bool.{cases_lt}
 use Rattle.wide_words.specs.Wide.{number}
 use Rattle.block_sim.specs.Words.{lane}
+use Rattle.block_sim.proofs.Lanes.{lane_zero}
 use Rattle.block_sim.proofs.unit_simulation.test_in_unit.Goals as goal
+
+pub returns-then-is_none : goal.returns-then-is_none
+returns-then-is_none c = λ k lt.
+    ap (λ w. lane w k) (c.is_none.ensures.0 c.if-is_none.true) ∙ lane_zero k
 
 pub loop-part-init : goal.loop-part-init
 loop-part-init c = record {
