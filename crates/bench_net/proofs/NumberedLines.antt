@@ -1,7 +1,7 @@
 -- The entries of lines, the numbering of lines, and the meaning of the passes over them for the
 -- file.
 use Rattle.std.proofs.Common.{◌≡◌, ◌<◌, ◌+◌, ◌==◌, ℕ, zero, suc, refl, sym, ap, List, [], ◌∷◌, ◌++◌}
-use Rattle.std.proofs.Common.{length, take, map, arith, get_or, ◌≤◌, ◌∙◌, append-nil, subst, ◌≢◌}
+use Rattle.std.proofs.Common.{length, length-append, take, map, arith, get_or, ◌≤◌, ◌∙◌, append-nil, subst, ◌≢◌}
 use Rattle.std.proofs.Common.{false, filter, inl, inr}
 use Rattle.std.specs.Prelude.{Option, Some, None, slice_get, flat_map, bytes_eq, ◌||◌, Contains}
 use Rattle.std.specs.Prelude.{AllPairs, option_map}
@@ -9,6 +9,7 @@ use Rattle.std.specs.List.{slice_split, list_any, All, list_all}
 use Rattle.std.specs.Borrow.{Bor}
 use Rattle.std.specs.Str.Lines.{strip_carriage_return}
 use Rattle.std.proofs.lemmas.List.{map_push, length-map, take-map, map-append, take_more}
+use Rattle.std.proofs.lemmas.List.{get_or-append-add, get_or_append_left}
 use Rattle.std.proofs.lemmas.Slice.Zip.{AllZip-long}
 use Rattle.std.proofs.lemmas.Option.{slice_get-map, slice_get_read}
 use Rattle.indexmap.proofs.SetLemmas.{AllZip-push}
@@ -19,7 +20,9 @@ use Rattle.bench_net.specs.reader.Parsed.{stated_of, names_of, stands_for, Fails
 use Rattle.bench_net.specs.reader.Entries.{Entry, numbered_from, AreStated, is_in, names_in}
 use Rattle.bench_net.specs.reader.Entries.{defined_of, IsNextFor, IsNumberedLine, AreNumberedLines}
 use Rattle.bench_net.specs.reader.Entries.{entry_of, entries_of, statements_in, reads_in, read_of}
-use Rattle.bench_net.specs.reader.Entries.{AreWithin, AreFew, ArePast, MayBe}
+use Rattle.bench_net.specs.reader.Entries.{AreWithin, AreFew, ArePast, MayBe, AreStatedFrom}
+use Rattle.bench_net.specs.reader.Entries.{AreCounts, AreNamesFrom}
+use Rattle.bench_net.specs.declared.read.Counts.{Counts}
 use Rattle.bench_net.proofs.Reader.{sound_states}
 use Rattle.bench_net.proofs.OneAnswer.{unread_lowest}
 use Rattle.list_lemmas.proofs.Members.{Among, contained, mapped_from, joined_from, among_joined}
@@ -81,24 +84,26 @@ abbrev pub given : List (Bor (List ℕ)) → List (List ℕ)
 given parts = map strip_carriage_return (map (λ x. x.now) parts)
 
 module _ (parts : List (Bor (List ℕ))) (x : Bor (List ℕ)) where
-  pub given_more : {entries : List Entry} {o : Option Statement} → AreStated (given parts) entries
+  pub given_more : {first : ℕ} {entries : List Entry} {o : Option Statement} (n : ℕ)
+      → n ≡ first + length parts → AreStatedFrom first (given parts) entries
       → stated_of (strip_carriage_return x.now) ≡ Some o
-      → AreStated (given (parts ++ x ∷ [])) (entries ++ numbered_from (length parts + 1) (o ∷ []))
-  given_more {o = o} h e = record {
+      → AreStatedFrom first (given (parts ++ x ∷ [])) (entries ++ numbered_from n (o ∷ []))
+  given_more {first} {o = o} n number h e = record {
     stated = h.stated ++ o ∷ [];
     each = rw (map_push, map_push)
         (AllZip-push States (given parts) h.stated _ o h.each (sound_states _ o e));
     same =
         let long = simp length-map at (AllZip-long States (given parts) h.stated h.each) in
-        rw h.same (sym (push 1 h.stated o (length parts + 1) (omega arith)));
+        rw h.same (sym (push first h.stated o n (omega arith)));
   }
 
   -- the first line that states nothing that a line may state
-  pub refused_line : (text : List ℕ) {entries : List Entry}
+  pub refused_line : (text : List ℕ) {first : ℕ} {entries : List Entry}
       → map (λ y. y.now) parts ≡ take (length parts) (slice_split (λ b. b == 10) text)
       → length parts < length (slice_split (λ b. b == 10) text)
       → x.now ≡ get_or (slice_split (λ b. b == 10) text) (length parts) x.now
-      → AreStated (given parts) entries → stated_of (strip_carriage_return x.now) ≡ None
+      → AreStatedFrom first (given parts) entries
+      → stated_of (strip_carriage_return x.now) ≡ None
       → IsLowest (IsSyntaxFault text) (suc (length parts))
   refused_line text so_far below turn h none =
       let at = slice_get_read (slice_split (λ b. b == 10) text) _ _ x.now refl below turn in
@@ -130,6 +135,43 @@ pub next_for : (stated : List StatedLine) (i : ℕ) (line : StatedLine) → i < 
 next_for stated i line h e =
     let place = get_or-flat_map defined_of stated i 0 line [] h in
     grind (arith, common_steps, e, place, defined_few (stands_for line.statement))
+
+-- names from a number on are no more than all
+pub from_fits : (ns : List Name) (first : ℕ) (own : List Name) → AreNamesFrom ns first own
+    → first + length own ≤ length ns
+from_fits ns first own from =
+    omega (
+      arith,
+      from.3,
+      ap length from.2,
+      length-append from.0 (own ++ from.1),
+      length-append own from.1,
+    )
+
+name_from : (ns : List Name) (first : ℕ) (own : List Name) (k : ℕ) → AreNamesFrom ns first own
+    → k < length own → name_at ns (first + k) ≡ name_at own k
+name_from ns first own k (before, after, is, place) below =
+    ap (λ l. get_or l (first + k) []) is
+    ∙ ap (λ n. get_or (before ++ (own ++ after)) (n + k) []) (sym place)
+    ∙ get_or-append-add before (own ++ after) k []
+    ∙ get_or_append_left own after [] k below
+
+-- the number of the name that a line defines, if the names of some lines have these numbers
+pub next_from : (ns : List Name) (first : ℕ) (stated : List StatedLine) (i : ℕ) (line : StatedLine)
+    → AreNamesFrom ns first (names_in stated) → i < length stated → line ≡ get_or stated i line
+    → IsNextFor ns (first + length (names_in (take i stated))) (stands_for line.statement)
+next_from ns first stated i line from h e =
+    let s = stands_for line.statement in
+    let k = length (names_in (take i stated)) in
+    let own = next_for stated i line h e in
+    let fits = names_fit stated i line h e defined_of in
+    elim (defined_few s) [
+      | inl none ↦ rw none refl
+      | inr one ↦
+          (let below : k < length (names_in stated) = omega (arith, fits, ap length one.1) in
+          ap (λ m. map (λ n. m) (defined s)) (name_from ns first (names_in stated) k from below)
+          ∙ own)
+    ]
 
 -- one more line, numbered
 pub numbered_more : (ns : List Name) (stated : List StatedLine) (lines : List NumberedLine) (i : ℕ)
@@ -200,6 +242,18 @@ names_by f lines stated e =
     ∙ ap (flat_map f) (sym (map-map (λ entry. entry.1) entry_of lines)
     ∙ ap (map (λ entry. entry.1)) e ∙ statements_numbered 1 stated)
 
+-- numbers as far as a count goes are past a limit exactly if the real ones are
+pub counted_few : (names reads : List Name) (counts : Counts) → AreCounts names reads counts
+    → AreFew counts.signals counts.sinks → AreFew (length names) (length reads)
+counted_few names reads counts are few = (omega (arith, are, few), omega (arith, are, few))
+
+pub counted_past : (names reads : List Name) (counts : Counts) (limit : Limit)
+    → AreCounts names reads counts → ArePast counts.signals counts.sinks limit
+    → ArePast (length names) (length reads) limit
+counted_past names reads counts Bytes are past = absurd past
+counted_past names reads counts Signals are past = omega (arith, are, past)
+counted_past names reads counts Sinks are past = (omega (arith, are, past), omega (arith, are, past))
+
 -- the limits on signals and sinks
 module _ (text : List ℕ) (stated : List StatedLine)
     (are : AreStated (lines text) (entries_of stated)) (bytes : length text ≤ 16777216) where
@@ -207,14 +261,14 @@ module _ (text : List ℕ) (stated : List StatedLine)
       → flat_map (λ line. f (stands_for line.statement)) stated ≡ flat_map f (statements are.stated)
   same f = names_by f stated are.stated are.same
 
-  pub past : (limit : Limit) → ArePast (names_in stated) (reads_in stated) limit
+  pub past : (limit : Limit) → ArePast (length (names_in stated)) (length (reads_in stated)) limit
       → IsRefused text (TooLarge limit)
   past Bytes more = absurd more
   past Signals more = (bytes, are.stated, are.each, rw (same defined) at more)
   past Sinks (few, more) =
       (bytes, are.stated, are.each, rw (same defined) at few, rw (same read) at more)
 
-  pub within : AreFew (names_in stated) (reads_in stated) → AreWithin text stated
+  pub within : AreFew (length (names_in stated)) (length (reads_in stated)) → AreWithin text stated
   within few = record {
     stated = are.stated;
     within = record {

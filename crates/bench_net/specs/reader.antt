@@ -1,2 +1,3 @@
 pub mod Parsed
 pub mod Entries
+pub mod Stretches

@@ -9,7 +9,7 @@ ghost use Rattle.bench_net.specs.reader.Entries.{IsNextFor, IsNumberedLine, AreN
 ghost use Rattle.std.specs.Option.{option_to_list};
 ghost use Rattle.bench_net.specs.Statement.{defined, defines, read};
 ghost use Rattle.bench_net.specs.reader.Parsed.{stands_for, names_of, FailsBy};
-ghost use Rattle.bench_net.specs.reader.Entries.{names_in, is_in, MayBeOf};
+ghost use Rattle.bench_net.specs.reader.Entries.{names_in, is_in, MayBeOf, AreNamesFrom};
 
 use crate::line::NumberedLine;
 use crate::statement::Stated;
@@ -49,6 +49,25 @@ fn add_name<'a>(names: &mut Names<'a>, name: &'a str) -> Result<bool, BenchFault
     Ok(added)
 }
 
+/// Adds the names that lines define, in the order of the lines. It fails at a name that is there.
+pub fn add_names<'a>(names: &mut Names<'a>, stated: &[StatedLine<'a>]) -> Result<(), BenchFault>
+    requires { AllPairs (λ m n. m ≢ n) (names_of names.old.keys) }
+    ensures names { IfOk result (λ _. names_of names.new.keys
+        ≡ names_of names.old.keys ++ names_in stated.now) }
+    ensures once { IfOk result (λ _. AllPairs (λ m n. m ≢ n) (names_of names.new.keys)) }
+    ensures refused { names_of names.old.keys ≡ [] → IfErr result (MayBeOf stated.now) }
+{
+    for line in stated {
+        let Some(name) = defined(&line.statement) else {
+            continue;
+        };
+        if !add_name(names, name)? {
+            return Err(BenchFault::Redefined(line.number));
+        }
+    }
+    Ok(())
+}
+
 /// Numbers the defined names in the order of their lines.
 pub fn number_names<'a>(alloc: Global, stated: &[StatedLine<'a>]) -> Result<Names<'a>, BenchFault>
     ensures numbered { IfOk result (λ names. names_of names.keys ≡ names_in stated.now) }
@@ -56,14 +75,7 @@ pub fn number_names<'a>(alloc: Global, stated: &[StatedLine<'a>]) -> Result<Name
     ensures refused { IfErr result (MayBeOf stated.now) }
 {
     let mut names = IndexSet::with_capacity(alloc, stated.len())?;
-    for line in stated {
-        let Some(name) = defined(&line.statement) else {
-            continue;
-        };
-        if !add_name(&mut names, name)? {
-            return Err(BenchFault::Redefined(line.number));
-        }
-    }
+    add_names(&mut names, stated)?;
     Ok(names)
 }
 
@@ -145,21 +157,23 @@ pub fn defined_count(statement: &Stated) -> u32
     u32::from(defined(statement).is_some())
 }
 
-/// Returns the statements over numbers.
+/// Returns the statements over numbers. `first` is the number of the first name that one of them
+/// defines.
 pub fn number_lines(
     alloc: Global,
     stated: &[StatedLine],
+    first: u32,
     names: &Names,
 ) -> Result<Vec<NumberedLine>, BenchFault>
     requires few { length names.now.keys ≤ max_signals }
-    requires own { names_of names.now.keys ≡ names_in stated.now }
-    requires once { AllPairs (λ m n. m ≢ n) (names_in stated.now) }
+    requires own { AreNamesFrom (names_of names.now.keys) first (names_in stated.now) }
     ensures numbered { IfOk result (λ lines.
         AreNumberedLines (names_of names.now.keys) stated.now lines.items) }
-    ensures refused { IfErr result (MayBeOf stated.now) }
+    ensures refused { names_of names.now.keys ≡ names_in stated.now
+        → AllPairs (λ m n. m ≢ n) (names_in stated.now) → IfErr result (MayBeOf stated.now) }
 {
     let mut lines = Vec::with_capacity(alloc, stated.len())?;
-    let mut next = 0;
+    let mut next = first;
     for line in stated {
         let refusal = BenchFault::Undefined(line.number);
         let numbered = number_line(alloc, &line.statement, next, names, refusal)?;

@@ -6,12 +6,12 @@
 //! definitions, and names that are read. A pass ends at the first line with its error, so the
 //! errors come in this order and name the lowest line.
 
-ghost use Rattle.std.specs.Prelude.{◌≡◌, ◌≤◌, length};
+ghost use Rattle.std.specs.Prelude.{◌≡◌, ◌≤◌, ◌+◌, length, min};
 ghost use Rattle.std.specs.Prelude.{IfOk, IfErr, IfSome, IfNone};
 ghost use Rattle.text_lines.specs.Lines.{lines};
 ghost use Rattle.bench_net.specs.Circuit.{max_bytes};
-ghost use Rattle.bench_net.specs.reader.Entries.{entries_of, names_in, reads_in, AreStated};
-ghost use Rattle.bench_net.specs.reader.Entries.{MayBe, AreFew, ArePast};
+ghost use Rattle.bench_net.specs.reader.Entries.{entries_of, names_in, reads_in, AreStatedFrom};
+ghost use Rattle.bench_net.specs.reader.Entries.{MayBe, AreFew, ArePast, AreCounts};
 ghost use Rattle.bench_net.specs.reader.Parsed.{stands_for};
 ghost use Rattle.bench_net.specs.Statement.{read};
 ghost use Rattle.bench_net.specs.Stored.{AreLinesOf};
@@ -25,7 +25,7 @@ use std::alloc::Global;
 use text_lines::without_carriage_return;
 
 /// The greatest number of bytes of a file.
-const MAX_BYTES: usize = 16_777_216;
+pub const MAX_BYTES: usize = 16_777_216;
 
 /// The greatest number of signals, that is of lines that define a name.
 const MAX_SIGNALS: usize = 1_000_000;
@@ -42,14 +42,21 @@ pub struct Lines {
     pub at: Vec<u64>,
 }
 
-/// Returns the statements of a file, each with the number of its line.
-fn read_statements<'a>(alloc: Global, text: &'a [u8]) -> Result<Vec<StatedLine<'a>>, BenchFault>
-    requires { length text.now ≤ max_bytes }
-    ensures ok { IfOk result (λ stated. AreStated (lines text.now) (entries_of stated.items)) }
-    ensures refused { IfErr result (MayBe text.now) }
+/// Returns the statements of a text that follows this number of lines, each with the number of its
+/// line.
+pub fn read_statements<'a>(
+    alloc: Global,
+    text: &'a [u8],
+    before: u64,
+) -> Result<Vec<StatedLine<'a>>, BenchFault>
+    requires before { before ≤ max_bytes }
+    requires bytes { length text.now ≤ max_bytes }
+    ensures ok { IfOk result (λ stated.
+        AreStatedFrom (before + 1) (lines text.now) (entries_of stated.items)) }
+    ensures refused { before ≡ 0 → IfErr result (MayBe text.now) }
 {
     let mut stated = Vec::new(alloc);
-    let mut number = 0;
+    let mut number = before;
     for line in text.split(|byte| *byte == b'\n') {
         number += 1;
         let refusal = BenchFault::Syntax(number);
@@ -71,10 +78,30 @@ fn read_count(statement: &Stated) -> usize
     }
 }
 
-/// Returns the limit that the statements exceed, signals before sinks.
-fn past_limit(stated: &[StatedLine]) -> Option<Limit>
-    ensures none { IfNone result (AreFew (names_in stated.now) (reads_in stated.now)) }
-    ensures past { IfSome result (ArePast (names_in stated.now) (reads_in stated.now)) }
+/// The numbers of names that lines define and read.
+#[derive(Clone, Copy)]
+pub struct Counts {
+    pub signals: usize,
+    pub sinks: usize,
+}
+
+impl Counts {
+    /// Returns the numbers of both together.
+    pub fn plus(self, other: Counts) -> Counts
+        ensures signals { result.signals
+            ≡ min (self.signals + other.signals) 18446744073709551615 }
+        ensures sinks { result.sinks ≡ min (self.sinks + other.sinks) 18446744073709551615 }
+    {
+        Counts {
+            signals: self.signals.saturating_add(other.signals),
+            sinks: self.sinks.saturating_add(other.sinks),
+        }
+    }
+}
+
+/// Returns how many names the statements define and read.
+pub fn counts_of(stated: &[StatedLine]) -> Counts
+    ensures { AreCounts (names_in stated.now) (reads_in stated.now) result }
 {
     let mut signals: usize = 0;
     let mut sinks: usize = 0;
@@ -82,9 +109,17 @@ fn past_limit(stated: &[StatedLine]) -> Option<Limit>
         signals = signals.saturating_add(defined_count(&line.statement) as usize);
         sinks = sinks.saturating_add(read_count(&line.statement));
     }
-    if signals > MAX_SIGNALS {
+    Counts { signals, sinks }
+}
+
+/// Returns the limit that these numbers exceed, signals before sinks.
+pub fn past_limit(counts: Counts) -> Option<Limit>
+    ensures none { IfNone result (AreFew counts.signals counts.sinks) }
+    ensures past { IfSome result (ArePast counts.signals counts.sinks) }
+{
+    if counts.signals > MAX_SIGNALS {
         Some(Limit::Signals)
-    } else if sinks > MAX_SINKS {
+    } else if counts.sinks > MAX_SINKS {
         Some(Limit::Sinks)
     } else {
         None
@@ -101,13 +136,13 @@ pub fn read_lines(alloc: Global, text: &[u8]) -> Result<Lines, BenchFault>
     if text.len() > MAX_BYTES {
         return Err(BenchFault::TooLarge(Limit::Bytes));
     }
-    let read = read_statements(alloc, text)?;
+    let read = read_statements(alloc, text, 0)?;
     let stated = read.as_slice();
-    if let Some(limit) = past_limit(stated) {
+    if let Some(limit) = past_limit(counts_of(stated)) {
         return Err(BenchFault::TooLarge(limit));
     }
     let numbers = number_names(alloc, stated)?;
-    let lines = number_lines(alloc, stated, &numbers)?;
+    let lines = number_lines(alloc, stated, 0, &numbers)?;
     let at = line_numbers(alloc, stated)?;
     let names = NameTable::new(alloc, &numbers)?;
     Ok(Lines { names, lines, at })

@@ -9,14 +9,14 @@ use Rattle.std.specs.Prelude.{count_by}
 use Rattle.std.specs.List.{slice_split, onto_first, enumerate_from, slice_range}
 use Rattle.std.specs.Str.Lines.{strip_carriage_return}
 use Rattle.std.proofs.lemmas.Bool.{cases_Bool, cases_lt}
-use Rattle.std.proofs.lemmas.List.{append-nil, drop_all, length-map, map-append, take_more}
+use Rattle.std.proofs.lemmas.List.{append-nil, append_assoc, drop_all, length-map, map-append, take_more}
 use Rattle.std.proofs.lemmas.List.{take-append-drop, get_or-take, length-take-le, drop-take}
 use Rattle.std.proofs.lemmas.List.{take-take, get_or-drop, length-drop}
 use Rattle.std.proofs.lemmas.List.Elements.{filter-append}
 use Rattle.std.proofs.lemmas.List.Splits.{slice_split-cons_yes, slice_split-cons_no}
 use Rattle.std.proofs.lemmas.List.Splits.{length-slice_split}
 use Rattle.std.proofs.lemmas.List.Sums.{count_by_more_yes}
-use Rattle.text_lines.specs.Lines.{ends_line}
+use Rattle.text_lines.specs.Lines.{ends_line, lines}
 use Rattle.text_lines.specs.Rows.{Row, content, rows_from}
 use Rattle.text_lines.specs.Starts.{IsLineStart, IsLineStartFrom}
 
@@ -46,6 +46,52 @@ parts-append (x ∷ front) rest =
     (omega (arith, length-slice_split ends_line front))
     ∙ sym (ap (λ parts. parts ++ more) (slice_split-cons_no ends_line x front goes_on)))
     (cases_Bool (ends_line x))
+
+-- The lines of a front of a text that is cut at the begin of a line: the lines before the cut, which
+-- are as many as their line feeds, and those of the piece behind it. Alone, the piece before the cut
+-- has one line more, without a byte.
+pub lines-cut : (text : List ℕ) (place end : ℕ) → place ≤ end → end ≤ length text
+    → IsLineStart text place → place < length text
+    → (before : List (List ℕ)) × (lines (take place text) ≡ before ++ [] ∷ [])
+    × (lines (take end text) ≡ before ++ lines (slice_range text place end))
+    × (length before ≡ count_by ends_line (take place text))
+lines-cut text zero end low within start some =
+    let e : end ≡ end - 0 = omega arith in
+    ([], refl, ap (λ n. lines (take n text)) e, refl)
+lines-cut text (suc at) end low within start some =
+    let front = take at text in
+    let rest = slice_range text (suc at) end in
+    let short : at < length text = omega arith in
+    let last : at ≡ suc at - 1 = omega arith in
+    let feed : get_or text at 0 ≡ 10 =
+    ap (λ k. get_or text k 0) last ∙ start.after_feed (omega arith) some in
+    let line : take (at + 1) text ≡ front ++ 10 ∷ [] =
+    take_more text at 0 short ∙ ap (λ b. front ++ b ∷ []) feed in
+    let own : take (suc at) text ≡ front ++ 10 ∷ [] =
+    ap (λ n. take n text) (sym (add-one at)) ∙ line in
+    let e : end ≡ suc at + (end - suc at) = omega arith in
+    let more : drop (suc at) (take end text) ≡ rest =
+    ap (λ k. drop (suc at) (take k text)) e ∙ drop-take (suc at) (end - suc at) text in
+    let whole : take end text ≡ front ++ 10 ∷ rest =
+    sym (take-append-drop (suc at) (take end text))
+    ∙ ap (λ l. l ++ drop (suc at) (take end text)) (take-take (suc at) end text low ∙ own)
+    ∙ ap (λ l. (front ++ 10 ∷ []) ++ l) more
+    ∙ append_assoc front (10 ∷ []) rest in
+    let before = map strip_carriage_return (slice_split ends_line front) in (
+      before,
+      ap lines own
+          ∙ ap (map strip_carriage_return) (parts-append front [])
+          ∙ map-append strip_carriage_return (slice_split ends_line front)
+          (slice_split ends_line []),
+      ap lines whole
+          ∙ ap (map strip_carriage_return) (parts-append front rest)
+          ∙ map-append strip_carriage_return (slice_split ends_line front)
+          (slice_split ends_line rest),
+      length-map (slice_split ends_line front) strip_carriage_return
+          ∙ length-slice_split ends_line front
+          ∙ sym (count_by_more_yes ends_line text at 0 short (ap ends_line feed))
+          ∙ ap (λ n. count_by ends_line (take n text)) (add-one at),
+    )
 
 -- ---- numbered elements
 

@@ -114,7 +114,7 @@ fn begins_with_bits(text: &[u8], count: usize) -> bool
 }
 
 /// Returns the number of bytes that are line feeds.
-fn count_line_feeds(bytes: &[u8]) -> u64
+pub fn count_line_feeds(bytes: &[u8]) -> u64
     ensures count { result ≡ count_by ends_line bytes.now }
     ensures few { result ≤ length bytes.now }
 {

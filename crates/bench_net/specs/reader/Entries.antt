@@ -1,12 +1,13 @@
 -- The statements of a text, each with the number of its line, and the stored lines that stand for
 -- them.
 use Rattle.std.specs.Prelude.{◌≡◌, ◌⊎◌, ◌<◌, ◌≤◌, ℕ, suc, Bool, length, List, [], ◌∷◌, map}
-use Rattle.std.specs.Prelude.{flat_map}
+use Rattle.std.specs.Prelude.{flat_map, min, ◌++◌}
 use Rattle.std.specs.Prelude.{Option, Some, None, bytes_eq}
 use Rattle.std.specs.List.{All, AllZip, list_any}
 use Rattle.bench_net.specs.declared.BenchFault.{BenchFault}
 use Rattle.bench_net.specs.declared.BenchFault.TheVariants.{Memory}
 use Rattle.bench_net.specs.declared.Limit.{Limit}
+use Rattle.bench_net.specs.declared.read.Counts.{Counts}
 use Rattle.bench_net.specs.declared.Limit.TheVariants.{Bytes, Signals, Sinks}
 use Rattle.bench_net.specs.Circuit.{max_signals, max_sinks}
 use Rattle.bench_net.specs.declared.line.NumberedLine.{NumberedLine}
@@ -34,11 +35,14 @@ numbered_from line [] = []
 numbered_from line (None ∷ stated) = numbered_from (suc line) stated
 numbered_from line (Some s ∷ stated) = (line, s) ∷ numbered_from (suc line) stated
 
--- the entries are all that these lines state
-pub record AreStated (lines : List (List ℕ)) (entries : List Entry) : Type 0 where
+-- the entries are all that these lines state, if the first line has this number
+pub record AreStatedFrom (first : ℕ) (lines : List (List ℕ)) (entries : List Entry) : Type 0 where
   pub stated : List (Option Statement)
   pub each : AllZip States lines stated
-  pub same : entries ≡ numbered_from 1 stated
+  pub same : entries ≡ numbered_from first stated
+
+abbrev pub AreStated : List (List ℕ) → List Entry → Type 0
+AreStated lines entries = AreStatedFrom 1 lines entries
 
 -- the lines are all that the text states, and it is within the limits
 pub record AreWithin (text : List ℕ) (lines : List StatedLine) : Type 0 where
@@ -76,14 +80,24 @@ names_in lines = flat_map defined_of lines
 abbrev pub reads_in : List StatedLine → List Name
 reads_in lines = flat_map read_of lines
 
--- these names and reads are within the limits on signals and sinks, or past one of them
-abbrev pub AreFew : List Name → List Name → Type 0
-AreFew names reads = (length names ≤ max_signals) × (length reads ≤ max_sinks)
+-- the numbers of these names and reads, as far as a count goes
+abbrev pub AreCounts : List Name → List Name → Counts → Type 0
+AreCounts names reads counts = (counts.signals ≡ min (length names) 18446744073709551615)
+    × (counts.sinks ≡ min (length reads) 18446744073709551615)
 
-abbrev pub ArePast : List Name → List Name → Limit → Type 0
-ArePast names reads Bytes = ⊥
-ArePast names reads Signals = max_signals < length names
-ArePast names reads Sinks = (length names ≤ max_signals) × (max_sinks < length reads)
+-- these numbers of names and reads are within the limits on signals and sinks, or past one of them
+abbrev pub AreFew : ℕ → ℕ → Type 0
+AreFew signals sinks = (signals ≤ max_signals) × (sinks ≤ max_sinks)
+
+abbrev pub ArePast : ℕ → ℕ → Limit → Type 0
+ArePast signals sinks Bytes = ⊥
+ArePast signals sinks Signals = max_signals < signals
+ArePast signals sinks Sinks = (signals ≤ max_signals) × (max_sinks < sinks)
+
+-- these names stand one after another from a number on
+abbrev pub AreNamesFrom : List Name → ℕ → List Name → Type 0
+AreNamesFrom ns first own = (before after : List Name) × (ns ≡ before ++ (own ++ after))
+    × (length before ≡ first)
 
 -- the number is the number of the name that the statement defines, if it defines one
 abbrev pub IsNextFor : List Name → ℕ → Statement → Type 0

@@ -1,4 +1,4 @@
-use Rattle.std.proofs.Common.{◌+◌, ◌==◌, map, rules, arith, ap, add-one}
+use Rattle.std.proofs.Common.{◌≡◌, ◌+◌, ◌==◌, map, rules, arith, ap, suc, length}
 use Rattle.std.proofs.lemmas.List.{map_push, append-nil}
 use Rattle.std.proofs.lemmas.Grind.{common_steps}
 use Rattle.std.proofs.lemmas.Iterator.Splits.{YieldsList-from_slice_split}
@@ -15,16 +15,18 @@ pub loop-line-preserved : goal.loop-line-preserved
 loop-line-preserved c =
     let read =
     rw (c.without_carriage_return.ensures, c.in_default.is) at c.in_ok-statement.ensures in
-    let more = given_more c.loop-line.yielded c.in-Some.line c.loop-line.invariant.1 read in
+    let more = given_more c.loop-line.yielded c.in-Some.line (c.loop-line.number + 1)
+    (omega (arith, c.loop-line.invariant.0)) c.loop-line.invariant.1 read in
     (grind (arith, common_steps), rw append-nil at more)
 
 pub loop-line-preserved-in-Continue-branch-3 : goal.loop-line-preserved-in-Continue-branch-3
 loop-line-preserved-in-Continue-branch-3 c =
     let read =
     rw (c.without_carriage_return.ensures, c.in-Some-2.is) at c.in_ok-statement.ensures in
-    let more = given_more c.loop-line.yielded c.in-Some.line c.loop-line.invariant.1 read in
+    let more = given_more c.loop-line.yielded c.in-Some.line (c.loop-line.number + 1)
+    (omega (arith, c.loop-line.invariant.0)) c.loop-line.invariant.1 read in
     let items = c.in_ok-push.ensures.items in
-    (grind (arith, common_steps), rw (items, c.loop-line.invariant.0, map_push entry_of) more)
+    (grind (arith, common_steps), rw (items, map_push entry_of) more)
 
 pub returns-in_err-statement-clause-refused : goal.returns-in_err-statement-clause-refused
 returns-in_err-statement-clause-refused c =
@@ -34,11 +36,13 @@ returns-in_err-statement-clause-refused c =
     c.in-Some.line c.in-Some.is c.next.ensures.steps in
     let front = YieldsList-so_far road c.loop-line.yielded _ c.loop-line.yielded_by in
     let p = err_from_is_err_and c.from_residual.result c.from_residual.ensures.1 in
-    rw (p.1, p.2) (may_be c.args.text.now (Syntax (c.loop-line.number + 1)) _ _
+    let number : c.args.before ≡ 0 → c.loop-line.number + 1 ≡ suc (length c.loop-line.yielded) =
+    λ top. omega (arith, top, c.loop-line.invariant.0) in
+    λ top. rw (p.1, p.2) (may_be c.args.text.now (Syntax (c.loop-line.number + 1)) _ _
     c.in_err-statement.ensures
     (λ none. (
-      c.requires,
-      rw (c.loop-line.invariant.0, add-one)
+      c.requires.bytes,
+      rw (number top)
           (refused_line c.loop-line.yielded c.in-Some.line c.args.text.now front turn.0 turn.1
           c.loop-line.invariant.1 (rw c.without_carriage_return.ensures at none)),
     )))

@@ -1,6 +1,6 @@
 use Rattle.std.proofs.Common.{◌≡◌, length, take, min}
 use Rattle.bench_net.specs.reader.Entries.{names_in, reads_in}
-use Rattle.bench_net.proofs.read.past_limit.Given as goal
+use Rattle.bench_net.proofs.read.counts_of.Given as goal
 
 abbrev pub invariant-loop-line : goal.invariant-loop-line
 invariant-loop-line l =
