@@ -99,7 +99,7 @@ pub fn read_lines_in_threads<R: Threads + Wait>(
 }
 
 /// Returns the number of threads that are worth their start.
-fn threads_for(text: &[u8], workers: u32) -> u32 {
+pub fn threads_for(text: &[u8], workers: u32) -> u32 {
     let most = workers.min(MAX_THREADS) as usize;
     most.min(text.len() / BYTES_OF_A_THREAD) as u32
 }
