@@ -51,7 +51,7 @@ PHASES = {
     "fault-free words": r"block_sim::(words|job::fault_free_rows|job::rows_)",
     "classes of the job": r"block_sim::(region_classes|origin)::",
     "cut": r"workers::(class_order|counting_sort|stretches)::",
-    "verdicts": r"workers::(parts|verdicts|stretch_run::lowest)",
+    "verdicts": r"workers::(parts|verdicts|fault_firsts|stretch_run::lowest)",
     "report": r"report::|part_files::|byte_output::|itoa::",
 }
 BEGIN = "start"

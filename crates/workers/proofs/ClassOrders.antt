@@ -1,181 +1,114 @@
--- The classes in the order of part, visit, stem and class.
-use Rattle.std.proofs.Common.{◌≡◌, ◌≢◌, ◌<◌, ◌≤◌, ◌+◌, ◌⊎◌, inl, inr, ℕ, zero, suc, true, false}
-use Rattle.std.proofs.Common.{List, [], ◌∷◌, ◌++◌, length, get_or, All, Some, None, refl, sym, ap}
+-- The classes in the order of their visits, and those of a part.
+use Rattle.std.proofs.Common.{◌≡◌, ◌<◌, ◌≤◌, ◌+◌, ◌⊎◌, inl, inr, ℕ, zero, suc, true, false}
+use Rattle.std.proofs.Common.{List, [], ◌∷◌, ◌++◌, length, get_or, Some, None, refl, sym, ap}
 use Rattle.std.proofs.Common.{◌∙◌, subst, arith, length-append}
-use Rattle.std.specs.Cmp.{IsTotalOrder, IsStrictWeakOrder}
-use Rattle.std.specs.List.{swap}
-use Rattle.std.specs.List.Sorted.{IsPermutation, IsSorted}
-use Rattle.std.specs.Ordering.{is_lt, nat_cmp, ordering_then}
-use Rattle.std.specs.declared.cmp.Ordering.{Ordering}
-use Rattle.std.specs.Prelude.{Bool, slice_get, Contains, filter, cond}
-use Rattle.std.proofs.lemmas.Bool.{cases_eq}
-use Rattle.std.proofs.lemmas.Cmp.{by_ranked, nat_cmp_total, on_total, ranked, then_total}
-use Rattle.std.proofs.lemmas.List.Edits.{Swapped, length-swap, swapped_from_swap}
-use Rattle.std.proofs.lemmas.List.Sorted.{All-permutation, Contains-permutation}
-use Rattle.std.proofs.lemmas.List.Sorted.{IsPermutation-keeps, length_permutation, ranks_by}
-use Rattle.std.proofs.lemmas.List.Sorted.{sorted_far}
+use Rattle.std.specs.Prelude.{Bool, slice_get, filter, cond}
+use Rattle.std.proofs.Math.Seq.{get_or-append_seam}
+use Rattle.std.proofs.lemmas.Bool.{cases_lt}
+use Rattle.std.proofs.lemmas.List.{get_or_append_left}
 use Rattle.std.proofs.lemmas.Option.{get_or_from_slice_get, slice_get-get_or, slice_get_within}
-use Rattle.list_lemmas.proofs.Places.{within_place}
+use Rattle.list_lemmas.proofs.Places.{place_within, within_place}
+use Rattle.bench_net.specs.Circuit.{IsWellFormed}
+use Rattle.bench_net.specs.Scan.{names}
+use Rattle.bench_net.specs.Statement.{Statement}
+use Rattle.fault_model.specs.Reordered.{HasSameSignals, IsReordered, place}
+use Rattle.fault_model.proofs.Public.{in_signal_order, same_signals}
+use Rattle.block_sim.specs.Arranged.{ArePlaces, IsArranged}
 use Rattle.block_sim.specs.Parts.{Parts}
-use Rattle.workers.specs.declared.class_order.Ranked.{Ranked}
-use Rattle.workers.specs.ClassOrder.{AreNumbered, AreRanked, IsRanked, RanksBefore}
+use Rattle.block_sim.specs.Regions.{IsStemOfClass}
+use Rattle.block_sim.proofs.Public.{one_class_stem}
+use Rattle.workers.specs.ClassOrder.{AreVisits, AreVisitsTo}
+use Rattle.workers.specs.Part.{AreAllByRegion, ArePartOf, IsOfPart}
+use Rattle.workers.specs.SortedPlaces.{AreSortedPlaces, GoesFirst}
 
--- the order of a sort
-abbrev pub rank_cmp : Ranked → Ranked → Ordering
-rank_cmp a b = ordering_then (nat_cmp a.visit b.visit)
-    (ordering_then (nat_cmp a.stem b.stem) (nat_cmp a.class b.class))
+-- the places of signals are numbers of signals, each of one signal
+module _ (c d : List Statement) (places : List ℕ) (well : IsWellFormed c) (is : IsArranged c d)
+    (are : ArePlaces c d places) where
+  reordered : IsReordered c d
+  reordered = subst (IsReordered c) (sym is.2)
+      (in_signal_order c is.0 is.1.signals well).reordered
 
-rank_total : IsTotalOrder rank_cmp
-rank_total = then_total (on_total (λ (r : Ranked). r.visit) nat_cmp_total)
-    (then_total (on_total (λ (r : Ranked). r.stem) nat_cmp_total)
-    (on_total (λ (r : Ranked). r.class) nat_cmp_total))
+  signals : HasSameSignals c d
+  signals = same_signals c d well reordered
 
-weak : IsStrictWeakOrder (λ (x y : Ranked). is_lt (rank_cmp x y))
-weak = ranks_by rank_total (λ (x : Ranked). x)
+  pub places_apart : (r q : ℕ) → r < length (names c) → q < length (names c)
+      → get_or places r 0 ≡ get_or places q 0 → r ≡ q
+  places_apart r q low lt e = signals.apart r q (sym (are r low) ∙ e ∙ are q lt)
 
--- a class that is not sorted before another comes after it, or is the same class
-not_after : (a b : Ranked) → is_lt (rank_cmp b a) ≡ false → a.class ≢ b.class → RanksBefore a b
-not_after a b e d =
-    by_ranked (b.visit < a.visit) (b.visit ≡ a.visit) (a.visit < b.visit)
-    (nat_cmp b.visit a.visit) (ranked b.visit a.visit (nat_cmp b.visit a.visit) refl)
-    (λ is p. let bad : true ≡ false = ap (λ o. is_lt (ordering_then o stems)) (sym is) ∙ e in
-    absurd (cc))
-    (λ is p. inr (sym p, by_stem (ap (λ o. is_lt (ordering_then o stems)) (sym is) ∙ e)))
-    (λ is p. inl p)
-  where
-    stems : Ordering
-    stems = ordering_then (nat_cmp b.stem a.stem) (nat_cmp b.class a.class)
+  pub places_low : (s : ℕ) → s < length (names c) → get_or places s 0 < length (names c)
+  places_low s lt =
+      let n = within_place (names c) s lt in
+      let low = place_within (names d) (place c d s) n.0 (signals.named s ∙ n.1) in
+      omega (arith, low, are s lt, signals.count)
 
-    by_class : is_lt (nat_cmp b.class a.class) ≡ false → a.class < b.class
-    by_class f =
-        by_ranked (b.class < a.class) (b.class ≡ a.class) (a.class < b.class)
-        (nat_cmp b.class a.class) (ranked b.class a.class (nat_cmp b.class a.class) refl)
-        (λ is p. let bad : true ≡ false = ap is_lt (sym is) ∙ f in absurd (cc))
-        (λ is p. absurd (d (sym p)))
-        (λ is p. p)
-
-    by_stem : is_lt stems ≡ false
-        → (a.stem < b.stem) ⊎ ((a.stem ≡ b.stem) × (a.class < b.class))
-    by_stem f =
-        by_ranked (b.stem < a.stem) (b.stem ≡ a.stem) (a.stem < b.stem) (nat_cmp b.stem a.stem)
-        (ranked b.stem a.stem (nat_cmp b.stem a.stem) refl)
-        (λ is p. let bad : true ≡ false =
-        ap (λ o. is_lt (ordering_then o (nat_cmp b.class a.class))) (sym is) ∙ f in absurd (cc))
-        (λ is p. inr (
-          sym p,
-          by_class (ap (λ o. is_lt (ordering_then o (nat_cmp b.class a.class)))
-              (sym is) ∙ f),
-        ))
-        (λ is p. inl p)
-
--- two places have two classes
-abbrev OneEach : List Ranked → Type 0
-OneEach l = (i j : ℕ) (d : Ranked) → i < length l → j < length l
-    → (get_or l i d).class ≡ (get_or l j d).class → i ≡ j
-
--- the place of an element before a swap
-abbrev Stood : ℕ → ℕ → ℕ → ℕ → Type 0
-Stood a b m n = ((m ≡ a) × (n ≡ b)) ⊎ (((m ≡ b) × (n ≡ a)) ⊎ ((m ≢ a) × (m ≢ b) × (n ≡ m)))
-
-stood_apart : (a b i j n k : ℕ) → Stood a b i n → Stood a b j k → n ≡ k → i ≡ j
-stood_apart a b i j n k (inl x) (inl y) e = omega (arith, x.0, x.1, y.0, y.1, e)
-stood_apart a b i j n k (inl x) (inr (inl y)) e = omega (arith, x.0, x.1, y.0, y.1, e)
-stood_apart a b i j n k (inl x) (inr (inr y)) e = absurd (y.1 (omega (arith, x.0, x.1, y.2, e)))
-stood_apart a b i j n k (inr (inl x)) (inl y) e = omega (arith, x.0, x.1, y.0, y.1, e)
-stood_apart a b i j n k (inr (inl x)) (inr (inl y)) e = omega (arith, x.0, x.1, y.0, y.1, e)
-stood_apart a b i j n k (inr (inl x)) (inr (inr y)) e =
-    absurd (y.0 (omega (arith, x.0, x.1, y.2, e)))
-stood_apart a b i j n k (inr (inr x)) (inl y) e = absurd (x.1 (omega (arith, x.2, y.0, y.1, e)))
-stood_apart a b i j n k (inr (inr x)) (inr (inl y)) e =
-    absurd (x.0 (omega (arith, x.2, y.0, y.1, e)))
-stood_apart a b i j n k (inr (inr x)) (inr (inr y)) e = omega (arith, x.2, y.2, e)
-
-one_each_swap : (l : List Ranked) (a b : ℕ) → a < length l → b < length l → OneEach l
-    → OneEach (swap l a b)
-one_each_swap l a b la lb one i j d li lj e =
-    let m = before i (omega (arith, li, length-swap l a b)) in
-    let n = before j (omega (arith, lj, length-swap l a b)) in
-    stood_apart a b i j m.0 n.0 m.3 n.3
-    (one m.0 n.0 d m.1 n.1 (ap (λ (r : Ranked). r.class) (sym m.2) ∙ e
-    ∙ ap (λ (r : Ranked). r.class) n.2))
-  where
-    s : Swapped (λ i. get_or l i d) (λ i. get_or (swap l a b) i d) a b
-    s = swapped_from_swap l (swap l a b) a b d la lb refl
-
-    before : (m : ℕ) → m < length l → (n : ℕ) × (n < length l)
-        × (get_or (swap l a b) m d ≡ get_or l n d) × Stood a b m n
-    before m lt = pick (cases_eq m a) (cases_eq m b)
-      where
-        pick : (m ≡ a) ⊎ (m ≡ a → ⊥) → (m ≡ b) ⊎ (m ≡ b → ⊥) → (n : ℕ) × (n < length l)
-            × (get_or (swap l a b) m d ≡ get_or l n d) × Stood a b m n
-        pick (inl x) y = (b, lb, ap (λ k. get_or (swap l a b) k d) x ∙ s.0, inl (x, refl))
-        pick (inr x) (inl y) = (
-          a,
-          la,
-          ap (λ k. get_or (swap l a b) k d) y ∙ s.1,
-          inr (inl (y, refl)),
-        )
-        pick (inr x) (inr y) = (m, lt, s.2 m x y, inr (inr (x, y, refl)))
-
--- classes by their own numbers, sorted
-pub sorted_ranked : (job : Parts) (visits : List ℕ) (xs ys : List Ranked)
-    → AreNumbered job visits (length job.classes.representative) xs → IsPermutation xs ys
-    → IsSorted rank_cmp ys → AreRanked job ys
-sorted_ranked job visits xs ys numbered p up = record {
-  visits = visits;
-  count = long ∙ numbered.count;
-  each = each;
-  all = λ class lt.
-      let x = within_place xs class (omega (arith, lt, numbered.count)) in
-      let at = x.0 in
-      let there : Contains ys at = Contains-permutation xs ys at p (
-        class,
-        slice_get_within xs class at x.1,
-        get_or_from_slice_get xs class at at x.1,
-      ) in (
-        there.0,
-        at,
-        slice_get-get_or ys there.0 at there.1 ∙ ap Some there.2,
-        (numbered.each class at x.1).0,
-      );
-  ordered = λ i k a b lt ea eb.
-      let li = slice_get_within ys i a ea in
-      let lk = slice_get_within ys k b eb in
-      let ga = get_or_from_slice_get ys i a a ea in
-      let gb = get_or_from_slice_get ys k b a eb in
-      let far = sorted_far (λ (x y : Ranked). is_lt (rank_cmp x y)) weak ys up i k a (omega (
-        arith,
-        lt,
-      )) lk in
-      not_after a b (subst (λ x. is_lt (rank_cmp b x) ≡ false) ga
-      (subst (λ x. is_lt (rank_cmp x (get_or ys i a)) ≡ false) gb far))
-      (λ e.
-      let same : i ≡ k = once i k a li lk (ap (λ (r : Ranked). r.class) ga ∙ e
-      ∙ ap (λ (r : Ranked). r.class) (sym gb)) in
-      omega (arith, lt, same));
+-- the visit to one class more
+pub visits_more : (job : Parts) (places : List ℕ) (n stem visit : ℕ) (visits : List ℕ)
+    → AreVisitsTo job places n visits → IsStemOfClass job.list.model job.circuit n stem
+    → stem < length (names job.circuit) → visit ≡ get_or places stem 0
+    → AreVisitsTo job places (n + 1) (visits ++ visit ∷ [])
+visits_more job places n stem visit visits was of within is = record {
+  count = omega (arith, was.count, length-append visits (visit ∷ []));
+  each = λ class r lt at. go class r at lt (cases_lt class n);
 }
   where
-    long : length ys ≡ length xs
-    long = length_permutation xs ys p
+    go : (class r : ℕ) → IsStemOfClass job.list.model job.circuit class r → class < n + 1
+        → (class < n) ⊎ (n ≤ class) → (r < length (names job.circuit))
+        × (get_or (visits ++ visit ∷ []) class 0 ≡ get_or places r 0)
+    go class r at lt (inl low) =
+        let x = was.each class r low at in (
+          x.0,
+          get_or_append_left visits (visit ∷ []) 0 class (omega (arith, low, was.count)) ∙ x.1,
+        )
+    go class r at lt (inr high) =
+        let last : class ≡ n = omega (arith, high, lt) in
+        let there = subst (λ k. IsStemOfClass job.list.model job.circuit k r) last at in
+        let same = one_class_stem job.list.model job.circuit n stem r of there in (
+          subst (λ s. s < length (names job.circuit)) same within,
+          ap (λ k. get_or (visits ++ visit ∷ []) k 0) (last ∙ sym was.count)
+              ∙ get_or-append_seam visits visit [] 0 ∙ is ∙ ap (λ s. get_or places s 0) same,
+        )
 
-    each : (k : ℕ) (at : Ranked) → slice_get ys k ≡ Some at → IsRanked job visits at
-    each k at e =
-        let all : All (IsRanked job visits) ys =
-        All-permutation (IsRanked job visits) xs ys p
-        (λ i d lt. let x = within_place xs i lt in
-        subst (IsRanked job visits) (sym (get_or_from_slice_get xs i x.0 d x.1))
-        (numbered.each i x.0 x.1).1) in
-        subst (IsRanked job visits) (get_or_from_slice_get ys k at at e)
-        (all k at (slice_get_within ys k at e))
+-- the classes by their visits are all classes region by region
+pub all_in_order : (job : Parts) (visits classes : List ℕ) → AreVisits job visits
+    → AreSortedPlaces visits classes → AreAllByRegion job classes
+all_in_order job visits classes known sorted = record {
+  visits = known.places;
+  each = λ k class at. (low k class at, tt);
+  all = λ class lt of.
+      let x = sorted.all class (omega (arith, lt, known.are.count)) in
+      (x.0, slice_get-get_or classes x.0 class x.1 ∙ ap Some x.2);
+  ordered = λ i k first second lt ea eb r q ra qb.
+      let left = known.are.each first r (low i first ea) ra in
+      let right = known.are.each second q (low k second eb) qb in
+      let goes = sorted.ordered i k 0 lt (slice_get_within classes k second eb) in
+      let ga = get_or_from_slice_get classes i first 0 ea in
+      let gb = get_or_from_slice_get classes k second 0 eb in
+      before first second r q left.0 right.0 left.1 right.1
+      (subst (λ b. GoesFirst visits first b) gb
+      (subst (λ a. GoesFirst visits a (get_or classes k 0)) ga goes));
+  few = omega (arith, sorted.count, known.are.count);
+}
+  where
+    low : (k class : ℕ) → slice_get classes k ≡ Some class
+        → class < length job.classes.representative
+    low k class at =
+        let lt = sorted.within k 0 (slice_get_within classes k class at) in
+        let same = get_or_from_slice_get classes k class 0 at in
+        omega (arith, lt, same, known.are.count)
 
-    number : (i : ℕ) (d : Ranked) → i < length xs → (get_or xs i d).class ≡ i
-    number i d lt = let x = within_place xs i lt in
-        ap (λ (r : Ranked). r.class) (get_or_from_slice_get xs i x.0 d x.1)
-        ∙ (numbered.each i x.0 x.1).0
+    before : (first second r q : ℕ) → r < length (names job.circuit)
+        → q < length (names job.circuit)
+        → get_or visits first 0 ≡ get_or known.places r 0
+        → get_or visits second 0 ≡ get_or known.places q 0 → GoesFirst visits first second
+        → (get_or known.places r 0 < get_or known.places q 0)
+        ⊎ ((get_or known.places r 0 ≡ get_or known.places q 0)
+        × ((r < q) ⊎ ((r ≡ q) × (first < second))))
+    before first second r q rl ql va vb (inl x) = inl (omega (arith, x, va, vb))
+    before first second r q rl ql va vb (inr x) =
+        let e : get_or known.places r 0 ≡ get_or known.places q 0 = omega (arith, x.0, va, vb) in
+        inr (e, inr (known.apart r q rl ql e, x.1))
 
-    once : OneEach ys
-    once = IsPermutation-keeps xs OneEach (λ i j d li lj e. sym (number i d li) ∙ e ∙ number j d lj)
-        (λ l a b la lb one. one_each_swap l a b la lb one) ys p
+-- ---- lists
 
 -- one element more at the end
 pub pushed : {X : Type 0} (xs : List X) (x y : X) (i : ℕ) → slice_get (xs ++ x ∷ []) i ≡ Some y
@@ -190,63 +123,16 @@ pushed (z ∷ xs) x y (suc i) e = go (pushed xs x y i e)
     go (inl h) = inl h
     go (inr h) = inr (ap suc h.0, h.1)
 
--- one class more
-pub numbered_more : (job : Parts) (visits : List ℕ) (n : ℕ) (xs : List Ranked)
-    (at : Ranked) → AreNumbered job visits n xs → at.class ≡ n
-    → IsRanked job visits at → AreNumbered job visits (n + 1) (xs ++ at ∷ [])
-numbered_more job visits n xs at was is own = record {
-  count = omega (arith, was.count, length-append xs (at ∷ []));
-  each = λ k x e. go k x (pushed xs at x k e);
-}
-  where
-    go : (k : ℕ) (x : Ranked) → (slice_get xs k ≡ Some x) ⊎ ((k ≡ length xs) × (at ≡ x))
-        → (x.class ≡ k) × IsRanked job visits x
-    go k x (inl h) = was.each k x h
-    go k x (inr h) = (
-      ap (λ (r : Ranked). r.class) (sym h.1) ∙ is ∙ sym was.count ∙ sym h.0,
-      subst (IsRanked job visits) h.1 own,
-    )
+-- the others stay, and it stands at the end
+kept : {X : Type 0} (xs : List X) (x y : X) (i : ℕ) → slice_get xs i ≡ Some y
+    → slice_get (xs ++ x ∷ []) i ≡ Some y
+kept [] x y i e = let bad : None ≡ Some y = e in absurd (cc)
+kept (z ∷ xs) x y zero e = e
+kept (z ∷ xs) x y (suc i) e = kept xs x y i e
 
--- ---- the classes of a part
-
--- each kept class was there before
-pub kept_place : {X : Type 0} (p : X → Bool) (xs : List X) (k : ℕ) (x : X)
-    → slice_get (filter p xs) k ≡ Some x
-    → (j : ℕ) × (k ≤ j) × (slice_get xs j ≡ Some x) × (p x ≡ true)
-kept_place p [] k x e = let bad : None ≡ Some x = e in absurd (cc)
-kept_place {X} p (y ∷ xs) k x e = go (p y) refl k e (λ k f. kept_place p xs k x f)
-  where
-    go : (t : Bool) → p y ≡ t → (k : ℕ)
-        → slice_get (cond t (y ∷ filter p xs) (filter p xs)) k ≡ Some x
-        → ((k : ℕ) → slice_get (filter p xs) k ≡ Some x
-        → (j : ℕ) × (k ≤ j) × (slice_get xs j ≡ Some x) × (p x ≡ true))
-        → (j : ℕ) × (k ≤ j) × (slice_get (y ∷ xs) j ≡ Some x) × (p x ≡ true)
-    go true is zero f rest = let same : y ≡ x = cc in (0, omega arith, f, ap p (sym same) ∙ is)
-    go true is (suc k) f rest = let h = rest k f in (suc h.0, omega (arith, h.1), h.2, h.3)
-    go false is k f rest = let h = rest k f in (suc h.0, omega (arith, h.1), h.2, h.3)
-
--- and in the same order
-pub kept_order : {X : Type 0} (p : X → Bool) (xs : List X) (i k : ℕ) (x y : X) → i < k
-    → slice_get (filter p xs) i ≡ Some x → slice_get (filter p xs) k ≡ Some y
-    → (a b : ℕ) × (a < b) × (slice_get xs a ≡ Some x) × (slice_get xs b ≡ Some y)
-kept_order p [] i k x y lt e f = let bad : None ≡ Some x = e in absurd (cc)
-kept_order {X} p (z ∷ xs) i k x y lt e f =
-    go (p z) i k lt e f (λ i k lt e f. kept_order p xs i k x y lt e f)
-  where
-    go : (t : Bool) (i k : ℕ) → i < k
-        → slice_get (cond t (z ∷ filter p xs) (filter p xs)) i ≡ Some x
-        → slice_get (cond t (z ∷ filter p xs) (filter p xs)) k ≡ Some y
-        → ((i k : ℕ) → i < k → slice_get (filter p xs) i ≡ Some x
-        → slice_get (filter p xs) k ≡ Some y
-        → (a b : ℕ) × (a < b) × (slice_get xs a ≡ Some x) × (slice_get xs b ≡ Some y))
-        → (a b : ℕ) × (a < b) × (slice_get (z ∷ xs) a ≡ Some x) × (slice_get (z ∷ xs) b ≡ Some y)
-    go t i zero low e f rest = absurd (omega (arith, low))
-    go true zero (suc k) low e f rest =
-        let h = kept_place p xs k y f in (0, suc h.0, omega arith, e, h.2)
-    go true (suc i) (suc k) low e f rest = let h = rest i k (omega (arith, low)) e f in
-        (suc h.0, suc h.1, omega (arith, h.2), h.3, h.4)
-    go false i (suc k) low e f rest = let h = rest i (suc k) low e f in
-        (suc h.0, suc h.1, omega (arith, h.2), h.3, h.4)
+at_end : {X : Type 0} (xs : List X) (x : X) → slice_get (xs ++ x ∷ []) (length xs) ≡ Some x
+at_end [] x = refl
+at_end (z ∷ xs) x = at_end xs x
 
 -- each class that is to be kept is there
 pub is_kept : {X : Type 0} (p : X → Bool) (xs : List X) (j : ℕ) (x : X) → slice_get xs j ≡ Some x
@@ -273,3 +159,106 @@ kept_few {X} p (x ∷ xs) = go (p x) (kept_few p xs)
         → length (cond t (x ∷ filter p xs) (filter p xs)) ≤ suc (length xs)
     go true rest = omega (arith, rest)
     go false rest = omega (arith, rest)
+
+-- ---- the classes of a part
+
+-- the classes of a part among the first n of a list
+pub record AreOwnUpTo (job : Parts) (parts part : ℕ) (classes : List ℕ) (n : ℕ)
+    (own : List ℕ) : Type 0 where
+  pub each : (k class : ℕ) → slice_get own k ≡ Some class
+      → (j : ℕ) × (j < n) × (slice_get classes j ≡ Some class) × IsOfPart job parts part class
+  pub all : (j class : ℕ) → j < n → slice_get classes j ≡ Some class
+      → IsOfPart job parts part class → (k : ℕ) × (slice_get own k ≡ Some class)
+  pub ordered : (i k first second : ℕ) → i < k → slice_get own i ≡ Some first
+      → slice_get own k ≡ Some second
+      → (a b : ℕ) × (a < b) × (slice_get classes a ≡ Some first)
+      × (slice_get classes b ≡ Some second)
+  pub few : length own ≤ n
+
+pub own_none : (job : Parts) (parts part : ℕ) (classes : List ℕ)
+    → AreOwnUpTo job parts part classes 0 []
+own_none job parts part classes = record {
+  each = λ k class at. let bad : None ≡ Some class = at in absurd (cc);
+  all = λ j class lt. absurd (omega (arith, lt));
+  ordered = λ i k first second lt ea eb. let bad : None ≡ Some first = ea in absurd (cc);
+  few = omega arith;
+}
+
+-- one class more, which is of the part
+pub own_more : (job : Parts) (parts part : ℕ) (classes : List ℕ) (n class : ℕ) (own : List ℕ)
+    → AreOwnUpTo job parts part classes n own → slice_get classes n ≡ Some class
+    → IsOfPart job parts part class
+    → AreOwnUpTo job parts part classes (n + 1) (own ++ class ∷ [])
+own_more job parts part classes n class own was here of = record {
+  each = λ k c at. each k c (pushed own class c k at);
+  all = λ j c lt at is. all j c lt at is (cases_lt j n);
+  ordered = λ i k first second lt ea eb.
+      ordered i k first second lt (pushed own class first i ea) (pushed own class second k eb);
+  few = omega (arith, was.few, length-append own (class ∷ []));
+}
+  where
+    each : (k c : ℕ) → (slice_get own k ≡ Some c) ⊎ ((k ≡ length own) × (class ≡ c))
+        → (j : ℕ) × (j < n + 1) × (slice_get classes j ≡ Some c) × IsOfPart job parts part c
+    each k c (inl h) = let x = was.each k c h in (x.0, omega (arith, x.1), x.2, x.3)
+    each k c (inr h) = (
+      n,
+      omega arith,
+      here ∙ ap Some h.1,
+      subst (IsOfPart job parts part) h.1 of,
+    )
+
+    all : (j c : ℕ) → j < n + 1 → slice_get classes j ≡ Some c → IsOfPart job parts part c
+        → (j < n) ⊎ (n ≤ j) → (k : ℕ) × (slice_get (own ++ class ∷ []) k ≡ Some c)
+    all j c lt at is (inl low) = let x = was.all j c low at is in (x.0, kept own class c x.0 x.1)
+    all j c lt at is (inr high) =
+        let last : n ≡ j = omega (arith, lt, high) in
+        let same : Some class ≡ Some c = sym here ∙ ap (λ k. slice_get classes k) last ∙ at in
+        (length own, at_end own class ∙ same)
+
+    ordered : (i k first second : ℕ) → i < k
+        → (slice_get own i ≡ Some first) ⊎ ((i ≡ length own) × (class ≡ first))
+        → (slice_get own k ≡ Some second) ⊎ ((k ≡ length own) × (class ≡ second))
+        → (a b : ℕ) × (a < b) × (slice_get classes a ≡ Some first)
+        × (slice_get classes b ≡ Some second)
+    ordered i k first second lt (inl h) (inl m) = was.ordered i k first second lt h m
+    ordered i k first second lt (inl h) (inr m) = let x = was.each i first h in
+        (x.0, n, x.1, x.2, here ∙ ap Some m.1)
+    ordered i k first second lt (inr h) (inl m) =
+        absurd (omega (arith, lt, h.0, slice_get_within own k second m))
+    ordered i k first second lt (inr h) (inr m) = absurd (omega (arith, lt, h.0, m.0))
+
+-- one class more, which is not
+pub own_past : (job : Parts) (parts part : ℕ) (classes : List ℕ) (n class : ℕ) (own : List ℕ)
+    → AreOwnUpTo job parts part classes n own → slice_get classes n ≡ Some class
+    → (IsOfPart job parts part class → ⊥) → AreOwnUpTo job parts part classes (n + 1) own
+own_past job parts part classes n class own was here not = record {
+  each = λ k c at. let x = was.each k c at in (x.0, omega (arith, x.1), x.2, x.3);
+  all = λ j c lt at is. all j c lt at is (cases_lt j n);
+  ordered = was.ordered;
+  few = omega (arith, was.few);
+}
+  where
+    all : (j c : ℕ) → j < n + 1 → slice_get classes j ≡ Some c → IsOfPart job parts part c
+        → (j < n) ⊎ (n ≤ j) → (k : ℕ) × (slice_get own k ≡ Some c)
+    all j c lt at is (inl low) = was.all j c low at is
+    all j c lt at is (inr high) =
+        let last : j ≡ n = omega (arith, lt, high) in
+        let same : Some c ≡ Some class = sym at ∙ ap (λ k. slice_get classes k) last ∙ here in
+        let one : c ≡ class = cc in
+        absurd (not (subst (IsOfPart job parts part) one is))
+
+-- those of all classes are the classes of the part
+pub part_in_order : (job : Parts) (parts part : ℕ) (classes own : List ℕ)
+    → AreAllByRegion job classes → AreOwnUpTo job parts part classes (length classes) own
+    → ArePartOf job parts part own
+part_in_order job parts part classes own all up = record {
+  visits = all.visits;
+  each = λ k class at. let x = up.each k class at in ((all.each x.0 class x.2).0, x.3);
+  all = λ class lt of.
+      let x = all.all class lt tt in
+      up.all x.0 class (slice_get_within classes x.0 class x.1) x.1 of;
+  ordered = λ i k first second lt ea eb.
+      let x = up.ordered i k first second lt ea eb in
+      all.ordered x.0 x.1 first second x.2 x.3 x.4;
+  few = omega (arith, up.few, all.few);
+}

@@ -7,7 +7,10 @@ mod TrueReports
 mod ThreadHandles
 mod ClosedLedgers
 mod PartsOfClasses
+mod SortedPlaces
 mod ClassOrders
+mod SumsInOrder
+mod FaultFirsts
 mod ListedRuns
 mod StretchRuns
 mod PassedPieces

@@ -3,7 +3,7 @@ use Rattle.std.proofs.Common.{◌≡◌, ◌≢◌, ◌<◌, ◌≤◌, ◌+◌,
 use Rattle.std.proofs.Common.{suc, List, [], ◌∷◌, ◌++◌, map, set, take, drop, length, get_or, All}
 use Rattle.std.proofs.Common.{Option, Some, None, refl, sym, ap, ◌∙◌, subst, arith, replicate}
 use Rattle.std.proofs.Common.{add-one}
-use Rattle.std.specs.Prelude.{Bool, ⊤, ◌==◌, filter, option_map, slice_get, slice_index_or}
+use Rattle.std.specs.Prelude.{slice_get}
 use Rattle.bench_net.specs.Statement.{Statement}
 use Rattle.fault_model.specs.declared.Model.{Model}
 use Rattle.fault_model.specs.Solution.{Test}
@@ -13,9 +13,9 @@ use Rattle.block_sim.proofs.Public.{class_has_stem, one_class_stem}
 use Rattle.std.proofs.Math.Nat.{mod-lt, mul_comm, mul-le-mul_left, suc-mul}
 use Rattle.patterns.specs.Tests.{blocks}
 use Rattle.std.proofs.Math.Seq.{take-add}
-use Rattle.std.proofs.lemmas.Bool.{cases_lt, eq-eqb, eqb-true}
+use Rattle.std.proofs.lemmas.Bool.{cases_lt}
 use Rattle.std.proofs.lemmas.Grind.{div_ceil_times}
-use Rattle.std.proofs.lemmas.Option.{get_or_from_slice_get, slice_get-get_or, slice_get-map}
+use Rattle.std.proofs.lemmas.Option.{get_or_from_slice_get, slice_get-get_or}
 use Rattle.std.proofs.lemmas.Option.{slice_get_within}
 use Rattle.std.proofs.lemmas.List.{get_or-set_same, get_or-set_other}
 use Rattle.std.proofs.lemmas.List.{length-map, length-set, take_all}
@@ -27,16 +27,14 @@ use Rattle.fault_model.specs.Collapse.{IsClassOf}
 use Rattle.block_sim.specs.Parts.{Parts, BelongTogether}
 use Rattle.workers.specs.declared.parts.PartVerdict.{PartVerdict}
 use Rattle.workers.specs.declared.parts.PartVerdict.TheVariants.{First, OtherPart}
-use Rattle.workers.specs.declared.class_order.Ranked.{Ranked}
 use Rattle.workers.specs.Part.{AreClassVerdicts, ArePartOf, ArePartVerdicts, IsClassVerdict}
-use Rattle.workers.specs.Part.{AreAllByRegion, AreByRegion, IsInOnePart, IsOfPart, IsPartVerdict}
+use Rattle.workers.specs.Part.{AreAllByRegion, IsInOnePart, IsOfPart, IsPartVerdict}
 use Rattle.workers.specs.Part.{first_in, stretch, stretch_size}
-use Rattle.workers.specs.ClassOrder.{AreRanked, IsCutOf, IsRanked, RanksBefore}
+use Rattle.workers.specs.ClassOrder.{IsCutOf}
 use Rattle.workers.specs.Settling.{shape_for}
 use Rattle.workers.specs.Verdict.{AreAfterHits, AreClassFirsts, AreFirsts, blocks_after}
 use Rattle.workers.specs.Verdict.{pieces_after}
 use Rattle.workers.proofs.TrueOutcomes.{class_count, class_in}
-use Rattle.workers.proofs.ClassOrders.{is_kept, kept_few, kept_order, kept_place}
 
 -- the part of a class is the part of its one stem
 pub part_of_stem : (job : Parts) (parts part class stem : ℕ)
@@ -59,106 +57,6 @@ one_part job parts class b some lt =
       (stem.0, stem.2, refl),
       λ other of. part_of_stem job parts other class stem.0 stem.2 of,
     )
-
--- classes by region: the ranked ones with a property, in their order
-by_region : (job : Parts) (Holds : ℕ → Type 0) (ranked kept : List Ranked) (classes : List ℕ)
-    → (are : AreRanked job ranked)
-    → ((k : ℕ) (at : Ranked) → slice_get kept k ≡ Some at
-    → IsRanked job are.visits at × Holds at.class)
-    → ((class : ℕ) → class < length job.classes.representative → Holds class
-    → (k : ℕ) × (at : Ranked) × (slice_get kept k ≡ Some at) × (at.class ≡ class))
-    → ((i k : ℕ) (a b : Ranked) → i < k → slice_get kept i ≡ Some a → slice_get kept k ≡ Some b
-    → RanksBefore a b)
-    → length kept ≤ length ranked → classes ≡ map (λ (r : Ranked). r.class) kept
-    → AreByRegion job Holds classes
-by_region job Holds ranked kept classes are each all ordered few is = record {
-  visits = are.visits;
-  each = λ k class at.
-      let x = found k class at in
-      let own = each k x.0 x.1 in (
-        subst (λ c. c < length job.classes.representative) x.2 own.0.within,
-        subst Holds x.2 own.1,
-      );
-  all = λ class lt of.
-      let x = all class lt of in (
-        x.0,
-        ap (λ (l : List ℕ). slice_get l x.0) is ∙ slice_get-map (λ (r : Ranked). r.class) kept x.0
-            ∙ ap (option_map (λ (r : Ranked). r.class)) x.2 ∙ ap Some x.3,
-      );
-  ordered = λ i k first second lt ea eb r q ra qb.
-      let x = found i first ea in
-      let y = found k second eb in
-      let left = (each i x.0 x.1).0 in
-      let right = (each k y.0 y.1).0 in
-      let rs : x.0.stem ≡ r = one_class_stem job.list.model job.circuit first x.0.stem r
-      (subst (λ c. IsStemOfClass job.list.model job.circuit c x.0.stem) x.2 left.stem) ra in
-      let qs : y.0.stem ≡ q = one_class_stem job.list.model job.circuit second y.0.stem q
-      (subst (λ c. IsStemOfClass job.list.model job.circuit c y.0.stem) y.2 right.stem) qb in
-      later x.0 y.0 first second r q x.2 y.2 rs qs
-      (left.visit ∙ ap (λ t. slice_index_or are.visits t 0) rs)
-      (right.visit ∙ ap (λ t. slice_index_or are.visits t 0) qs)
-      (ordered i k x.0 y.0 lt x.1 y.1);
-  few =
-      let n = ap (λ (l : List ℕ). length l) is ∙ length-map kept (λ (r : Ranked). r.class) in
-      omega (arith, n, few, are.count);
-}
-  where
-    found : (k class : ℕ) → slice_get classes k ≡ Some class
-        → (at : Ranked) × (slice_get kept k ≡ Some at) × (at.class ≡ class)
-    found k class at = from_mapped (λ (r : Ranked). r.class) kept k class
-        (ap (λ (l : List ℕ). slice_get l k) (sym is) ∙ at)
-
-    later : (a b : Ranked) (first second r q : ℕ) → a.class ≡ first → b.class ≡ second → a.stem ≡ r
-        → b.stem ≡ q → a.visit ≡ slice_index_or are.visits r 0
-        → b.visit ≡ slice_index_or are.visits q 0 → RanksBefore a b
-        → (slice_index_or are.visits r 0 < slice_index_or are.visits q 0)
-        ⊎ ((slice_index_or are.visits r 0 ≡ slice_index_or are.visits q 0)
-        × ((r < q) ⊎ ((r ≡ q) × (first < second))))
-    later a b first second r q ca cb sa sb va vb (inl x) = inl (omega (arith, x, va, vb))
-    later a b first second r q ca cb sa sb va vb (inr (v, inl x)) =
-        inr (omega (arith, v, va, vb), inl (omega (arith, x, sa, sb)))
-    later a b first second r q ca cb sa sb va vb (inr (v, inr x)) =
-        inr (
-          omega (arith, v, va, vb),
-          inr (omega (arith, x.0, sa, sb), omega (arith, x.1, ca, cb)),
-        )
-
--- all classes
-pub all_list : (job : Parts) (ranked : List Ranked) (classes : List ℕ) → AreRanked job ranked
-    → classes ≡ map (λ (r : Ranked). r.class) ranked → AreAllByRegion job classes
-all_list job ranked classes are is =
-    by_region job (λ class. ⊤) ranked ranked classes are (λ k at e. (are.each k at e, tt))
-    (λ class lt of. are.all class lt) are.ordered (omega arith) is
-
--- whether a class is of a part
-abbrev pub is_own : ℕ → ℕ → Ranked → Bool
-is_own part parts at = at.stem % parts == part
-
--- the classes of a part
-pub part_list : (job : Parts) (parts part : ℕ) (ranked : List Ranked) (classes : List ℕ)
-    → AreRanked job ranked
-    → classes ≡ map (λ (r : Ranked). r.class) (filter (is_own part parts) ranked)
-    → ArePartOf job parts part classes
-part_list job parts part ranked classes are is =
-    by_region job (IsOfPart job parts part) ranked (filter (is_own part parts) ranked) classes are
-    (λ k at e.
-    let x = kept_place (is_own part parts) ranked k at e in
-    let own = are.each x.0 at x.2 in (
-      own,
-      (at.stem, own.stem, sym (eqb-true (at.stem % parts) part x.3)),
-    ))
-    (λ class lt of.
-    let x = are.all class lt in
-    let own = are.each x.0 x.1 x.2 in
-    let stem : IsStemOfClass job.list.model job.circuit class x.1.stem =
-    subst (λ c. IsStemOfClass job.list.model job.circuit c x.1.stem) x.3 own.stem in
-    let kept = is_kept (is_own part parts) ranked x.0 x.1 x.2 (eq-eqb (x.1.stem % parts) part
-    (sym (part_of_stem job parts part class x.1.stem stem of))) in
-    (kept.0, x.1, kept.1, x.3))
-    (λ i k a b lt ea eb.
-    let x = kept_order (is_own part parts) ranked i k a b lt ea eb in
-    are.ordered x.0 x.1 a b x.2 x.3 x.4)
-    (kept_few (is_own part parts) ranked) is
 
 -- each is a class of the job
 pub part_within : (job : Parts) (parts part : ℕ) (classes : List ℕ)

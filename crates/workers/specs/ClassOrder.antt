@@ -1,38 +1,25 @@
 -- The classes of a job, region by region.
-use Rattle.std.specs.Prelude.{◌≡◌, ◌⊎◌, ◌<◌, ◌≤◌, ℕ, List, All, length, slice_get, Some}
-use Rattle.std.specs.Prelude.{slice_index_or}
+use Rattle.std.specs.Prelude.{◌≡◌, ◌<◌, ◌≤◌, ℕ, List, All, length, slice_index}
+use Rattle.bench_net.specs.Scan.{names}
 use Rattle.block_sim.specs.Parts.{Parts}
 use Rattle.block_sim.specs.Regions.{IsStemOfClass}
-use Rattle.workers.specs.declared.class_order.Ranked.{Ranked}
 use Rattle.workers.specs.Part.{stretch_size}
 
--- a class of the job, with the stem of its region and the visit to that
-pub record IsRanked (job : Parts) (visits : List ℕ) (at : Ranked) : Type 0 where
-  pub within : at.class < length job.classes.representative
-  pub stem : IsStemOfClass job.list.model job.circuit at.class at.stem
-  pub visit : at.visit ≡ slice_index_or visits at.stem 0
+-- the first n classes, by their own numbers, with the visits to the stems of their regions
+pub record AreVisitsTo (job : Parts) (places : List ℕ) (n : ℕ) (visits : List ℕ) : Type 0 where
+  pub count : length visits ≡ n
+  pub each : (class stem : ℕ) → class < n → IsStemOfClass job.list.model job.circuit class stem
+      → (stem < length (names job.circuit))
+      × (slice_index visits class ≡ slice_index places stem)
 
--- the first n classes, by their own numbers
-pub record AreNumbered (job : Parts) (visits : List ℕ) (n : ℕ) (ranked : List Ranked) : Type 0 where
-  pub count : length ranked ≡ n
-  pub each : (k : ℕ) (at : Ranked) → slice_get ranked k ≡ Some at
-      → (at.class ≡ k) × IsRanked job visits at
-
--- one comes before another: by visit, then by stem, then by the class's own number
-abbrev pub RanksBefore : Ranked → Ranked → Type 0
-RanksBefore a b = (a.visit < b.visit)
-    ⊎ ((a.visit ≡ b.visit)
-    × ((a.stem < b.stem) ⊎ ((a.stem ≡ b.stem) × (a.class < b.class))))
-
--- all classes, region by region, in the order of some visits to the stems
-pub record AreRanked (job : Parts) (ranked : List Ranked) : Type 0 where
-  pub visits : List ℕ
-  pub count : length ranked ≡ length job.classes.representative
-  pub each : (k : ℕ) (at : Ranked) → slice_get ranked k ≡ Some at → IsRanked job visits at
-  pub all : (class : ℕ) → class < length job.classes.representative
-      → (k : ℕ) × (at : Ranked) × (slice_get ranked k ≡ Some at) × (at.class ≡ class)
-  pub ordered : (i k : ℕ) (a b : Ranked) → i < k → slice_get ranked i ≡ Some a
-      → slice_get ranked k ≡ Some b → RanksBefore a b
+-- the visits to the regions of all classes, each below the number of signals; no two stems have the
+-- same visit
+pub record AreVisits (job : Parts) (visits : List ℕ) : Type 0 where
+  pub places : List ℕ
+  pub apart : (r q : ℕ) → r < length (names job.circuit) → q < length (names job.circuit)
+      → slice_index places r ≡ slice_index places q → r ≡ q
+  pub within : All (λ visit. visit < length (names job.circuit)) visits
+  pub are : AreVisitsTo job places (length job.classes.representative) visits
 
 -- classes of the job, to be cut into this number of stretches of this size
 pub record IsCutOf (job : Parts) (parts size : ℕ) (classes : List ℕ) : Type 0 where

@@ -1,6 +1,8 @@
 pub mod ClassSelection
 pub mod Part
+pub mod SortedPlaces
 pub mod ClassOrder
+pub mod FaultFirsts
 pub mod Verdict
 pub mod Settling
 pub mod Schedule

@@ -1,30 +1,52 @@
 //! The classes of a job, region by region.
 
-ghost use Rattle.std.specs.Prelude.{◌≡◌, ◌<◌, ◌%◌, ◌==◌, ℕ, IfOk, List, filter, length, map};
+ghost use Rattle.std.specs.Prelude.{◌≡◌, ◌<◌, ◌^◌, IfOk, length};
 ghost use Rattle.workers.specs.Part.{AreAllByRegion, ArePartOf};
-ghost use Rattle.workers.specs.ClassOrder.{AreNumbered, AreRanked};
+ghost use Rattle.workers.specs.ClassOrder.{AreVisits};
+ghost use Rattle.workers.specs.SortedPlaces.{ArePositions};
 
-use crate::counting_sort::sort_by_counting;
+use crate::counting_sort::{SortedPlaces, sorted_places};
 use block_sim::Job;
 use std::alloc::{AllocError, Global};
 
-/// A class of a job, with the visit to its region and the number of the region's stem. It is
-/// ordered by the visit and the stem, then by its own number. The visit is the stem's place in the
-/// lists of the simulation, and a stem's simulation reads the gates that lie ahead of it. The gates
-/// of near stems are near, so they are still in the caches.
-#[derive(Clone, Copy, Debug, PartialEq, Eq, PartialOrd, Ord)]
-pub(crate) struct Ranked {
-    visit: u32,
-    stem: u32,
-    class: u32,
+/// All classes of a job in an order.
+#[derive(Drop)]
+pub(crate) struct ClassOrder {
+    /// The classes, in order.
+    pub(crate) classes: Vec<u32>,
+    /// For each class, by its number, its position in the order.
+    pub(crate) positions: Vec<u32>,
 }
 
-/// Returns all classes of a job, region by region, in the order of the visits.
+/// Returns all classes of a job, region by region, in the order of the visits: by the visit to the
+/// region, and in a region by number. The visit is the place of the region's stem in the lists of
+/// the simulation, and a stem's simulation reads the gates that lie ahead of it. The gates of near
+/// stems are near, so they are still in the caches.
+pub(crate) fn class_order(alloc: Global, job: &Job) -> Result<ClassOrder, AllocError>
+    ensures classes { IfOk result (λ order. AreAllByRegion job.now order.classes.items) }
+    ensures positions { IfOk result (λ order.
+        ArePositions order.classes.items order.positions.items) }
+    ensures count { IfOk result (λ order.
+        length order.positions.items ≡ length job.now.classes.representative) }
+{
+    let visits = visits_of(alloc, job)?;
+    let sorted = sorted_places(alloc, &visits, job.circuit().signals())?;
+    let SortedPlaces { places, positions } = sorted;
+    Ok(ClassOrder {
+        classes: places,
+        positions,
+    })
+}
+
+/// Returns all classes of a job in the order of [`class_order`].
 pub(crate) fn all_classes(alloc: Global, job: &Job) -> Result<Vec<u32>, AllocError>
     ensures { IfOk result (λ classes. AreAllByRegion job.now classes.items) }
 {
-    let ranked = ranked_classes(alloc, job)?;
-    let classes = ranked.iter().map(|at| at.class).collect(alloc)?;
+    let order = class_order(alloc, job)?;
+    let ClassOrder {
+        classes,
+        positions: _positions,
+    } = order;
     Ok(classes)
 }
 
@@ -38,52 +60,43 @@ pub(crate) fn part_classes(
     requires { 0 < parts }
     ensures { IfOk result (λ classes. ArePartOf job.now parts part classes.items) }
 {
-    let ranked = ranked_classes(alloc, job)?;
-    let classes = of_part(alloc, ranked.as_slice(), part, parts)?;
-    Ok(classes)
+    let all = all_classes(alloc, job)?;
+    let own = of_part(alloc, job, &all, part, parts)?;
+    Ok(own)
 }
 
-/// Returns the numbers of the classes whose stems, modulo the number of parts, are the part.
-fn of_part(alloc: Global, ranked: &[Ranked], part: u32, parts: u32) -> Result<Vec<u32>, AllocError>
-    requires { 0 < parts }
-    ensures { IfOk result (λ classes. classes.items
-        ≡ map (λ at. at.class) (filter (λ at. at.stem % parts == part) ranked.now)) }
+/// Returns the classes whose stems, modulo the number of parts, are the part, in the order of all
+/// classes.
+fn of_part(
+    alloc: Global,
+    job: &Job,
+    classes: &[u32],
+    part: u32,
+    parts: u32,
+) -> Result<Vec<u32>, AllocError>
+    requires parts { 0 < parts }
+    requires all { AreAllByRegion job.now classes.now }
+    ensures { IfOk result (λ own. ArePartOf job.now parts part own.items) }
 {
-    ranked
-        .iter()
-        .filter(|at| at.stem % parts == part)
-        .map(|at| at.class)
-        .collect(alloc)
+    let mut own = Vec::new(alloc);
+    for class in classes {
+        if job.stem_of_class(*class) % parts == part {
+            own.push(*class)?;
+        }
+    }
+    Ok(own)
 }
 
-/// Returns all classes of a job in their order. Counting makes the order, and the sort ensures it.
-fn ranked_classes(alloc: Global, job: &Job) -> Result<Vec<Ranked>, AllocError>
-    ensures { IfOk result (λ ranked. AreRanked job.now ranked.items) }
-{
-    let mut ranked = numbered_classes(alloc, job)?;
-    let visits = ranked.iter().map(|at| at.visit).collect(alloc)?;
-    sort_by_counting(
-        alloc,
-        ranked.as_mut_slice(),
-        visits,
-        job.circuit().signals(),
-    )?;
-    ranked.sort_unstable();
-    Ok(ranked)
-}
-
-/// Returns all classes of a job by their own numbers.
-fn numbered_classes(alloc: Global, job: &Job) -> Result<Vec<Ranked>, AllocError>
-    ensures { IfOk result (λ ranked. (visits : List ℕ) × AreNumbered job.now visits
-        (length job.now.classes.representative) ranked.items) }
+/// Returns the visit to the region of each class, by the class's number.
+fn visits_of(alloc: Global, job: &Job) -> Result<Vec<u32>, AllocError>
+    ensures visits { IfOk result (λ visits. AreVisits job.now visits.items) }
+    ensures few { IfOk result (λ visits. length visits.items < 2 ^ 32) }
 {
     let count = job.classes().count();
-    let visits = job.places();
-    let mut ranked = Vec::with_capacity(alloc, count as usize)?;
+    let places = job.places();
+    let mut visits = Vec::with_capacity(alloc, count as usize)?;
     for class in 0..count {
-        let stem = job.stem_of_class(class);
-        let visit = visits[stem as usize];
-        ranked.push(Ranked { visit, stem, class })?;
+        visits.push(places[job.stem_of_class(class) as usize])?;
     }
-    Ok(ranked)
+    Ok(visits)
 }

@@ -18,6 +18,7 @@ mod class_list_run;
 mod class_order;
 mod class_selection;
 mod counting_sort;
+mod fault_firsts;
 mod list_runner;
 mod open_classes;
 mod open_run;

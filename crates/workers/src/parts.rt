@@ -19,7 +19,8 @@ ghost use Rattle.workers.specs.Stretches.{shape_of_stretches};
 ghost use Rattle.workers.specs.Verdict.{AreAfterHits, AreClassFirsts, AreFirsts};
 ghost use Rattle.workers.specs.Verdict.{blocks_after, pieces_after};
 
-use crate::class_order::{all_classes, part_classes};
+use crate::class_order::{ClassOrder, class_order, part_classes};
+use crate::fault_firsts::{OrderedFirsts, verdicts_in};
 use crate::piece_worker::Gate;
 use crate::stretch_run::{Waiting, lower_of};
 use crate::stretch_workers::{Done, Served, empty_table, not_begun, take_parts};
@@ -266,15 +267,13 @@ pub fn run_over_ledger<G: Gate + Sync, R: Threads + Wait>(
     check_workers(workers)?;
     let count = job.classes().count();
     check_pieces(job, count.div_ceil(parts))?;
-    let all = all_classes(alloc, job)?;
-    let cut = Cut::new(job, all, parts);
+    let order = class_order(alloc, job)?;
+    let ClassOrder { classes, positions } = order;
+    let cut = Cut::new(job, classes, parts);
     let gathered = gather(rt, alloc, job, &cut, workers, gate)?;
     let Gathered { firsts, ledger } = gathered;
-    let table = by_class(alloc, count, cut.classes.as_slice(), firsts.as_slice())?;
-    let blocks = job.tests().blocks();
-    let skipped = skipped_after(table.as_slice(), blocks);
-    let found = firsts_of_faults(alloc, job, table.as_slice())?;
-    let verdicts = Verdicts::of(found, skipped);
+    let ordered = OrderedFirsts { positions, firsts };
+    let verdicts = verdicts_in(rt, alloc, job, &ordered, workers)?;
     Ok(LedgerRun { verdicts, ledger })
 }
 

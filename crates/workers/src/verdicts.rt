@@ -32,6 +32,19 @@ impl Model for Verdicts {
         (length v.firsts.items < 2 ^ 32) × (v.detected ≡ detected_in v.firsts.items) };
 }
 
+/// Returns the number of faults that a test detects. It takes no branch for a fault, because the
+/// next fault's verdict is hard to guess.
+fn count_detected(firsts: &[Option<u32>]) -> u32
+    requires { length firsts.now < 2 ^ 32 }
+    ensures { result ≡ detected_count firsts.now }
+{
+    let mut detected = 0;
+    for first in firsts {
+        detected += u32::from(first.is_some());
+    }
+    detected
+}
+
 impl Verdicts {
     /// Makes the verdicts of faults in the order of their list.
     pub(crate) fn of(firsts: Vec<Option<u32>>, skipped: u64) -> Verdicts
@@ -39,7 +52,7 @@ impl Verdicts {
         ensures firsts { result.firsts ≡ firsts.items }
         ensures skipped { result.skipped ≡ skipped }
     {
-        let detected = firsts.iter().filter(|first| first.is_some()).count() as u32;
+        let detected = count_detected(&firsts);
         Verdicts {
             firsts,
             detected,
