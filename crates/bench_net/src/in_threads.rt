@@ -9,7 +9,7 @@ ghost use Rattle.bench_net.specs.reader.Entries.{entries_of, names_in, reads_in,
 ghost use Rattle.bench_net.specs.reader.Entries.{AreNumberedLines, MayBe};
 ghost use Rattle.bench_net.specs.reader.Parsed.{names_of};
 ghost use Rattle.bench_net.specs.reader.Stretches.{HasStretch, HaveStretches, AreCounted, joined};
-ghost use Rattle.bench_net.specs.reader.Stretches.{HasNumbered};
+ghost use Rattle.bench_net.specs.reader.Stretches.{HasNumbered, HaveNumbered};
 ghost use Rattle.bench_net.specs.reader.Stretches.{line_numbers_in};
 
 use crate::line::NumberedLine;
@@ -20,6 +20,7 @@ use crate::stretch::{Numbered, Stretch};
 use crate::{BenchFault, Limit};
 use indexmap::IndexSet;
 use std::alloc::{AllocError, AllocFailed, Global};
+use std::snapshot::Snapshot;
 use std::sync::Wait;
 use std::thread;
 use std::thread::{Promise, Threads};
@@ -75,8 +76,9 @@ struct File<'a> {
 }
 
 /// Returns the statements of a file over numbers, or its error, as [`read_lines`] does, in at most
-/// `workers` threads. Each thread reads the statements of a range of the lines, and the caller's
-/// thread numbers them. It alone reads a short file, and it reads a file with an error again.
+/// `workers` threads at a time. Each thread reads the statements of a range of the lines, and then
+/// each numbers them. The caller's thread alone reads a short file, and it reads a file with an
+/// error again.
 pub fn read_lines_in_threads<R: Threads + Wait>(
     rt: &R,
     alloc: Global,
@@ -117,7 +119,8 @@ fn lines_by_threads<R: Threads + Wait>(
     let parts = read_stretches(rt, alloc, text, threads)?;
     let all = whole_file(alloc, text, parts)?;
     let file = file_of(alloc, all)?;
-    let (lines, at) = number_stretches(alloc, &file)?;
+    let parts = number_stretches(rt, alloc, &file)?;
+    let (lines, at) = all_numbered(alloc, &file, parts)?;
     let names = NameTable::new(alloc, &file.names)?;
     Ok(Lines { names, lines, at })
 }
@@ -299,19 +302,121 @@ fn number_stretch(alloc: Global, file: &File, place: usize) -> Result<Numbered, 
     Ok(Numbered { place, lines, at })
 }
 
+/// A file in stretches, of which each thread numbers one.
+trait StretchedFile {
+    ghost use Rattle.std.specs.Prelude.{List};
+    ghost use Rattle.bench_net.specs.declared.stretch.Stretch.{Stretch};
+    ghost use Rattle.bench_net.specs.Statement.{Name};
+
+    /// The names that the stretches define.
+    ghost names: { Self → List Name };
+
+    /// The stretches.
+    ghost stretches: { Self → List Stretch };
+
+    /// Returns the number of stretches.
+    fn count(&self) -> usize
+        ensures { result ≡ length (stretches self.now) };
+
+    /// Numbers the lines of the stretch at a place.
+    fn number(&self, alloc: Global, place: usize) -> Result<Numbered, BenchFault>
+        requires { place < length (stretches self.now) }
+        ensures place { IfOk result (λ own. own.place ≡ place) }
+        ensures lines { HasNumbered (names self.now) (stretches self.now) result };
+}
+
+impl StretchedFile for File<'_> {
+    ghost use Rattle.bench_net.specs.reader.Parsed.{names_of};
+
+    ghost names = { λ file. names_of file.names.keys };
+
+    ghost stretches = { λ file. file.stretches.items };
+
+    fn count(&self) -> usize {
+        self.stretches.len()
+    }
+
+    fn number(&self, alloc: Global, place: usize) -> Result<Numbered, BenchFault> {
+        number_stretch(alloc, self, place)
+    }
+}
+
+/// The promise of a thread: it returns the lines of one of the stretches of this file over numbers.
+#[derive(Drop)]
+struct LinesOf<F> {
+    file: Snapshot<F>,
+}
+
+impl<F: StretchedFile> Promise<Result<Numbered, BenchFault>> for LinesOf<F> {
+    ghost use Rattle.bench_net.specs.reader.Stretches.{HasNumbered};
+
+    ghost kept_by = { λ p r. HasNumbered (F.names p.file.value) (F.stretches p.file.value) r };
+}
+
+/// Numbers the lines of each stretch in a thread. If a thread cannot start, the following ones
+/// aren't started either, and the lines of their stretches are missing.
+fn number_stretches<R: Threads + Wait, F: StretchedFile + Sync>(
+    rt: &R,
+    alloc: Global,
+    file: &F,
+) -> Result<Vec<Result<Numbered, BenchFault>>, AllocError>
+    ensures { IfOk result (λ parts.
+        HaveNumbered (F.names file.now) (F.stretches file.now) parts.items) }
+{
+    thread::scope(
+        thread::scope_env(),
+        rt,
+        move |scope| -> Result<Vec<Result<Numbered, BenchFault>>, AllocError>
+            ensures { IfOk result (λ parts. HaveNumbered (F.names file.entry.now)
+                (F.stretches file.entry.now) parts.items) }
+        {
+            let count = file.count();
+            let mut handles = Vec::with_capacity(alloc, count)?;
+            for place in 0..count {
+                let promised = LinesOf {
+                    file: Snapshot::of(file),
+                };
+                let Ok(handle) = scope.spawn_with(promised, move || file.number(alloc, place))
+                else {
+                    break;
+                };
+                handles.push(handle)?;
+            }
+            match thread::join_promised(rt, handles) {
+                Ok(parts) => Ok(parts),
+                Err(_) => Err(AllocError),
+            }
+        },
+    )
+}
+
 /// Returns the lines of all stretches over numbers, and the numbers of the lines that define the
-/// names.
-fn number_stretches(alloc: Global, file: &File) -> Result<(Vec<NumberedLine>, Vec<u64>), BenchFault>
+/// names, if none is missing.
+fn all_numbered(
+    alloc: Global,
+    file: &File,
+    parts: Vec<Result<Numbered, BenchFault>>,
+) -> Result<(Vec<NumberedLine>, Vec<u64>), Setback>
+    requires { HaveNumbered (names_of file.now.names.keys) file.now.stretches.items parts.items }
     ensures numbered { IfOk result (λ r. AreNumberedLines (names_of file.now.names.keys)
         (joined file.now.stretches.items) r.0.items) }
     ensures at { IfOk result (λ r.
         r.1.items ≡ line_numbers_in (joined file.now.stretches.items)) }
 {
+    let count = file.stretches.len();
     let mut lines = Vec::new(alloc);
     let mut at = Vec::new(alloc);
-    let count = file.stretches.len();
-    for place in 0..count {
-        let numbered = number_stretch(alloc, file, place)?;
+    let mut place: usize = 0;
+    for part in parts {
+        if let Err(BenchFault::Memory) = part {
+            return Err(Setback::Memory);
+        }
+        let Ok(numbered) = part else {
+            return Err(Setback::Again);
+        };
+        if numbered.place != place || place == count {
+            return Err(Setback::Again);
+        }
         let Numbered {
             place: _,
             lines: mut more,
@@ -319,6 +424,10 @@ fn number_stretches(alloc: Global, file: &File) -> Result<(Vec<NumberedLine>, Ve
         } = numbered;
         lines.append(&mut more)?;
         at.append(&mut more_at)?;
+        place += 1;
+    }
+    if place != count {
+        return Err(Setback::Again);
     }
     Ok((lines, at))
 }

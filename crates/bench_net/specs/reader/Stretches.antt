@@ -61,3 +61,8 @@ pub record AreOfStretch (ns : List Name) (stretches : List Stretch) (own : Numbe
 -- the result of a thread has such lines, unless they have an error
 abbrev pub HasNumbered : List Name → List Stretch → Result Numbered BenchFault → Type 0
 HasNumbered ns stretches part = IfOk part (AreOfStretch ns stretches)
+
+-- each of several results has such lines
+abbrev pub HaveNumbered : List Name → List Stretch → List (Result Numbered BenchFault) → Type 0
+HaveNumbered ns stretches parts = (i : ℕ) (part : Result Numbered BenchFault)
+    → slice_get parts i ≡ Some part → HasNumbered ns stretches part

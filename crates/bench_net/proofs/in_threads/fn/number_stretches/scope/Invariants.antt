@@ -1,0 +1,9 @@
+use Rattle.std.proofs.Common.{◌≡◌, ◌<◌, ℕ, get_or, vec_items, vec_len}
+use Rattle.bench_net.proofs.in_threads.fn.number_stretches.scope.Given as goal
+
+-- each handle is promised lines of this file
+abbrev pub invariant-loop-place : goal.invariant-loop-place
+invariant-loop-place g l = record {
+  each : (k : ℕ) (d : _) → k < vec_len l.handles
+      → (get_or (vec_items l.handles) k d).promise.file.value ≡ l.file;
+}
