@@ -119,9 +119,8 @@ fn lines_by_threads<R: Threads + Wait>(
     let parts = read_stretches(rt, alloc, text, threads)?;
     let all = whole_file(alloc, text, parts)?;
     let file = file_of(alloc, all)?;
-    let parts = number_stretches(rt, alloc, &file)?;
-    let (lines, at) = all_numbered(alloc, &file, parts)?;
-    let names = NameTable::new(alloc, &file.names)?;
+    let (numbered, names) = number_stretches(rt, alloc, &file)?;
+    let (lines, at) = all_numbered(alloc, &file, numbered)?;
     Ok(Lines { names, lines, at })
 }
 
@@ -323,6 +322,11 @@ trait StretchedFile {
         requires { place < length (stretches self.now) }
         ensures place { IfOk result (λ own. own.place ≡ place) }
         ensures lines { HasNumbered (names self.now) (stretches self.now) result };
+
+    /// Returns the names in one text.
+    fn name_table(&self, alloc: Global) -> Result<NameTable, BenchFault>
+        ensures named { IfOk result (λ table. table ≡ names self.now) }
+        ensures refused { IfErr result (λ fault. fault ≡ BenchFault.Memory) };
 }
 
 impl StretchedFile for File<'_> {
@@ -339,6 +343,10 @@ impl StretchedFile for File<'_> {
     fn number(&self, alloc: Global, place: usize) -> Result<Numbered, BenchFault> {
         number_stretch(alloc, self, place)
     }
+
+    fn name_table(&self, alloc: Global) -> Result<NameTable, BenchFault> {
+        NameTable::new(alloc, &self.names)
+    }
 }
 
 /// The promise of a thread: it returns the lines of one of the stretches of this file over numbers.
@@ -353,22 +361,27 @@ impl<F: StretchedFile> Promise<Result<Numbered, BenchFault>> for LinesOf<F> {
     ghost kept_by = { λ p r. HasNumbered (F.names p.file.value) (F.stretches p.file.value) r };
 }
 
-/// Numbers the lines of each stretch in a thread. If a thread cannot start, the following ones
-/// aren't started either, and the lines of their stretches are missing.
+/// Numbers the lines of each stretch in a thread, and meanwhile puts the names into one text in the
+/// caller's thread. If a thread cannot start, the following ones aren't started either, and the
+/// lines of their stretches are missing.
 fn number_stretches<R: Threads + Wait, F: StretchedFile + Sync>(
     rt: &R,
     alloc: Global,
     file: &F,
-) -> Result<Vec<Result<Numbered, BenchFault>>, AllocError>
-    ensures { IfOk result (λ parts.
-        HaveNumbered (F.names file.now) (F.stretches file.now) parts.items) }
+) -> Result<(Vec<Result<Numbered, BenchFault>>, NameTable), BenchFault>
+    ensures numbered { IfOk result (λ r.
+        HaveNumbered (F.names file.now) (F.stretches file.now) r.0.items) }
+    ensures named { IfOk result (λ r. r.1 ≡ F.names file.now) }
+    ensures refused { IfErr result (λ fault. fault ≡ BenchFault.Memory) }
 {
     thread::scope(
         thread::scope_env(),
         rt,
-        move |scope| -> Result<Vec<Result<Numbered, BenchFault>>, AllocError>
-            ensures { IfOk result (λ parts. HaveNumbered (F.names file.entry.now)
-                (F.stretches file.entry.now) parts.items) }
+        move |scope| -> Result<(Vec<Result<Numbered, BenchFault>>, NameTable), BenchFault>
+            ensures numbered { IfOk result (λ r. HaveNumbered (F.names file.entry.now)
+                (F.stretches file.entry.now) r.0.items) }
+            ensures named { IfOk result (λ r. r.1 ≡ F.names file.entry.now) }
+            ensures refused { IfErr result (λ fault. fault ≡ BenchFault.Memory) }
         {
             let count = file.count();
             let mut handles = Vec::with_capacity(alloc, count)?;
@@ -382,9 +395,10 @@ fn number_stretches<R: Threads + Wait, F: StretchedFile + Sync>(
                 };
                 handles.push(handle)?;
             }
+            let names = file.name_table(alloc)?;
             match thread::join_promised(rt, handles) {
-                Ok(parts) => Ok(parts),
-                Err(_) => Err(AllocError),
+                Ok(parts) => Ok((parts, names)),
+                Err(_) => Err(BenchFault::Memory),
             }
         },
     )
@@ -405,7 +419,7 @@ fn all_numbered(
 {
     let count = file.stretches.len();
     let mut lines = Vec::new(alloc);
-    let mut at = Vec::new(alloc);
+    let mut at = Vec::with_capacity(alloc, file.names.len())?;
     let mut place: usize = 0;
     for part in parts {
         if let Err(BenchFault::Memory) = part {

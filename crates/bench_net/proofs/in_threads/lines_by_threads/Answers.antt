@@ -22,6 +22,6 @@ returns g c =
     c.in_ok-all.ensures.few in
     let once = subst (AllPairs (λ m n. m ≢ n)) file.own c.in_ok-file.ensures.once in
     subst (λ n. AreLinesOf text n c.in_ok-lines.lines.items c.in_ok-lines.at.items)
-    (sym c.in_ok-names.ensures.named)
+    (sym c.in_ok-numbered.ensures.named)
     (assembled text all (within text all stated c.requires few) ns c.in_ok-lines.lines.items
     c.in_ok-lines.at.items file.own once c.in_ok-lines.ensures.numbered c.in_ok-lines.ensures.at)
