@@ -76,9 +76,10 @@ struct File<'a> {
 }
 
 /// Returns the statements of a file over numbers, or its error, as [`read_lines`] does, in at most
-/// `workers` threads at a time. Each thread reads the statements of a range of the lines, and then
-/// each numbers them. The caller's thread alone reads a short file, and it reads a file with an
-/// error again.
+/// `workers` threads besides the caller's. Each thread reads the statements of a range of the
+/// lines. The caller's thread numbers the names, and then threads number the statements, each those
+/// of one range. The caller's thread alone reads a short file, and it reads a file with an error
+/// again.
 pub fn read_lines_in_threads<R: Threads + Wait>(
     rt: &R,
     alloc: Global,
@@ -290,18 +291,19 @@ fn names_before(stretches: &[Stretch], place: usize) -> u32
 /// Numbers the lines of the stretch at a place.
 fn number_stretch(alloc: Global, file: &File, place: usize) -> Result<Numbered, BenchFault>
     requires { place < length file.now.stretches.items }
-    ensures place { IfOk result (λ own. own.place ≡ place) }
-    ensures lines { HasNumbered (names_of file.now.names.keys) file.now.stretches.items result }
+    ensures { HasNumbered (names_of file.now.names.keys) file.now.stretches.items place result }
 {
     let stretches = file.stretches.as_slice();
     let first = names_before(stretches, place);
     let stated = stretches[place].stated.as_slice();
     let lines = number_lines(alloc, stated, first, &file.names)?;
     let at = line_numbers(alloc, stated)?;
-    Ok(Numbered { place, lines, at })
+    Ok(Numbered { lines, at })
 }
 
-/// A file in stretches, of which each thread numbers one.
+/// A file in stretches, of which each thread numbers one. Threads see the file by this trait: a
+/// closure that captures a reference to a type with a lifetime, as [`File`], gives its caller no
+/// contract.
 trait StretchedFile {
     ghost use Rattle.std.specs.Prelude.{List};
     ghost use Rattle.bench_net.specs.declared.stretch.Stretch.{Stretch};
@@ -320,8 +322,7 @@ trait StretchedFile {
     /// Numbers the lines of the stretch at a place.
     fn number(&self, alloc: Global, place: usize) -> Result<Numbered, BenchFault>
         requires { place < length (stretches self.now) }
-        ensures place { IfOk result (λ own. own.place ≡ place) }
-        ensures lines { HasNumbered (names self.now) (stretches self.now) result };
+        ensures { HasNumbered (names self.now) (stretches self.now) place result };
 
     /// Returns the names in one text.
     fn name_table(&self, alloc: Global) -> Result<NameTable, BenchFault>
@@ -349,16 +350,18 @@ impl StretchedFile for File<'_> {
     }
 }
 
-/// The promise of a thread: it returns the lines of one of the stretches of this file over numbers.
+/// The promise of a thread: it returns the lines of this stretch of a file over numbers.
 #[derive(Drop)]
 struct LinesOf<F> {
     file: Snapshot<F>,
+    place: usize,
 }
 
 impl<F: StretchedFile> Promise<Result<Numbered, BenchFault>> for LinesOf<F> {
     ghost use Rattle.bench_net.specs.reader.Stretches.{HasNumbered};
 
-    ghost kept_by = { λ p r. HasNumbered (F.names p.file.value) (F.stretches p.file.value) r };
+    ghost kept_by = { λ p r.
+        HasNumbered (F.names p.file.value) (F.stretches p.file.value) p.place r };
 }
 
 /// Numbers the lines of each stretch in a thread, and meanwhile puts the names into one text in the
@@ -388,6 +391,7 @@ fn number_stretches<R: Threads + Wait, F: StretchedFile + Sync>(
             for place in 0..count {
                 let promised = LinesOf {
                     file: Snapshot::of(file),
+                    place,
                 };
                 let Ok(handle) = scope.spawn_with(promised, move || file.number(alloc, place))
                 else {
@@ -417,8 +421,11 @@ fn all_numbered(
     ensures at { IfOk result (λ r.
         r.1.items ≡ line_numbers_in (joined file.now.stretches.items)) }
 {
-    let count = file.stretches.len();
-    let mut lines = Vec::new(alloc);
+    let count = file
+        .stretches
+        .iter()
+        .fold(0, |sum: usize, own| sum.saturating_add(own.stated.len()));
+    let mut lines = Vec::with_capacity(alloc, count)?;
     let mut at = Vec::with_capacity(alloc, file.names.len())?;
     let mut place: usize = 0;
     for part in parts {
@@ -428,11 +435,7 @@ fn all_numbered(
         let Ok(numbered) = part else {
             return Err(Setback::Again);
         };
-        if numbered.place != place || place == count {
-            return Err(Setback::Again);
-        }
         let Numbered {
-            place: _,
             lines: mut more,
             at: mut more_at,
         } = numbered;
@@ -440,7 +443,7 @@ fn all_numbered(
         at.append(&mut more_at)?;
         place += 1;
     }
-    if place != count {
+    if place != file.stretches.len() {
         return Err(Setback::Again);
     }
     Ok((lines, at))

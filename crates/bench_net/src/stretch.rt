@@ -20,8 +20,6 @@ pub struct Stretch<'a> {
 /// The statements of a stretch over numbers.
 #[derive(Drop)]
 pub struct Numbered {
-    /// The place of the stretch among all, counted from 0.
-    pub place: usize,
     /// The statements.
     pub lines: Vec<NumberedLine>,
     /// The numbers of the lines that define a name.

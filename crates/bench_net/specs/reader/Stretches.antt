@@ -51,18 +51,19 @@ abbrev pub line_numbers_in : List StatedLine → List ℕ
 line_numbers_in stated =
     map (λ line. line.number) (filter (λ line. defines (stands_for line.statement)) stated)
 
--- the lines over numbers of one of these stretches
-pub record AreOfStretch (ns : List Name) (stretches : List Stretch) (own : Numbered) : Type 0 where
+-- the lines over numbers of the stretch at a place
+pub record AreOfStretch (ns : List Name) (stretches : List Stretch) (place : ℕ) (own : Numbered)
+    : Type 0 where
   pub stretch : Stretch
-  pub is : slice_get stretches own.place ≡ Some stretch
+  pub is : slice_get stretches place ≡ Some stretch
   pub numbered : AreNumberedLines ns stretch.stated.items own.lines.items
   pub at : own.at.items ≡ line_numbers_in stretch.stated.items
 
 -- the result of a thread has such lines, unless they have an error
-abbrev pub HasNumbered : List Name → List Stretch → Result Numbered BenchFault → Type 0
-HasNumbered ns stretches part = IfOk part (AreOfStretch ns stretches)
+abbrev pub HasNumbered : List Name → List Stretch → ℕ → Result Numbered BenchFault → Type 0
+HasNumbered ns stretches place part = IfOk part (AreOfStretch ns stretches place)
 
--- each of several results has such lines
+-- the results for the first stretches, in order
 abbrev pub HaveNumbered : List Name → List Stretch → List (Result Numbered BenchFault) → Type 0
 HaveNumbered ns stretches parts = (i : ℕ) (part : Result Numbered BenchFault)
-    → slice_get parts i ≡ Some part → HasNumbered ns stretches part
+    → slice_get parts i ≡ Some part → HasNumbered ns stretches i part

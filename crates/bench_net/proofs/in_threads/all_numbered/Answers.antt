@@ -1,5 +1,5 @@
 use Rattle.std.proofs.Common.{◌≡◌, ◌+◌, ◌<◌, ◌∙◌, ◌++◌, ap, arith, get_or, length, rules}
-use Rattle.std.proofs.Common.{slice_get, subst, suc, sym, take}
+use Rattle.std.proofs.Common.{subst, suc, sym, take}
 use Rattle.std.specs.Vec.Iter.{into_iter_items, into_iter_len}
 use Rattle.std.proofs.lemmas.Option.{slice_get-get_or}
 use Rattle.bench_net.specs.reader.Entries.{AreNumberedLines}
@@ -17,8 +17,11 @@ loop-part-init c =
     let size : into_iter_len c.into_iter-part-iterator.result ≡ length items = search rules in
     record {
       left = λ k d lt.
-          subst (λ l. HasNumbered ns xs (get_or l k d)) (sym rest)
-          (c.requires k (get_or items k d) (slice_get-get_or items k d (omega (arith, lt, size))));
+          let here : k ≡ 0 + k = omega arith in
+          subst (λ n. HasNumbered ns xs n (get_or (into_iter_items
+          c.into_iter-part-iterator.result) k d)) here
+          (subst (λ l. HasNumbered ns xs k (get_or l k d)) (sym rest)
+          (c.requires k (get_or items k d) (slice_get-get_or items k d (omega (arith, lt, size)))));
       within = omega arith;
       numbered = search rules;
       numbers = search rules;
@@ -35,15 +38,20 @@ loop-part-preserved c =
     let next : c.in-Some.part ≡ get_or (into_iter_items c.loop-part.part-iterator) 0 c.in-Some.part
     = grind rules in
     let some : 0 < into_iter_len c.loop-part.part-iterator = grind rules in
-    let has : HasNumbered ns xs c.in-Some.part =
-    subst (HasNumbered ns xs) (sym next) (was.left 0 c.in-Some.part some) in
-    let own : AreOfStretch ns xs numbered = subst (HasNumbered ns xs) c.in-Ok.is has in
-    let here : numbered.place ≡ place = omega arith in
-    let grown = joined_at xs place own.stretch (ap (λ n. slice_get xs n) (sym here) ∙ own.is) in
+    let here : place + 0 ≡ place = omega arith in
+    let has : HasNumbered ns xs place c.in-Some.part =
+    subst (λ n. HasNumbered ns xs n c.in-Some.part) here
+    (subst (HasNumbered ns xs (place + 0)) (sym next) (was.left 0 c.in-Some.part some)) in
+    let own : AreOfStretch ns xs place numbered =
+    subst (HasNumbered ns xs place) c.in-Ok.is has in
+    let grown = joined_at xs place own.stretch own.is in
     record {
       left = λ k d lt.
           let h = was.left (suc k) d (omega (arith, lt, step.1)) in
-          subst (HasNumbered ns xs) (ap (λ l. get_or l (suc k) d) step.0) h;
+          let next_place : place + suc k ≡ (place + 1) + k = omega arith in
+          subst (HasNumbered ns xs ((place + 1) + k)) (ap (λ l. get_or l (suc k) d) step.0)
+          (subst (λ n. HasNumbered ns xs n (get_or (into_iter_items c.loop-part.part-iterator)
+          (suc k) d)) next_place h);
       within = omega (arith, was.within, grown.0);
       numbered = subst (AreNumberedLines ns (joined (take (place + 1) xs)))
           (sym c.in_ok-append.ensures.items)

@@ -1,4 +1,4 @@
-use Rattle.std.proofs.Common.{◌≡◌, ◌<◌, ◌≤◌, ℕ, get_or, length, take}
+use Rattle.std.proofs.Common.{◌≡◌, ◌+◌, ◌<◌, ◌≤◌, ℕ, get_or, length, take}
 use Rattle.std.specs.Vec.Iter.{into_iter_items, into_iter_len}
 use Rattle.bench_net.specs.reader.Entries.{AreNumberedLines}
 use Rattle.bench_net.specs.reader.Parsed.{names_of}
@@ -8,7 +8,7 @@ use Rattle.bench_net.proofs.in_threads.all_numbered.Given as goal
 abbrev pub invariant-loop-part : goal.invariant-loop-part
 invariant-loop-part l = record {
   left : (k : ℕ) (d : _) → k < into_iter_len l.part-iterator
-      → HasNumbered (names_of l.file.names.keys) l.file.stretches.items
+      → HasNumbered (names_of l.file.names.keys) l.file.stretches.items (l.place + k)
       (get_or (into_iter_items l.part-iterator) k d);
   within : l.place ≤ length l.file.stretches.items;
   numbered : AreNumberedLines (names_of l.file.names.keys)

@@ -18,8 +18,8 @@ number_lines-requires-clause-own c =
     (names_at ns xs c.args.place c.names_before-first.result own (search arith) (grind arith)
     c.args.file.now.own (grind arith))
 
-pub returns-clause-lines : goal.returns-clause-lines
-returns-clause-lines c =
+pub returns : goal.returns
+returns c =
     let ns = names_of c.args.file.now.names.keys in
     let xs = c.args.file.now.stretches.items in
     let own = c.index-stretches-place.result in
