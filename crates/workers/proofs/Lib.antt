@@ -16,6 +16,7 @@ mod StretchRuns
 mod PassedPieces
 mod BlockSweeps
 mod OpenClasses
+mod SweepRests
 mod StretchSeats
 mod ClaimedStretches
 mod RunsOfParts

@@ -1,6 +1,6 @@
 -- Places that are left out of a list: those at which a first test is known.
 use Rattle.std.proofs.Common.{◌≡◌, ◌≢◌, ◌<◌, ◌≤◌, ◌+◌, ◌⊎◌, inl, inr, ℕ, ◌-◌, zero, suc, sym, ◌∙◌}
-use Rattle.std.proofs.Common.{List, Option, Some, None, ap, subst, length, set, arith}
+use Rattle.std.proofs.Common.{List, Option, Some, None, ap, refl, subst, length, set, arith}
 use Rattle.std.specs.Prelude.{slice_get}
 use Rattle.std.proofs.lemmas.Bool.{cases_eq, cases_lt}
 use Rattle.std.proofs.lemmas.List.{get_or-set_same, get_or-set_other, length-set}
@@ -17,14 +17,14 @@ use Rattle.workers.proofs.StretchRuns.{found_known}
 use Rattle.workers.proofs.PassedPieces.{passed_known}
 
 -- the element at a place of a list that was written to
-get_set_here : {X : Type 0} (xs : List X) (i : ℕ) (x : X) → i < length xs
+pub get_set_here : {X : Type 0} (xs : List X) (i : ℕ) (x : X) → i < length xs
     → slice_get (set xs i x) i ≡ Some x
 get_set_here xs i x lt =
     let long = length-set xs i x in
     slice_get-get_or (set xs i x) i x (omega (arith, lt, long))
     ∙ ap Some (get_or-set_same xs i x x lt)
 
-get_set_other : {X : Type 0} (xs : List X) (i k : ℕ) (x y : X) → k ≢ i
+pub get_set_other : {X : Type 0} (xs : List X) (i k : ℕ) (x y : X) → k ≢ i
     → slice_get (set xs i x) k ≡ Some y → slice_get xs k ≡ Some y
 get_set_other xs i k x y ne e =
     let long = length-set xs i x in
@@ -39,6 +39,20 @@ get_set_still xs i k x y ne e =
     let lt = slice_get_within xs k y e in
     slice_get-get_or (set xs i x) k y (omega (arith, lt, long))
     ∙ ap Some (get_or-set_other xs i k x y ne ∙ get_or_from_slice_get xs k y y e)
+
+pub set_other : {X : Type 0} (xs : List X) (i k : ℕ) (x : X) → k ≢ i
+    → slice_get (set xs i x) k ≡ slice_get xs k
+set_other {X = X} xs i k x ne = go (slice_get xs k) refl
+  where
+    go : (o : Option X) → slice_get xs k ≡ o → slice_get (set xs i x) k ≡ slice_get xs k
+    go (Some y) e = get_set_still xs i k x y ne e ∙ sym e
+    go None e = none (slice_get (set xs i x) k) refl
+      where
+        none : (o : Option X) → slice_get (set xs i x) k ≡ o
+            → slice_get (set xs i x) k ≡ slice_get xs k
+        none None f = f ∙ sym e
+        none (Some y) f =
+            let bad : None ≡ Some y = sym e ∙ get_set_other xs i k x y ne f in absurd (cc)
 
 -- two stretches of settled places, with a place between them that is settled too
 pub settled_over : (firsts : List (Option ℕ)) (from place to t : ℕ) → AreSettled firsts from place
@@ -78,6 +92,28 @@ open_more firsts next place t low was =
       following = was.following;
       within = λ p q e. (let le = was.within p q e in omega (arith, le, long));
       between = λ p q e. settled_more firsts place t (p + 1) q low (was.between p q e);
+    }
+
+-- what is written at a place that isn't settled
+pub settled_still : (firsts : List (Option ℕ)) (place : ℕ) (first : Option ℕ) (from to : ℕ)
+    → slice_get firsts place ≡ Some None
+    → AreSettled firsts from to → AreSettled (set firsts place first) from to
+settled_still firsts place first from to here before k le lt =
+    let was = before k le lt in
+    let ne : k ≢ place = λ same. (let bad : Some None ≡ Some (Some was.0) =
+    sym here ∙ (ap (slice_get firsts) (sym same) ∙ was.1) in absurd (cc)) in
+    (was.0, get_set_still firsts place k first (Some was.0) ne was.1)
+
+pub open_still : (firsts : List (Option ℕ)) (next : List ℕ) (place : ℕ) (first : Option ℕ)
+    → slice_get firsts place ≡ Some None → AreNextOpen firsts next
+    → AreNextOpen (set firsts place first) next
+open_still firsts next place first here was =
+    let long = length-set firsts place first in
+    record {
+      count = was.count ∙ sym long;
+      following = was.following;
+      within = λ p q e. (let le = was.within p q e in omega (arith, le, long));
+      between = λ p q e. settled_still firsts place first (p + 1) q here (was.between p q e);
     }
 
 -- a place that is left out

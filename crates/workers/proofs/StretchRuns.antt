@@ -21,7 +21,7 @@ use Rattle.workers.specs.StretchRuns.{IsNoHigher, IsOpenBelow, IsUndetected}
 use Rattle.workers.proofs.TrueOutcomes.{class_count}
 
 -- the test that an outcome of a block hits
-abbrev hit_at : ℕ → Outcome → Option ℕ
+abbrev pub hit_at : ℕ → Outcome → Option ℕ
 hit_at block Clear = None
 hit_at block (Hit k) = Some (64 * block + k)
 
@@ -69,7 +69,7 @@ least_kept table block class t is =
     let more : suc block ≡ block + 1 = omega arith in
     subst (λ n. least table n class ≡ Some t) more (hit_kept (table class) 0 block t is)
 
-least_more : (table : Table) (block class : ℕ) → least table block class ≡ None
+pub least_more : (table : Table) (block class : ℕ) → least table block class ≡ None
     → least table (block + 1) class ≡ hit_at block (table class block)
 least_more table block class none =
     let more : suc block ≡ block + 1 = omega arith in
@@ -200,7 +200,7 @@ undetected_here job classes place block class firsts ec ef was =
     (done_high place block place (omega arith)) was
 
 -- its true outcome is the outcome of each true table
-told : (job : Parts) (table : Table) (class block : ℕ) (o : Outcome) → BelongTogether job
+pub told : (job : Parts) (table : Table) (class block : ℕ) (o : Outcome) → BelongTogether job
     → IsTableOf job table → class < length job.classes.representative
     → block < blocks (length job.tests.tests)
     → IsTrueOutcome job.list.model job.circuit job.tests.tests class block o → table class block ≡ o

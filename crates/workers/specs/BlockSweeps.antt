@@ -9,6 +9,7 @@ use Rattle.block_sim.specs.Parts.{Parts}
 use Rattle.block_sim.specs.RegionHits.{HasFirst, IsOpenAt}
 use Rattle.block_sim.specs.BlockSpans.{unit_of}
 use Rattle.workers.specs.declared.stretch_run.BlockSweep.{BlockSweep}
+use Rattle.workers.specs.Stops.{Stops}
 
 -- the numbers of the classes of rows
 abbrev pub classes_of : List ListedClass → List ℕ
@@ -53,3 +54,8 @@ abbrev pub HaveFirstsAfter : Parts → List ListedClass → List (Option ℕ) �
     → List (Option ℕ) → Type 0
 HaveFirstsAfter job rows firsts sweep place hits = (k : ℕ) (row : ListedClass) → k < place
     → IsOpenAt rows firsts k row → HasFirst job (between (sweep.block + 1) sweep.last) row hits k
+
+-- the gate surely stops the worker on a block at none of the open classes before a place
+abbrev pub AreAsked : List ListedClass → List (Option ℕ) → ℕ → Stops → ℕ → ℕ → Type 0
+AreAsked rows firsts worker stops block place = (k : ℕ) (row : ListedClass) → k < place
+    → IsOpenAt rows firsts k row → stops.must worker row.class block → ⊥

@@ -1,17 +1,20 @@
 //! The run of one worker by itself over a list of classes, without a ledger.
 
-ghost use Rattle.std.specs.Prelude.{◌≡◌, ◌<◌, ◌≤◌, ◌+◌, ℕ, All, IfNone, IfOk, IfSome, None, Some};
+ghost use Rattle.std.specs.Prelude.{◌≡◌, ◌⊎◌, ◌<◌, ◌≤◌, ◌+◌, ℕ, All, IfNone, IfOk, IfSome, None};
+ghost use Rattle.std.specs.Prelude.{Some};
 ghost use Rattle.std.specs.Prelude.{false, length, slice_get, true};
+ghost use Rattle.patterns.specs.Least.{Table, least};
 ghost use Rattle.patterns.specs.Tests.{blocks};
 ghost use Rattle.block_sim.specs.First.{IsTrueOutcome};
 ghost use Rattle.block_sim.specs.Origins.{IsListed};
 ghost use Rattle.block_sim.specs.Parts.{BelongTogether, Parts};
 ghost use Rattle.block_sim.specs.RegionHits.{IsFirstOn, ServesRegions};
 ghost use Rattle.workers.specs.StretchRuns.{AreEarlier, AreFoundUpTo, ArePassed, HasEnded};
-ghost use Rattle.workers.specs.StretchRuns.{IsLowerOf, IsLowest, IsOpenIn, IsStopAt};
+ghost use Rattle.workers.specs.Schedule.{IsTableOf};
+ghost use Rattle.workers.specs.StretchRuns.{IsLowerOf, IsLowest, IsOpenIn, IsStopAt, IsUndetected};
 ghost use Rattle.block_sim.specs.OpenPlaces.{AreNextOpen};
 ghost use Rattle.workers.specs.BlockSweeps.{HaveFirstsFrom, HaveFirstsAfter, AreRowsOf};
-ghost use Rattle.workers.specs.BlockSweeps.{IsBlockSweep, IsWhole, between, classes_of};
+ghost use Rattle.workers.specs.BlockSweeps.{AreAsked, IsBlockSweep, IsWhole, between, classes_of};
 
 use crate::open_classes::{leave_out, next_open};
 use crate::piece_worker::Gate;
@@ -104,11 +107,162 @@ pub(crate) fn run_list<G: Gate>(
     ensures serves { ServesRegions simulation.new job.now }
 {
     let mut known = 0;
-    for block in 0..job.tests().blocks() {
+    let mut block = 0;
+    while block < job.tests().blocks() {
         let sweep = sweep_of(job, rows, block, known);
         match run_block(job, rows, worker, sweep, simulation, gate, next, firsts) {
             Some(stop) => return Some(stop),
             None => known = sweep.last + 1,
+        }
+        block = finish_sweep(job, rows, worker, sweep, simulation, gate, next, firsts);
+    }
+    None
+}
+
+/// Goes on from the block of a sweep that is done. If the gate lets every piece pass, all blocks
+/// that were simulated with it are done next, and it returns the block after the last. Otherwise it
+/// returns the next block.
+fn finish_sweep<G: Gate>(
+    job: &Job,
+    rows: &[ListedClass],
+    worker: u32,
+    sweep: BlockSweep,
+    simulation: &RegionSimulation,
+    gate: &G,
+    next: &[usize],
+    firsts: &mut [Option<u32>],
+) -> u32
+    requires together { BelongTogether job.now }
+    requires rows { All (IsListed job.now) rows.now }
+    requires few { length rows.now ≤ length job.now.classes.representative }
+    requires sweep { (sweep.block ≤ sweep.last)
+        × (sweep.last < blocks (length job.now.tests.tests)) }
+    requires serves { ServesRegions simulation.now job.now }
+    requires found { AreFoundUpTo job.now (classes_of rows.now) 0 (sweep.block + 1) firsts.old }
+    requires passed { ArePassed job.now (classes_of rows.now) worker (G.stops gate.now) 0
+        (sweep.block + 1) }
+    requires following { HaveFirstsAfter job.now rows.now firsts.old sweep (length rows.now)
+        simulation.now.hits }
+    requires next { AreNextOpen firsts.old next.now }
+    ensures ended { (result ≡ sweep.last + 1) ⊎ ((result ≡ sweep.block + 1)
+        × (firsts.new ≡ firsts.old)) }
+    ensures found { AreFoundUpTo job.now (classes_of rows.now) 0 result firsts.new }
+    ensures passed { ArePassed job.now (classes_of rows.now) worker (G.stops gate.now) 0 result }
+    ensures next { AreNextOpen firsts.new next.now }
+{
+    if sweep.block == sweep.last || !gate.lets_all_pass() {
+        return sweep.block + 1;
+    }
+    ask_rest(rows, worker, sweep, gate, next, firsts);
+    settle_rest(job, rows, sweep, simulation, next, firsts);
+    sweep.last + 1
+}
+
+/// Asks the gate, which lets every piece pass, for the open classes of a list on the blocks that
+/// were simulated with the block of a sweep, after that: one block after another, as a gate that
+/// draws the progress expects.
+fn ask_rest<G: Gate>(
+    rows: &[ListedClass],
+    worker: u32,
+    sweep: BlockSweep,
+    gate: &G,
+    next: &[usize],
+    firsts: &[Option<u32>],
+)
+    requires passing { G.passing gate.now }
+    requires ordered { sweep.block ≤ sweep.last }
+    requires last { sweep.last < 1024 }
+    requires firsts { length firsts.now ≡ length rows.now }
+    requires next { AreNextOpen firsts.now next.now }
+    ensures { (block : ℕ) → sweep.block < block → block ≤ sweep.last
+        → AreAsked rows.now firsts.now worker (G.stops gate.now) block (length rows.now) }
+{
+    for block in sweep.block + 1..sweep.last + 1 {
+        ask_block(rows, worker, block, gate, next, firsts);
+    }
+}
+
+/// Asks the gate, which lets every piece pass, for the open classes of a list on a block.
+#[inline(always)]
+fn ask_block<G: Gate>(
+    rows: &[ListedClass],
+    worker: u32,
+    block: u32,
+    gate: &G,
+    next: &[usize],
+    firsts: &[Option<u32>],
+)
+    requires passing { G.passing gate.now }
+    requires firsts { length firsts.now ≡ length rows.now }
+    requires next { AreNextOpen firsts.now next.now }
+    ensures { AreAsked rows.now firsts.now worker (G.stops gate.now) block (length rows.now) }
+{
+    let _firsts = firsts;
+    let mut place = 0;
+    while place < rows.len() {
+        gate.pass(worker, row_at(rows, place).class, block);
+        place = next_open(next, place);
+    }
+}
+
+/// Keeps the first tests of the classes of a list on the blocks that were simulated with the block
+/// of a sweep, after that: one pass over the list for all of these blocks.
+fn settle_rest(
+    job: &Job,
+    rows: &[ListedClass],
+    sweep: BlockSweep,
+    simulation: &RegionSimulation,
+    next: &[usize],
+    firsts: &mut [Option<u32>],
+)
+    requires together { BelongTogether job.now }
+    requires rows { All (IsListed job.now) rows.now }
+    requires few { length rows.now ≤ length job.now.classes.representative }
+    requires sweep { (sweep.block ≤ sweep.last)
+        × (sweep.last < blocks (length job.now.tests.tests)) }
+    requires serves { ServesRegions simulation.now job.now }
+    requires found { AreFoundUpTo job.now (classes_of rows.now) 0 (sweep.block + 1) firsts.old }
+    requires following { HaveFirstsAfter job.now rows.now firsts.old sweep (length rows.now)
+        simulation.now.hits }
+    requires next { AreNextOpen firsts.old next.now }
+    ensures found { AreFoundUpTo job.now (classes_of rows.now) 0 (sweep.last + 1) firsts.new }
+    ensures next { AreNextOpen firsts.new next.now }
+{
+    let mut place = 0;
+    while place < rows.len() {
+        match first_at(firsts, place) {
+            Some(_test) => {
+                place = next_open(next, place);
+                continue;
+            }
+            None => {}
+        }
+        let class = row_at(rows, place).class;
+        let hit = simulation.hit_at(place);
+        let first = first_through(job, class, sweep, hit);
+        firsts[place] = first;
+        place = next_open(next, place);
+    }
+}
+
+/// Returns the first test of a class on the blocks that were simulated with the block of a sweep,
+/// after that, if this is its first test there by the simulation.
+#[inline(always)]
+fn first_through(job: &Job, class: u32, sweep: BlockSweep, hit: Option<u32>) -> Option<u32>
+    requires together { BelongTogether job.now }
+    requires class { class < length job.now.classes.representative }
+    requires sweep { (sweep.block ≤ sweep.last)
+        × (sweep.last < blocks (length job.now.tests.tests)) }
+    requires first { IsFirstOn job.now (between (sweep.block + 1) sweep.last) class hit }
+    requires clear { IsUndetected job.now class (sweep.block + 1) }
+    ensures { (table : Table) → IsTableOf job.now table
+        → result ≡ least table (sweep.last + 1) class }
+{
+    let _job = job;
+    for block in sweep.block + 1..sweep.last + 1 {
+        match outcome_on(hit, block) {
+            Outcome::Clear => {}
+            Outcome::Hit(test) => return Some(64 * block + test),
         }
     }
     None

@@ -9,6 +9,7 @@ use Rattle.workers.proofs.stretch_run.run_list.Given as goal
 
 abbrev pub invariant-loop-block : goal.invariant-loop-block
 invariant-loop-block g l = record {
+  within : l.block ≤ blocks (length l.job.tests.tests);
   found : AreFoundUpTo l.job (classes_of l.rows) 0 l.block l.firsts;
   passed : ArePassed l.job (classes_of l.rows) l.worker (g.G.Gate.stops l.gate) 0 l.block;
   few : l.known ≤ blocks (length l.job.tests.tests);
@@ -17,3 +18,6 @@ invariant-loop-block g l = record {
   next : AreNextOpen l.firsts l.next;
   serves : ServesRegions l.simulation l.job;
 }
+
+abbrev pub decreases-loop-block : goal.decreases-loop-block
+decreases-loop-block g l = blocks (length l.job.tests.tests) - l.block
