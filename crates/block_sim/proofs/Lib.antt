@@ -95,3 +95,4 @@ mod PackRuns
 mod PackRanges
 mod PackKept
 mod PackBegins
+mod FourWords

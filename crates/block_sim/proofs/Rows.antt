@@ -74,24 +74,31 @@ rows_more c tests first rows row group count some before room words = record {
         )
 
 -- the rows of the groups that follow
-pub rows_append : (c : List Statement) (tests : List Test) (rows more : List (List ℕ)) (first : ℕ)
-    → AreRowsFrom c tests 0 rows → first ≡ length rows → AreRowsFrom c tests first more
-    → AreRowsFrom c tests 0 (rows ++ more)
-rows_append c tests rows more first before follows behind = record {
+pub rows_joined : (c : List Statement) (tests : List Test) (first : ℕ) (rows more : List (List ℕ))
+    (group : ℕ) → AreRowsFrom c tests first rows → first + length rows ≡ group
+    → AreRowsFrom c tests group more → AreRowsFrom c tests first (rows ++ more)
+rows_joined c tests first rows more group before follows behind = record {
   within = omega (arith, length-append rows more, behind.within, follows);
   each = λ k row at. go k row (appended_get rows more row k at);
 }
   where
     go : (k : ℕ) (row : List ℕ) → (slice_get rows k ≡ Some row)
         ⊎ ((j : ℕ) × (k ≡ length rows + j) × (slice_get more j ≡ Some row))
-        → (length row ≡ length (names c)) × AreWords c tests (0 + k) None row
+        → (length row ≡ length (names c)) × AreWords c tests (first + k) None row
     go k row (inl h) = before.each k row h
     go k row (inr h) =
         let own = behind.each h.0 row h.2 in
-        let same : first + h.0 ≡ 0 + k = omega (arith, follows, h.1) in (
+        let same : group + h.0 ≡ first + k = omega (arith, follows, h.1) in (
           own.0,
           subst (λ n. AreWords c tests n None row) same own.1,
         )
+
+-- the rows of the groups that follow the first ones
+pub rows_append : (c : List Statement) (tests : List Test) (rows more : List (List ℕ)) (first : ℕ)
+    → AreRowsFrom c tests 0 rows → first ≡ length rows → AreRowsFrom c tests first more
+    → AreRowsFrom c tests 0 (rows ++ more)
+rows_append c tests rows more first before follows behind =
+    rows_joined c tests 0 rows more first before (omega (arith, follows)) behind
 
 -- rows from the first group on are the words of the first groups
 pub from_first : (c : List Statement) (tests : List Test) (rows : List (List ℕ))

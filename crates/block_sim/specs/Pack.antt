@@ -25,6 +25,11 @@ wide_bit layout good delta k s =
     inverted_if (lane (slice_index_or delta s 0) k)
     (lane (slice_index_or (good (slot_of layout k)) s 0) (lane_in layout k))
 
+-- the fault-free bit of a signal in a lane of a wide word
+abbrev pub copied_bit : Layout → (ℕ → List ℕ) → ℕ → ℕ → Bool
+copied_bit layout good k s =
+    lane (slice_index_or (good (slot_of layout k)) s 0) (lane_in layout k)
+
 -- in each slot there is a word for the signal
 abbrev pub AreWithin : Layout → (ℕ → List ℕ) → ℕ → Type 0
 AreWithin layout good s = (slot : ℕ) → slot < slots layout → s < length (good slot)

@@ -7,6 +7,7 @@ ghost use Rattle.block_sim.specs.Job.{AreFaultFree};
 ghost use Rattle.block_sim.specs.BlockSpans.{groups};
 
 use crate::flat::FlatCircuit;
+use crate::four_words::evaluate_four;
 use crate::words::evaluate;
 use patterns::Tests;
 use std::alloc::{AllocError, Global};
@@ -85,8 +86,72 @@ fn threads_for(signals: u32, groups: u32, workers: u32) -> u32 {
     u64::from(most).min(worth) as u32
 }
 
-/// Returns the words of the groups from one up to another, which is not included.
+/// Returns the words of the groups from one up to another, which is not included. Four groups at a
+/// time have one pass, and up to three at the end have one each.
 fn rows_between(
+    alloc: Global,
+    circuit: &FlatCircuit,
+    tests: &Tests,
+    first: u32,
+    end: u32,
+) -> Result<Vec<Vec<u128>>, AllocError>
+    requires width { tests.now.width ≡ length (sources circuit.now.statements) }
+    requires order { first ≤ end }
+    requires end { end ≤ groups (length tests.now.tests) }
+    ensures count { IfOk result (λ rows. first + length (map (λ row. row.items) rows.items)
+        ≡ end) }
+    ensures rows { IfOk result (λ rows. AreRowsFrom circuit.now.arranged tests.now.tests first
+        (map (λ row. row.items) rows.items)) }
+{
+    let fours = (end - first) / 4;
+    let mut rows = Vec::with_capacity(alloc, (end - first) as usize)?;
+    for four in 0..fours {
+        let mut more = four_rows(alloc, circuit, tests, first + 4 * four)?;
+        rows.append(&mut more)?;
+    }
+    let mut rest = single_rows(alloc, circuit, tests, first + 4 * fours, end)?;
+    rows.append(&mut rest)?;
+    Ok(rows)
+}
+
+/// Returns the words of four groups, the first of which is given, computed in one pass.
+fn four_rows(
+    alloc: Global,
+    circuit: &FlatCircuit,
+    tests: &Tests,
+    group: u32,
+) -> Result<Vec<Vec<u128>>, AllocError>
+    requires width { tests.now.width ≡ length (sources circuit.now.statements) }
+    requires end { group + 4 ≤ groups (length tests.now.tests) }
+    ensures count { IfOk result (λ rows. length (map (λ row. row.items) rows.items) ≡ 4) }
+    ensures rows { IfOk result (λ rows. AreRowsFrom circuit.now.arranged tests.now.tests group
+        (map (λ row. row.items) rows.items)) }
+{
+    let signals = circuit.signals() as usize;
+    let mut first = vec![in alloc; 0u128; signals]?;
+    let mut second = vec![in alloc; 0u128; signals]?;
+    let mut third = vec![in alloc; 0u128; signals]?;
+    let mut fourth = vec![in alloc; 0u128; signals]?;
+    evaluate_four(
+        circuit,
+        tests,
+        group,
+        &mut first,
+        &mut second,
+        &mut third,
+        &mut fourth,
+    );
+    let mut rows = Vec::with_capacity(alloc, 4)?;
+    rows.push(first)?;
+    rows.push(second)?;
+    rows.push(third)?;
+    rows.push(fourth)?;
+    Ok(rows)
+}
+
+/// Returns the words of the groups from one up to another, which is not included, each computed in
+/// a pass of its own.
+fn single_rows(
     alloc: Global,
     circuit: &FlatCircuit,
     tests: &Tests,

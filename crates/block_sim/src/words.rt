@@ -278,7 +278,7 @@ fn word_at(tests: &Tests, count: u32, block: u32, source: u32) -> u64
 }
 
 /// Returns the word that a group's tests give a source.
-fn source_word(circuit: &FlatCircuit, tests: &Tests, group: u32, signal: u32) -> u128
+pub fn source_word(circuit: &FlatCircuit, tests: &Tests, group: u32, signal: u32) -> u128
     requires circuit { IsCircuit circuit.now.arranged }
     requires signal { signal < length (names circuit.now.arranged) }
     requires source { gate_of circuit.now.arranged signal ≡ None }

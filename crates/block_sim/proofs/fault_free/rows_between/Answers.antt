@@ -1,50 +1,47 @@
-use Rattle.std.proofs.Common.{◌≡◌, ◌∙◌, ◌∷◌, ◌++◌, [], ℕ, ap, subst, sym, arith, length, Vec}
-use Rattle.std.proofs.Common.{Global}
-use Rattle.std.specs.Prelude.{map, vec_len}
-use Rattle.std.proofs.lemmas.List.{map-append, length_push, with_items_is}
-use Rattle.bench_net.specs.Scan.{names}
+use Rattle.std.proofs.Common.{◌∙◌, ◌+◌, ◌-◌, ◌*◌, ◌/◌, ℕ, ap, arith, Global, length}
+use Rattle.std.proofs.Common.{length-append, subst, sym, Vec}
+use Rattle.std.specs.Prelude.{map}
+use Rattle.std.proofs.lemmas.List.{map-append}
 use Rattle.block_sim.specs.GroupRows.{AreRowsFrom}
-use Rattle.block_sim.proofs.ArrangedSignals.{sources_there}
-use Rattle.block_sim.proofs.Rows.{rows_more}
+use Rattle.block_sim.proofs.Rows.{rows_joined}
 use Rattle.block_sim.proofs.fault_free.rows_between.Goals as goal
 
-pub evaluate-requires-clause-width : goal.evaluate-requires-clause-width
-evaluate-requires-clause-width c =
-    let signals = c.signals-signals.ensures in
-    c.requires.width ∙ ap length (sym (sources_there c.args.circuit.now.statements
-    c.args.circuit.now.arranged signals.given.well_formed signals.arranged))
-
-pub loop-group-preserved : goal.loop-group-preserved
-loop-group-preserved c =
+pub loop-four-preserved : goal.loop-four-preserved
+loop-four-preserved c =
+    let circuit = c.args.circuit.now.arranged in
+    let tests = c.args.tests.now.tests in
     let items = λ (row : Vec ℕ Global). row.items in
-    let before = map items c.loop-group.rows.items in
-    let words = c.evaluate.new.words in
-    let long : length words ≡ vec_len c.in_ok-row.row = omega (
-      arith,
-      c.evaluate.ensures.room,
-      c.deref_mut.ensures.len,
-    ) in
-    let room : length words ≡ length (names c.args.circuit.now.arranged) = omega (
-      arith,
-      long,
-      c.in_ok-row.ensures.len,
-      c.signals-signals.ensures.count,
-    ) in
-    let pushed : map items c.push.new.self.items ≡ before ++ words ∷ [] =
-    ap (map items) c.in_ok-push.ensures.items ∙ (map-append items c.loop-group.rows.items _
-    ∙ ap (λ row. before ++ row ∷ []) (with_items_is c.in_ok-row.row words long)) in
+    let was = c.loop-four.invariant in
+    let before = map items c.loop-four.rows.items in
+    let more = map items c.in_ok-more.more.items in
+    let whole = ap (map items) c.in_ok-append.ensures.items
+    ∙ map-append items c.loop-four.rows.items c.in_ok-more.more.items in
     record {
       count = omega (
         arith,
-        ap length pushed,
-        length_push before words,
-        c.loop-group.invariant.count,
+        ap length whole,
+        length-append before more,
+        was.count,
+        c.in_ok-more.ensures.count,
       );
-      rows = subst (AreRowsFrom c.args.circuit.now.arranged c.args.tests.now.tests c.args.first)
-          (sym pushed)
-          (rows_more c.args.circuit.now.arranged c.args.tests.now.tests c.args.first before words
-          c.loop-group.group c.loop-group.invariant.count
-          (omega (arith, c.loop-group-test.true, c.requires.end))
-          c.loop-group.invariant.rows room
-          c.evaluate.ensures.words);
+      rows = subst (AreRowsFrom circuit tests c.args.first) (sym whole)
+          (rows_joined circuit tests c.args.first before more
+          (c.args.first + 4 * c.loop-four.four) was.rows (omega (arith, was.count))
+          c.in_ok-more.ensures.rows);
     }
+
+pub returns-clause-rows : goal.returns-clause-rows
+returns-clause-rows c =
+    let circuit = c.args.circuit.now.arranged in
+    let tests = c.args.tests.now.tests in
+    let items = λ (row : Vec ℕ Global). row.items in
+    let was = c.loop-four.invariant in
+    let before = map items c.loop-four.rows.items in
+    let more = map items c.in_ok-rest.rest.items in
+    let whole = ap (map items) c.in_ok-append-2.ensures.items
+    ∙ map-append items c.loop-four.rows.items c.in_ok-rest.rest.items in
+    subst (AreRowsFrom circuit tests c.args.first) (sym whole)
+    (rows_joined circuit tests c.args.first before more
+    (c.args.first + 4 * ((c.args.end - c.args.first) / 4)) was.rows
+    (omega (arith, was.count, c.loop-four-test.false, c.loop-four.auto.four-end))
+    c.in_ok-rest.ensures.rows)

@@ -1,11 +1,11 @@
-use Rattle.std.proofs.Common.{◌≡◌, ◌+◌, length}
+use Rattle.std.proofs.Common.{◌≡◌, ◌*◌, length}
 use Rattle.std.specs.Prelude.{map}
 use Rattle.block_sim.specs.GroupRows.{AreRowsFrom}
 use Rattle.block_sim.proofs.fault_free.rows_between.Given as goal
 
-abbrev pub invariant-loop-group : goal.invariant-loop-group
-invariant-loop-group l = record {
-  count : l.first + length (map (λ row. row.items) l.rows.items) ≡ l.group;
+abbrev pub invariant-loop-four : goal.invariant-loop-four
+invariant-loop-four l = record {
+  count : length (map (λ row. row.items) l.rows.items) ≡ 4 * l.four;
   rows : AreRowsFrom l.circuit.arranged l.tests.tests l.first
       (map (λ row. row.items) l.rows.items);
 }
