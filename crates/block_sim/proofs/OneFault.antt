@@ -1,10 +1,9 @@
 -- A fault under one test: what its line, complemented or not, tells of its detection.
-use Rattle.std.proofs.Common.{◌≡◌, ◌≢◌, ◌<◌, ℕ, refl, sym, ◌∙◌, ap, subst, Bool, true, false, not}
+use Rattle.std.proofs.Common.{◌≡◌, ◌≢◌, ℕ, sym, ◌∙◌, ap, subst, Bool, true, not}
 use Rattle.std.proofs.Common.{List}
-use Rattle.std.proofs.Common.{map, inl}
-use Rattle.std.specs.Prelude.{◌↔◌, Contains, Option, Some, None, unwrap_or}
+use Rattle.std.proofs.Common.{inl}
+use Rattle.std.specs.Prelude.{◌↔◌, Contains, Some, None, unwrap_or}
 use Rattle.std.specs.Bool.{Decides}
-use Rattle.std.proofs.lemmas.Bool.{false≢true}
 use Rattle.bench_net.specs.Statement.{Name, Statement, Gate}
 use Rattle.bench_net.specs.Scan.{names, signal, name_of}
 use Rattle.bench_net.specs.Circuit.{IsWellFormed}

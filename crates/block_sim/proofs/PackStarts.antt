@@ -2,7 +2,7 @@
 use Rattle.std.proofs.Common.{◌≡◌, ◌≢◌, ◌<◌, ℕ, refl, sym, ◌∙◌, ap, subst}
 use Rattle.std.proofs.Common.{Bool, true, false, not, List}
 use Rattle.std.proofs.Common.{length, arith}
-use Rattle.std.specs.Prelude.{All, Contains, Some, None, slice_index_or}
+use Rattle.std.specs.Prelude.{All, Contains, Some, slice_index_or}
 use Rattle.std.proofs.lemmas.Bool.{false≢true}
 use Rattle.bench_net.specs.Statement.{Name, Statement}
 use Rattle.bench_net.specs.Scan.{names, signal}

@@ -2,7 +2,7 @@
 use Rattle.std.proofs.Common.{◌≡◌, ◌<◌, ◌≤◌, ◌+◌, ◌*◌, ◌/◌, ◌%◌, ℕ, zero, suc, refl, sym, ◌∙◌, ap}
 use Rattle.std.proofs.Common.{subst}
 use Rattle.std.proofs.Common.{Bool, true, false, List, [], length, arith, ◌-◌}
-use Rattle.std.specs.Prelude.{◌↔◌, Option, Some, None, bit_and, slice_get, slice_index_or}
+use Rattle.std.specs.Prelude.{◌↔◌, Option, Some, None, bit_and, slice_index_or}
 use Rattle.std.specs.Prelude.{unwrap_or}
 use Rattle.std.specs.Bool.{Decides}
 use Rattle.std.proofs.lemmas.Bool.{false≢true}

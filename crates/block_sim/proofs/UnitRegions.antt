@@ -1,7 +1,7 @@
 -- The lanes of a wide word in which a complemented signal complements the stem: the lanes of the
 -- only gate that reads it, if the gate passes the change on.
 use Rattle.std.proofs.Common.{◌≡◌, ◌≢◌, ◌<◌, ◌≤◌, ◌⊎◌, ◌==◌, ◌&&◌, ℕ, refl, sym, ◌∙◌, ap, subst}
-use Rattle.std.proofs.Common.{Bool, true, false, not, List, [], ◌∷◌, zero, suc, ◌+◌, inl, inr}
+use Rattle.std.proofs.Common.{Bool, true, false, not, List, [], ◌∷◌, suc, ◌+◌, inl, inr}
 use Rattle.std.proofs.Common.{length, map, set, arith, eq-eqb, eqb-true}
 use Rattle.std.specs.Prelude.{◌↔◌, Option, Some, None, slice_index_or, unwrap_or}
 use Rattle.std.proofs.lemmas.Bool.{false≢true}

@@ -1,10 +1,10 @@
 -- The start of a fault on wide words, lane by lane.
-use Rattle.std.proofs.Common.{◌≡◌, ◌≢◌, ◌<◌, ◌==◌, ◌&&◌, ◌⊎◌, ℕ, refl, sym, ◌∙◌, ap, subst, Bool}
+use Rattle.std.proofs.Common.{◌≡◌, ◌≢◌, ◌<◌, ◌==◌, ◌&&◌, ℕ, refl, sym, ◌∙◌, ap, subst, Bool}
 use Rattle.std.proofs.Common.{true, ◌≤◌}
-use Rattle.std.proofs.Common.{false, not, List, [], ◌∷◌, zero, suc, ◌+◌, map, length, inl, inr}
+use Rattle.std.proofs.Common.{false, not, List, [], ◌∷◌, suc, ◌+◌, map, length}
 use Rattle.std.proofs.Common.{arith}
 use Rattle.std.proofs.Common.{eq-eqb, eqb-true}
-use Rattle.std.specs.Prelude.{◌↔◌, Contains, Option, Some, None, bit_and, slice_get, slice_index_or}
+use Rattle.std.specs.Prelude.{Contains, Some, None, bit_and, slice_get, slice_index_or}
 use Rattle.std.specs.Bool.{Decides}
 use Rattle.std.specs.List.{enumerate_from}
 use Rattle.std.proofs.lemmas.Bool.{false≢true}
@@ -29,7 +29,7 @@ use Rattle.block_sim.specs.declared.unit_start.WideReach.{WideReach}
 use Rattle.block_sim.specs.declared.unit_start.WideReach.TheVariants.{Observed, Stem}
 use Rattle.block_sim.specs.GateForms.{inverted_if}
 use Rattle.block_sim.specs.Pack.{AreRows}
-use Rattle.block_sim.specs.Regions.{DetectsFlip, start_of}
+use Rattle.block_sim.specs.Regions.{start_of}
 use Rattle.block_sim.specs.Units.{HaveCome, CarryFlip, free_bit, lane_test, turned_bits}
 use Rattle.block_sim.specs.Ways.{IsWay, IsWayOfLine}
 use Rattle.block_sim.specs.Words.{lane, lane_bits}

@@ -1,5 +1,5 @@
-use Rattle.std.proofs.Common.{◌≡◌, ◌<◌, ◌∙◌, ◌+◌, ◌*◌, ℕ, ap, arith, refl, subst, sym, true}
-use Rattle.std.specs.Prelude.{Contains, Option, Some, bit_and, unwrap_or}
+use Rattle.std.proofs.Common.{◌≡◌, ◌<◌, ◌∙◌, ◌+◌, ◌*◌, ℕ, ap, arith, refl, subst, sym}
+use Rattle.std.specs.Prelude.{Contains, Option, bit_and, unwrap_or}
 use Rattle.std.specs.Bool.{Decides}
 use Rattle.std.proofs.lemmas.Bool.{false≢true}
 use Rattle.fault_model.specs.Detection.{LooksBack}

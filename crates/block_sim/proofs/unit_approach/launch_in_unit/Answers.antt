@@ -1,8 +1,7 @@
-use Rattle.std.proofs.Common.{◌≡◌, ◌<◌, ◌∙◌, ◌+◌, ◌*◌, ◌/◌, ◌%◌, ℕ, ap, arith, length, subst, sym}
+use Rattle.std.proofs.Common.{◌≡◌, ◌<◌, ◌+◌, ◌*◌, ◌/◌, ◌%◌, ℕ, arith, subst, sym}
 use Rattle.std.specs.Bool.{Decides}
 use Rattle.fault_model.specs.Detection.{LooksBack}
 use Rattle.wide_words.specs.Layouts.{one_of}
-use Rattle.wide_words.specs.Wide.{number}
 use Rattle.block_sim.specs.Words.{lane}
 use Rattle.block_sim.proofs.UnitApproaches.{of_four}
 use Rattle.block_sim.proofs.unit_approach.launch_in_unit.Goals as goal

@@ -1,5 +1,5 @@
-use Rattle.std.proofs.Common.{◌≡◌, ◌+◌, ℕ, List, arith, length, map, subst}
-use Rattle.std.specs.Prelude.{None, Some, slice_get}
+use Rattle.std.proofs.Common.{◌≡◌, ◌+◌, ℕ, List, arith, length, subst}
+use Rattle.std.specs.Prelude.{None}
 use Rattle.bench_net.specs.Scan.{names}
 use Rattle.block_sim.specs.Words.{AreWords}
 use Rattle.block_sim.proofs.UnitApproaches.{of_four}

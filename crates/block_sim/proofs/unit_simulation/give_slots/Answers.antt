@@ -1,8 +1,8 @@
-use Rattle.std.proofs.Common.{◌≡◌, ◌+◌, ◌<◌, ◌∙◌, ap, arith, length, refl, subst, sym}
-use Rattle.std.specs.Prelude.{Some, slice_get, slice_index_or}
+use Rattle.std.proofs.Common.{◌≡◌, ◌+◌, ◌∙◌, ap, arith, length, refl, subst, sym}
+use Rattle.std.specs.Prelude.{slice_index_or}
 use Rattle.std.proofs.lemmas.Option.{slice_get-get_or}
 use Rattle.block_sim.specs.declared.pack.Slot.{Slot}
-use Rattle.block_sim.proofs.UnitParts.{AreSlotsSoFar, slots_more, slots_none}
+use Rattle.block_sim.proofs.UnitParts.{AreSlotsSoFar, slots_more}
 use Rattle.block_sim.proofs.unit_simulation.give_slots.Goals as goal
 
 pub returns-clause-parted : goal.returns-clause-parted

@@ -1,4 +1,4 @@
-use Rattle.std.proofs.Common.{◌≡◌, ◌*◌, ◌≤◌, length}
+use Rattle.std.proofs.Common.{◌≡◌, ◌*◌, ◌≤◌}
 use Rattle.std.specs.Prelude.{vec_capacity, vec_len}
 use Rattle.block_sim.proofs.UnitParts.{AreSlotsSoFar}
 use Rattle.block_sim.proofs.unit_simulation.give_slots.Given as goal
