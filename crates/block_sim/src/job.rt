@@ -1,7 +1,7 @@
 //! A job: a circuit with its faults, its classes and its tests.
 
 ghost use Rattle.std.specs.Prelude.{◌≡◌, ◌↔◌, ◌<◌, ◌≤◌, ◌*◌, ◌⊎◌, List, ℕ, None, length, map};
-ghost use Rattle.std.specs.Prelude.{Err, IfErr, IfOk, IsTrue, OnOk, Some, slice_get};
+ghost use Rattle.std.specs.Prelude.{Err, IfErr, IfOk, IsTrue, OnOk, Some, slice_get, true};
 ghost use Rattle.bench_net.specs.Scan.{names, sources};
 ghost use Rattle.bench_net.specs.Statement.{Statement};
 ghost use Rattle.patterns.specs.Tests.{IsTestList, blocks, max_pieces};
@@ -9,6 +9,7 @@ ghost use Rattle.block_sim.specs.Job.{AreFaultFree};
 ghost use Rattle.block_sim.specs.Arranged.{ArePlaces, IsArranged};
 ghost use Rattle.block_sim.specs.Origins.{IsListed, IsRepresentativeOf};
 ghost use Rattle.block_sim.specs.JobParts.{AreClassLists, AreFlatRows, IsJobUnder};
+ghost use Rattle.block_sim.specs.RegionHits.{IsFirstOn};
 ghost use Rattle.block_sim.specs.Parts.{BelongTogether, Parts, piece_count, with_tests};
 ghost use Rattle.block_sim.specs.Regions.{IsStemOfClass};
 ghost use Rattle.block_sim.specs.BlockSpans.{IsTogether, groups, unit_of};
@@ -527,6 +528,18 @@ impl Job {
             stem: self.stem_of_class(class),
             representative: self.representative(class),
         }
+    }
+
+    /// Returns whether a class is dead: the stem of its region reaches no observer. No test of any
+    /// blocks detects a dead class.
+    pub fn is_dead(&self, row: ListedClass) -> bool
+        requires { IsListed self.now row }
+        ensures { result ≡ true → (span : BlockSpan) → IsFirstOn self.now span row.class None }
+    {
+        let parts = &*self.parts;
+        let _signals = parts.flat.signals();
+        let stem = parts.flat.place_of(row.stem);
+        !parts.flat.is_live(stem)
     }
 
     /// Returns the last block that is simulated together with a block. If a unit of 512 tests
