@@ -17,6 +17,7 @@ mod PassedPieces
 mod BlockSweeps
 mod OpenClasses
 mod SweepRests
+mod DeadClasses
 mod StretchSeats
 mod ClaimedStretches
 mod RunsOfParts

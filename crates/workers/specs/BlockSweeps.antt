@@ -1,12 +1,13 @@
 -- The sweeps of the blocks in the run of one worker over a list of classes, and the knowledge of
 -- the classes after each.
-use Rattle.std.specs.Prelude.{◌≡◌, ◌⊎◌, ◌<◌, ◌≤◌, ◌+◌, ℕ, List, Option, All, length, map}
+use Rattle.std.specs.Prelude.{◌≡◌, ◌⊎◌, ◌<◌, ◌≤◌, ◌+◌, ℕ, List, Option, Some, None, All, length}
+use Rattle.std.specs.Prelude.{map, slice_get}
 use Rattle.patterns.specs.Tests.{blocks}
 use Rattle.block_sim.specs.declared.origin.ListedClass.{ListedClass}
 use Rattle.block_sim.specs.declared.block_span.BlockSpan.{BlockSpan}
 use Rattle.block_sim.specs.Origins.{IsListed}
 use Rattle.block_sim.specs.Parts.{Parts}
-use Rattle.block_sim.specs.RegionHits.{HasFirst, IsOpenAt}
+use Rattle.block_sim.specs.RegionHits.{HasFirst, IsFirstOn, IsOpenAt}
 use Rattle.block_sim.specs.BlockSpans.{unit_of}
 use Rattle.workers.specs.declared.stretch_run.BlockSweep.{BlockSweep}
 use Rattle.workers.specs.Stops.{Stops}
@@ -59,3 +60,13 @@ HaveFirstsAfter job rows firsts sweep place hits = (k : ℕ) (row : ListedClass)
 abbrev pub AreAsked : List ListedClass → List (Option ℕ) → ℕ → Stops → ℕ → ℕ → Type 0
 AreAsked rows firsts worker stops block place = (k : ℕ) (row : ListedClass) → k < place
     → IsOpenAt rows firsts k row → stops.must worker row.class block → ⊥
+
+-- and at none of all classes before a place
+abbrev pub AreAllAsked : List ListedClass → ℕ → Stops → ℕ → ℕ → Type 0
+AreAllAsked rows worker stops block place = (k : ℕ) (row : ListedClass) → k < place
+    → slice_get rows k ≡ Some row → stops.must worker row.class block → ⊥
+
+-- no test of any blocks detects the classes at the places from one on
+abbrev pub AreDeadFrom : Parts → List ListedClass → ℕ → Type 0
+AreDeadFrom job rows from = (k : ℕ) (row : ListedClass) → from ≤ k → slice_get rows k ≡ Some row
+    → (span : BlockSpan) → IsFirstOn job span row.class None

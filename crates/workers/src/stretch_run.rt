@@ -14,7 +14,8 @@ ghost use Rattle.workers.specs.Schedule.{IsTableOf};
 ghost use Rattle.workers.specs.StretchRuns.{IsLowerOf, IsLowest, IsOpenIn, IsStopAt, IsUndetected};
 ghost use Rattle.block_sim.specs.OpenPlaces.{AreNextOpen};
 ghost use Rattle.workers.specs.BlockSweeps.{HaveFirstsFrom, HaveFirstsAfter, AreRowsOf};
-ghost use Rattle.workers.specs.BlockSweeps.{AreAsked, IsBlockSweep, IsWhole, between, classes_of};
+ghost use Rattle.workers.specs.BlockSweeps.{AreAllAsked, AreAsked, AreDeadFrom, IsBlockSweep};
+ghost use Rattle.workers.specs.BlockSweeps.{IsWhole, between, classes_of};
 
 use crate::open_classes::{leave_out, next_open};
 use crate::piece_worker::Gate;
@@ -86,8 +87,78 @@ fn sweep_of(job: &Job, rows: &[ListedClass], block: u32, known: u32) -> BlockSwe
 }
 
 /// Simulates the classes of a list on every block, one block after another, until the gate stops
-/// the worker. It skips a class that an earlier block detects.
+/// the worker. It skips a class that an earlier block detects. If the gate lets every piece pass,
+/// it leaves out the dead classes at the end of the list.
 pub(crate) fn run_list<G: Gate>(
+    job: &Job,
+    rows: &[ListedClass],
+    worker: u32,
+    simulation: &mut RegionSimulation,
+    gate: &G,
+    next: &mut [usize],
+    firsts: &mut [Option<u32>],
+) -> Option<Stop>
+    requires rows { All (IsListed job.now) rows.now }
+    requires few { length rows.now ≤ length job.now.classes.representative }
+    requires serves { ServesRegions simulation.old job.now }
+    requires none { AreFoundUpTo job.now (classes_of rows.now) 0 0 firsts.old }
+    requires next { AreNextOpen firsts.old next.old }
+    ensures ended { HasEnded job.now (classes_of rows.now) worker (G.stops gate.now) result
+        firsts.new }
+    ensures passing { G.passing gate.now → result ≡ None }
+    ensures serves { ServesRegions simulation.new job.now }
+{
+    if !gate.lets_all_pass() {
+        return run_rows(job, rows, worker, simulation, gate, next, firsts);
+    }
+    let blocks = job.tests().blocks();
+    let (live, dead) = rows.split_at(live_end(job, rows));
+    let (open, _dead) = next.split_at_mut(live.len());
+    let (found, _dead) = firsts.split_at_mut(live.len());
+    let stop = run_rows(job, live, worker, simulation, gate, open, found);
+    ask_dead(dead, worker, blocks, gate);
+    stop
+}
+
+/// Returns the place after the last class of a list that isn't dead.
+fn live_end(job: &Job, rows: &[ListedClass]) -> usize
+    requires { All (IsListed job.now) rows.now }
+    ensures within { result ≤ length rows.now }
+    ensures dead { AreDeadFrom job.now rows.now result }
+{
+    let mut end = rows.len();
+    while end > 0 && job.is_dead(row_at(rows, end - 1)) {
+        end -= 1;
+    }
+    end
+}
+
+/// Asks the gate, which lets every piece pass, for the dead classes of a list on this number of
+/// blocks. A gate that draws the progress takes them for a part of their own.
+fn ask_dead<G: Gate>(rows: &[ListedClass], worker: u32, blocks: u32, gate: &G)
+    requires { G.passing gate.now }
+    ensures { (block : ℕ) → block < blocks
+        → AreAllAsked rows.now worker (G.stops gate.now) block (length rows.now) }
+{
+    for block in 0..blocks {
+        ask_rows(rows, worker, block, gate);
+    }
+}
+
+/// Asks the gate, which lets every piece pass, for the classes of a list on a block.
+#[inline(always)]
+fn ask_rows<G: Gate>(rows: &[ListedClass], worker: u32, block: u32, gate: &G)
+    requires { G.passing gate.now }
+    ensures { AreAllAsked rows.now worker (G.stops gate.now) block (length rows.now) }
+{
+    for row in rows {
+        gate.pass(worker, row.class, block);
+    }
+}
+
+/// Simulates the classes of a list on every block, as [`run_list`] does, but leaves out no dead
+/// class.
+fn run_rows<G: Gate>(
     job: &Job,
     rows: &[ListedClass],
     worker: u32,

@@ -1,73 +1,61 @@
-use Rattle.std.proofs.Common.{◌≡◌, ◌+◌, ◌-◌, ◌<◌, ◌≤◌, sym, subst, inl, inr, arith}
-use Rattle.std.proofs.lemmas.Option.{slice_get_within}
-use Rattle.patterns.specs.Tests.{blocks}
-use Rattle.std.specs.Prelude.{length}
-use Rattle.block_sim.specs.RegionHits.{HasFirst, IsOpenAt}
-use Rattle.workers.specs.BlockSweeps.{between}
+use Rattle.std.proofs.Common.{◌≡◌, ◌++◌, ◌∙◌, All, ap, arith, length, subst, sym}
+use Rattle.patterns.specs.Tests.{TestList, blocks}
+use Rattle.block_sim.specs.OpenPlaces.{AreNextOpen}
+use Rattle.block_sim.specs.Origins.{IsListed}
+use Rattle.workers.specs.BlockSweeps.{AreDeadFrom, classes_of}
+use Rattle.workers.specs.StretchRuns.{AreFoundUpTo, HasEnded}
+use Rattle.workers.proofs.DeadClasses.{has_ended, live_next, live_none}
 use Rattle.workers.proofs.stretch_run.run_list.Goals as goal
 
-pub run_block-requires-clause-firsts_from : goal.run_block-requires-clause-firsts_from
-run_block-requires-clause-firsts_from g c = λ k row from to idle.
-    let sweep = c.sweep_of-sweep.result in
-    let is = c.sweep_of-sweep.ensures.found in
-    let block = c.sweep_of-sweep.ensures.block in
-    elim is.found [
-      | inl x ↦
-          let known = x.1 in
-          let ordered = is.ordered in
-          let last : c.loop-block.known - 1 ≡ sweep.last = omega (arith, known) in
-          let lt : c.loop-block.block < c.loop-block.known = omega (arith, known, ordered, block) in
-          let has = c.loop-block.invariant.firsts_from k row lt idle in
-          subst (λ n. HasFirst c.args.job.now (between n sweep.last) row
-          c.loop-block.simulation.hits
-          k) (sym block)
-          (subst (λ n. HasFirst c.args.job.now (between c.loop-block.block n) row
-          c.loop-block.simulation.hits k) last has)
-      | inr x ↦ let none = x.0 in absurd (omega (arith, none, to))
-    ]
-
-pub loop-block-smaller : goal.loop-block-smaller
-loop-block-smaller g c =
-    let is = c.sweep_of-sweep.ensures.found in
-    let block = c.sweep_of-sweep.ensures.block in
-    let ordered = is.ordered in
-    let test = c.loop-block-test.true in
-    elim c.finish_sweep-block.ensures.ended [
-      | inl x ↦ omega (arith, x, ordered, block, test)
-      | inr x ↦ (let next = x.0 in omega (arith, next, block, test))
-    ]
-
-pub loop-block-preserved : goal.loop-block-preserved
-loop-block-preserved g c =
-    let sweep = c.sweep_of-sweep.result in
-    let is = c.sweep_of-sweep.ensures.found in
-    let block = c.sweep_of-sweep.ensures.block in
-    let within = is.within in
-    let ordered = is.ordered in
-    let to = c.finish_sweep-block.result in
-    let rows = c.args.rows.now in
+pub run_rows-stop-requires-clause-none : goal.run_rows-stop-requires-clause-none
+run_rows-stop-requires-clause-none g c =
     let job = c.args.job.now in
-    let hits = c.run_block.new.simulation.hits in
-    let all = blocks (length job.tests.tests) in
-    let low : to ≤ all = (elim c.finish_sweep-block.ensures.ended [
-      | inl x ↦ omega (arith, x, within)
-      | inr x ↦ (let next = x.0 in omega (arith, next, within, ordered))
-    ]) in
-    record {
-      within = low;
-      found = c.finish_sweep-block.ensures.found;
-      passed = c.finish_sweep-block.ensures.passed;
-      few = omega (arith, within);
-      firsts_from = λ k row lt idle. (elim c.finish_sweep-block.ensures.ended [
-        | inl x ↦ absurd (omega (arith, x, lt))
-        | inr x ↦ (let next = x.0 in
-            let last : sweep.last ≡ sweep.last + 1 - 1 = omega arith in
-            let at = slice_get_within rows k row idle.row_is in
-            subst (λ n. HasFirst job (between to n) row hits k) last
-            (subst (λ n. HasFirst job (between n sweep.last) row hits k) (sym next)
-            (c.in-None.ensures.following k row at
-            (subst (λ l. IsOpenAt rows l k row) x.1 idle))))
-      ]);
-      next = c.finish_sweep-block.ensures.next;
-      serves = c.run_block.ensures.serves;
-    }
+    let live = c.split_at.result.0.now in
+    let dead = c.split_at.result.1.now in
+    live_none job c.tests.ensures.together live dead c.split_at_mut-found.result.0.now
+    c.split_at_mut-found.result.1.now c.split_at_mut-found.ensures.front_len
+    (subst (AreFoundUpTo job (classes_of (live ++ dead)) 0 0) c.split_at_mut-found.ensures.value
+    (subst (λ l. AreFoundUpTo job (classes_of l) 0 0 c.args.firsts.now)
+    c.split_at.ensures.by_index.0 c.requires.none))
+
+pub run_rows-stop-requires-clause-next : goal.run_rows-stop-requires-clause-next
+run_rows-stop-requires-clause-next g c =
+    let job = c.args.job.now in
+    let live = c.split_at.result.0.now in
+    let dead = c.split_at.result.1.now in
+    live_next job c.tests.ensures.together live dead c.split_at_mut-found.result.0.now
+    c.split_at_mut-found.result.1.now c.split_at_mut-found.ensures.front_len
+    (subst (AreFoundUpTo job (classes_of (live ++ dead)) 0 0) c.split_at_mut-found.ensures.value
+    (subst (λ l. AreFoundUpTo job (classes_of l) 0 0 c.args.firsts.now)
+    c.split_at.ensures.by_index.0 c.requires.none))
+    c.split_at_mut-open.result.0.now c.split_at_mut-open.result.1.now
+    c.split_at_mut-open.ensures.front_len
+    (subst (AreNextOpen (c.split_at_mut-found.result.0.now ++ c.split_at_mut-found.result.1.now))
+    c.split_at_mut-open.ensures.value
+    (subst (λ l. AreNextOpen l c.args.next.now) c.split_at_mut-found.ensures.value
+    c.requires.next))
+
+pub returns-clause-ended : goal.returns-clause-ended
+returns-clause-ended g c =
+    let job = c.args.job.now in
+    let rows = c.args.rows.now in
+    let live = c.split_at.result.0.now in
+    let dead = c.split_at.result.1.now in
+    let is : rows ≡ live ++ dead = c.split_at.ensures.by_index.0 in
+    let found = c.run_rows-stop.new.firsts in
+    let rest = c.split_at_mut-found.result.1.now in
+    let count = c.blocks-blocks.ensures
+    ∙ ap (λ (t : TestList). blocks (length t.tests)) c.tests.ensures.part in
+    subst (λ l. HasEnded job (classes_of l) c.args.worker (g.G.Gate.stops c.args.gate.now)
+    c.run_rows-stop.result (found ++ rest)) (sym is)
+    (has_ended job c.tests.ensures.together live dead
+    (subst (All (IsListed job)) is c.requires.rows)
+    (subst (λ l. AreDeadFrom job l (length live)) is
+    (subst (AreDeadFrom job rows) (sym c.split_at.ensures.front_len) c.live_end.ensures.dead))
+    c.split_at_mut-found.result.0.now rest c.split_at_mut-found.ensures.front_len
+    (subst (AreFoundUpTo job (classes_of (live ++ dead)) 0 0) c.split_at_mut-found.ensures.value
+    (subst (λ l. AreFoundUpTo job (classes_of l) 0 0 c.args.firsts.now) is c.requires.none))
+    c.args.worker (g.G.Gate.stops c.args.gate.now) c.run_rows-stop.result found
+    (c.run_rows-stop.ensures.passing (c.lets_all_pass.ensures c.if-not-lets_all_pass.false))
+    c.run_rows-stop.ensures.ended
+    (λ block lt. c.ask_dead.ensures block (omega (arith, lt, count))))

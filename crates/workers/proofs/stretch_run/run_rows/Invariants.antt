@@ -5,7 +5,7 @@ use Rattle.block_sim.specs.RegionHits.{HasFirst, IsOpenAt, ServesRegions}
 use Rattle.workers.specs.StretchRuns.{AreFoundUpTo, ArePassed}
 use Rattle.block_sim.specs.OpenPlaces.{AreNextOpen}
 use Rattle.workers.specs.BlockSweeps.{between, classes_of}
-use Rattle.workers.proofs.stretch_run.run_list.Given as goal
+use Rattle.workers.proofs.stretch_run.run_rows.Given as goal
 
 abbrev pub invariant-loop-block : goal.invariant-loop-block
 invariant-loop-block g l = record {
