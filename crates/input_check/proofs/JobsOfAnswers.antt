@@ -9,7 +9,8 @@ use Rattle.fault_model.specs.Collapse.{AreClassesOf, Collapsed}
 use Rattle.fault_model.specs.Fault.{fault_list}
 use Rattle.patterns.specs.Tests.{TestList}
 use Rattle.block_sim.specs.Parts.{Parts}
-use Rattle.job_loading.specs.Jobs.{AreTestsFor, IsJobFor}
+use Rattle.block_sim.specs.JobParts.{IsJobUnder}
+use Rattle.job_loading.specs.Jobs.{AreTestsFor}
 use Rattle.job_loading.proofs.Public.{job_of_texts}
 use Rattle.input_check.specs.declared.answer.Answer.{Answer}
 use Rattle.input_check.specs.declared.answer.Answer.TheVariants as answer
@@ -26,7 +27,7 @@ made_job m c classes tests = record {
 
 pub is_made : (m : Model) (c : List Statement) (classes : Collapsed) (tests : TestList)
     → AreClassesOf m c classes → AreTestsFor c tests
-    → IsJobFor m c tests (made_job m c classes tests)
+    → IsJobUnder m c tests (made_job m c classes tests)
 is_made m c classes tests are fit = (
   refl,
   refl,

@@ -9,7 +9,8 @@ use Rattle.patterns.specs.declared.TestFault.{TestFault}
 use Rattle.patterns.specs.Tests.{HasTests, IsTestList, IsTestRefusal, TestList, max_pieces}
 use Rattle.fault_model.specs.declared.Model.{Model}
 use Rattle.block_sim.specs.Parts.{Parts, piece_count}
-use Rattle.job_loading.specs.Jobs.{IsJobFor, IsJobOf, IsJobWithin}
+use Rattle.block_sim.specs.JobParts.{IsJobUnder}
+use Rattle.job_loading.specs.Jobs.{IsJobOf, IsJobWithin}
 use Rattle.input_check.specs.declared.bench.BenchCheck.{BenchCheck}
 use Rattle.input_check.specs.declared.bench.BenchCheck.TheVariants as bench_check
 use Rattle.input_check.specs.declared.tests.TestCheck.{TestCheck}
@@ -38,9 +39,9 @@ IsTestCheckOf text circuit (test_check.Refused findings) = (refusal : TestFault)
 -- exceeds it as reported.
 abbrev pub IsTestsAnswer : Model → List Statement → TestList → Answer → Type 0
 IsTestsAnswer m c tests (answer.Accepted table) =
-    (job : Parts) × IsJobFor m c tests job × (piece_count job ≤ max_pieces)
+    (job : Parts) × IsJobUnder m c tests job × (piece_count job ≤ max_pieces)
 IsTestsAnswer m c tests (answer.TooManyPieces excess) =
-    (job : Parts) × IsJobFor m c tests job × IsExcessOf job excess
+    (job : Parts) × IsJobUnder m c tests job × IsExcessOf job excess
 IsTestsAnswer m c tests _ = ⊥
 
 -- The result for a circuit and a test file: the file has the first of the reported errors, or tests

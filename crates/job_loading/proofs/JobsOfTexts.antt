@@ -13,13 +13,14 @@ use Rattle.block_sim.specs.declared.job.JobFault.TheVariants as job_fault
 use Rattle.block_sim.specs.Parts.{Parts}
 use Rattle.job_loading.specs.declared.fault.SimFault.{SimFault}
 use Rattle.job_loading.specs.declared.fault.SimFault.TheVariants as fault
-use Rattle.job_loading.specs.Jobs.{AreTestsFor, IsJobFault, IsJobFor, IsJobOf, IsPiecesFault}
+use Rattle.block_sim.specs.JobParts.{IsJobUnder}
+use Rattle.job_loading.specs.Jobs.{AreTestsFor, IsJobFault, IsJobOf, IsPiecesFault}
 
 -- the parts that are made for a circuit and tests are a job of them
 pub job_is : (m : Model) (c : List Statement) (list : FaultList) (classes : Collapsed)
     (tests : TestList) → list ≡ fault_list m c → AreClassesOf list.model c classes
     → AreTestsFor c tests
-    → IsJobFor m c tests (record { circuit = c; list = list; classes = classes; tests = tests })
+    → IsJobUnder m c tests (record { circuit = c; list = list; classes = classes; tests = tests })
 job_is m c list classes tests listed are fit =
     let of_model : list.model ≡ m = ap (λ l. l.model) listed in (
       refl,
@@ -37,7 +38,7 @@ job_is m c list classes tests listed are fit =
 -- a job of the circuit and the tests of two texts is a job of the texts
 pub job_of_texts : (m : Model) (bench text : List ℕ) (c : List Statement) (tests : TestList)
     (job : Parts) → IsAccepted bench c → HasTests text (length (sources c)) tests
-    → IsJobFor m c tests job → IsJobOf m bench text job
+    → IsJobUnder m c tests job → IsJobOf m bench text job
 job_of_texts m bench text c tests job accepted has is = (
   subst (λ x. IsAccepted bench x) (sym is.0) accepted,
   subst (λ x. HasTests text (length (sources x)) job.tests) (sym is.0)

@@ -9,6 +9,7 @@ use Rattle.fault_model.specs.declared.Model.{Model}
 use Rattle.patterns.specs.declared.TestFault.TheVariants as test_fault
 use Rattle.patterns.specs.Tests.{TestList, HasTests, IsTestList, IsTestRefusal, max_pieces}
 use Rattle.block_sim.specs.declared.job.JobFault.TheVariants as job_fault
+use Rattle.block_sim.specs.JobParts.{IsJobUnder}
 use Rattle.block_sim.specs.Parts.{Parts, BelongTogether, piece_count}
 use Rattle.job_loading.specs.declared.fault.SimFault.{SimFault}
 use Rattle.job_loading.specs.declared.fault.SimFault.TheVariants as fault
@@ -26,11 +27,6 @@ pub record AreTestsFor (c : List Statement) (list : TestList) : Type 0 where
   pub tests : IsTestList list
   pub width : list.width ≡ length (sources c)
 
--- the job of a circuit and of tests under a model
-abbrev pub IsJobFor : Model → List Statement → TestList → Parts → Type 0
-IsJobFor m c tests job =
-    (job.circuit ≡ c) × (job.tests ≡ tests) × BelongTogether job × (job.list.model ≡ m)
-
 -- the tests of a test file, if each source has one of the bits of its rows: they are read before
 -- the number of sources is known
 abbrev pub IsGuessOf : List ℕ → TestList → Type 0
@@ -46,7 +42,7 @@ IsInputFault bench text _ = ⊥
 -- the error of a job of a circuit and of tests: its number of pieces, or memory
 abbrev pub IsPiecesFault : Model → List Statement → TestList → SimFault → Type 0
 IsPiecesFault m c tests (fault.Job f) = (f ≡ job_fault.Memory)
-    ⊎ ((job : Parts) × IsJobFor m c tests job × (max_pieces < piece_count job))
+    ⊎ ((job : Parts) × IsJobUnder m c tests job × (max_pieces < piece_count job))
 IsPiecesFault m c tests fault.Memory = ⊤
 IsPiecesFault m c tests _ = ⊥
 

@@ -7,7 +7,8 @@ ghost use Rattle.block_sim.specs.Parts.{BelongTogether, with_tests};
 ghost use Rattle.workers.specs.Part.{ArePartVerdicts};
 ghost use Rattle.workers.specs.Refused.{ArePartsWithin, IsPartFault, IsPartsFault, IsPartWithin};
 ghost use Rattle.workers.specs.Verdict.{AreAfterHits, AreFirsts};
-ghost use Rattle.job_loading.specs.Jobs.{AreTestsFor, IsJobFor};
+ghost use Rattle.block_sim.specs.JobParts.{IsJobUnder};
+ghost use Rattle.job_loading.specs.Jobs.{AreTestsFor};
 
 use crate::texts::make_any_job_in_threads;
 use bench_net::Circuit;
@@ -164,7 +165,7 @@ pub(crate) fn make_run_in_threads<R: Threads + Wait>(
     workers: u32,
 ) -> Result<RunJob, AllocError>
     requires { AreTestsFor circuit tests }
-    ensures job { IfOk result (λ run. IsJobFor model circuit tests run.parts) }
+    ensures job { IfOk result (λ run. IsJobUnder model circuit tests run.parts) }
     ensures apart { IfOk result (λ run. run.apart ≡ true → apart ≡ true) }
 {
     let blocks = window_blocks(circuit.signals());

@@ -6,7 +6,8 @@ ghost use Rattle.bench_net.specs.Refusal.{IsAccepted, IsRefused};
 ghost use Rattle.bench_net.specs.Scan.{sources};
 ghost use Rattle.patterns.specs.Tests.{HasTests, IsTestList, IsTestRefusal, max_pieces};
 ghost use Rattle.block_sim.specs.Parts.{piece_count};
-ghost use Rattle.job_loading.specs.Jobs.{AreTestsFor, IsInputFault, IsJobFault, IsJobFor, IsJobOf};
+ghost use Rattle.block_sim.specs.JobParts.{IsJobUnder};
+ghost use Rattle.job_loading.specs.Jobs.{AreTestsFor, IsInputFault, IsJobFault, IsJobOf};
 ghost use Rattle.job_loading.specs.Jobs.{IsGuessOf, IsPiecesFault, IsReadFault};
 
 use crate::fault::SimFault;
@@ -125,7 +126,7 @@ fn make_any_job(
     tests: Tests,
 ) -> Result<Job, AllocError>
     requires { AreTestsFor circuit tests }
-    ensures { IfOk result (IsJobFor model circuit tests) }
+    ensures { IfOk result (IsJobUnder model circuit tests) }
 {
     let faults = list_faults_in(alloc, &circuit, model)?;
     let classes = collapse(alloc, &circuit, &faults)?;
@@ -142,7 +143,7 @@ pub(crate) fn make_any_job_in_threads<R: Threads + Wait>(
     workers: u32,
 ) -> Result<Job, AllocError>
     requires { AreTestsFor circuit tests }
-    ensures { IfOk result (IsJobFor model circuit tests) }
+    ensures { IfOk result (IsJobUnder model circuit tests) }
 {
     Job::under_model_of_any_size_in_threads(rt, alloc, model, circuit, tests, workers)
 }
@@ -262,7 +263,7 @@ fn tests_of_width<R: Threads + Wait>(
 /// memory, can make it fail.
 pub fn job_for(alloc: Global, model: Model, circuit: Circuit, tests: Tests) -> Result<Job, SimFault>
     requires { AreTestsFor circuit tests }
-    ensures job { IfOk result (IsJobFor model circuit tests) }
+    ensures job { IfOk result (IsJobUnder model circuit tests) }
     ensures few { IfOk result (λ job. piece_count job ≤ max_pieces) }
     ensures refused { IfErr result (IsPiecesFault model circuit tests) }
 {
@@ -282,7 +283,7 @@ pub fn job_for_in_threads<R: Threads + Wait>(
     workers: u32,
 ) -> Result<Job, SimFault>
     requires { AreTestsFor circuit tests }
-    ensures job { IfOk result (IsJobFor model circuit tests) }
+    ensures job { IfOk result (IsJobUnder model circuit tests) }
     ensures few { IfOk result (λ job. piece_count job ≤ max_pieces) }
     ensures refused { IfErr result (IsPiecesFault model circuit tests) }
 {

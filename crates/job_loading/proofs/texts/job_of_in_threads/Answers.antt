@@ -1,5 +1,6 @@
 use Rattle.std.proofs.lemmas.Result.{IfErr-weaker, IfOk-weaker}
-use Rattle.job_loading.specs.Jobs.{IsJobFault, IsJobFor, IsJobOf, IsPiecesFault}
+use Rattle.block_sim.specs.JobParts.{IsJobUnder}
+use Rattle.job_loading.specs.Jobs.{IsJobFault, IsJobOf, IsPiecesFault}
 use Rattle.job_loading.proofs.JobsOfTexts.{job_of_texts, pieces_fault}
 use Rattle.job_loading.proofs.texts.job_of_in_threads.Goals as goal
 
@@ -7,7 +8,7 @@ pub returns-clause-job : goal.returns-clause-job
 returns-clause-job g c =
     let circuit = c.in_ok-circuit.circuit in
     let tests = c.in_ok-circuit.tests in
-    IfOk-weaker c.job_for_in_threads.result (IsJobFor c.args.model circuit tests)
+    IfOk-weaker c.job_for_in_threads.result (IsJobUnder c.args.model circuit tests)
     (IsJobOf c.args.model c.args.bench.now c.args.tests.now)
     (λ job is. job_of_texts c.args.model c.args.bench.now c.args.tests.now circuit tests job
     c.in_ok-circuit.ensures.circuit c.in_ok-circuit.ensures.tests is)
