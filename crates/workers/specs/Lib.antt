@@ -14,3 +14,4 @@ pub mod BlockSweeps
 pub mod Stretches
 pub mod ListRunners
 pub mod Windows
+pub mod WindowLedgers

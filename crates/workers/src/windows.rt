@@ -10,10 +10,13 @@ ghost use Rattle.std.specs.Prelude.{⊤, ℕ, filter, is_none, length, map, min,
 ghost use Rattle.bench_net.specs.Scan.{sources};
 ghost use Rattle.patterns.specs.Tests.{IsTestList, TestList, blocks};
 ghost use Rattle.block_sim.specs.Parts.{with_tests};
+ghost use Rattle.fault_ledger.specs.Seats.{ClosedFace};
 ghost use Rattle.workers.specs.Part.{AreClassVerdicts, ArePartVerdicts};
 ghost use Rattle.workers.specs.Refused.{ArePartsWithin, IsPartFault, IsPartsFault, IsPartWithin};
 ghost use Rattle.workers.specs.Stops.{no_stop};
 ghost use Rattle.workers.specs.Verdict.{AreAfterHits, AreClassFirsts, AreFirsts};
+ghost use Rattle.workers.specs.WindowLedgers.{AreFoundByLedger, AreOfWindows};
+ghost use Rattle.workers.specs.WindowLedgers.{IsOfWindows, IsPartOfWindows};
 ghost use Rattle.workers.specs.Windows.{AreFirstsBelow, AreWordsFrom, GoesOnFrom};
 ghost use Rattle.workers.specs.Windows.{IsWindowOf, advanced, moved};
 
@@ -188,6 +191,10 @@ impl<G: Gate> Gate for Shifted<'_, G> {
         self.gate
             .pass(worker, class, block.saturating_add(self.from))
     }
+
+    fn lets_all_pass(&self) -> bool {
+        self.gate.lets_all_pass()
+    }
 }
 
 /// Runs classes on all tests of a job. Returns the verdict of each class of the job.
@@ -207,7 +214,8 @@ fn run_classes_left<G: Gate + Sync, R: Threads + Wait>(
     ensures found { IfOk result (λ table. (firsts : List (Option ℕ))
         × AreClassFirsts job.now.list.model job.now.circuit job.now.tests.tests classes.items firsts
         × AreClassVerdicts (length job.now.classes.representative) classes.items firsts
-        (length classes.items) table.items) }
+        (length classes.items) table.items × ((ledger : ClosedFace)
+        × AreFoundByLedger job.now workers classes.items firsts ledger)) }
     ensures refused { IfErr result (λ fault.
         (fault ≡ RunFault.Memory) ⊎ (fault ≡ RunFault.Threads)) }
 {
@@ -278,6 +286,9 @@ fn run_window<G: Gate + Sync, R: Threads + Wait>(
         (64 * window.first) classes.now firsts.items }
     ensures firsts { IfOk result (λ next. AreFirstsBelow job.old.list.model job.old.circuit
         tests.now.tests (64 * window.end) classes.now next.items) }
+    ensures ledgers { AreOfWindows (with_tests job.old tests.now) workers classes.now firsts.items
+        → IfOk result (λ next.
+        AreOfWindows (with_tests job.old tests.now) workers classes.now next.items) }
     ensures refused { IfErr result (λ fault.
         (fault ≡ RunFault.Memory) ⊎ (fault ≡ RunFault.Threads)) }
     ensures kept { (some : TestList) × (job.new ≡ with_tests job.old some) }
@@ -319,6 +330,8 @@ fn run_windows<G: Gate + Sync, R: Threads + Wait>(
     requires within { All (λ class. class < length job.old.classes.representative) classes.now }
     ensures firsts { IfOk result (λ firsts. AreClassFirsts job.old.list.model job.old.circuit
         tests.now.tests classes.now firsts.items) }
+    ensures ledgers { IfOk result (λ firsts.
+        AreOfWindows (with_tests job.old tests.now) workers classes.now firsts.items) }
     ensures refused { IfErr result (λ fault.
         (fault ≡ RunFault.Memory) ⊎ (fault ≡ RunFault.Threads)) }
     ensures kept { (some : TestList) × (job.new ≡ with_tests job.old some) }
@@ -370,6 +383,7 @@ pub fn run_in_windows<G: Gate + Sync, R: Threads + Wait>(
         AreAfterHits (with_tests job.old tests.now) v.skipped) }
     ensures workers { OnOk result ((0 < workers) × (workers ≤ 64)) }
     ensures within { OnOk result (ArePartsWithin (with_tests job.old tests.now) parts) }
+    ensures ledgers { IfOk result (IsOfWindows (with_tests job.old tests.now) workers) }
     ensures refused { IfErr result
         (IsPartsFault (with_tests job.old tests.now) parts workers ⊤ no_stop) }
     ensures kept { (some : TestList) × (job.new ≡ with_tests job.old some) }
@@ -422,6 +436,8 @@ pub fn run_part_in_windows<G: Gate + Sync, R: Threads + Wait>(
         ArePartVerdicts (with_tests job.old tests.now) parts part verdicts.items) }
     ensures workers { OnOk result ((0 < workers) × (workers ≤ 64)) }
     ensures within { OnOk result (IsPartWithin (with_tests job.old tests.now) parts part) }
+    ensures ledgers { IfOk result (λ verdicts. IsPartOfWindows (with_tests job.old tests.now) parts
+        part workers verdicts.items) }
     ensures refused { IfErr result
         (IsPartFault (with_tests job.old tests.now) parts part workers ⊤ no_stop) }
     ensures kept { (some : TestList) × (job.new ≡ with_tests job.old some) }

@@ -1,12 +1,15 @@
 use Rattle.std.proofs.Common.{◌≡◌, ◌<◌, ◌∙◌, All, List, ap, get_or, length, map, refl, subst}
-use Rattle.std.proofs.Common.{sym}
+use Rattle.std.proofs.Common.{Some, sym}
+use Rattle.std.specs.Prelude.{slice_get}
 use Rattle.fault_model.specs.Collapse.{Collapsed}
 use Rattle.block_sim.specs.Parts.{Parts, with_tests}
 use Rattle.workers.specs.declared.parts.PartVerdict.{PartVerdict}
 use Rattle.workers.specs.declared.parts.PartVerdict.TheVariants.{OtherPart}
 use Rattle.workers.specs.Part.{first_in}
 use Rattle.workers.specs.Verdict.{AreAfterHits, AreClassFirsts, AreFirsts, pieces_after}
-use Rattle.workers.proofs.PartsOfClasses.{all_firsts, all_hits, all_within, verdicts_under}
+use Rattle.workers.specs.WindowLedgers.{AreOfWindows}
+use Rattle.workers.proofs.PartsOfClasses.{all_firsts, all_hits, all_within, verdict_there}
+use Rattle.workers.proofs.PartsOfClasses.{verdicts_under}
 use Rattle.workers.proofs.WindowSteps.{all_with, together_with}
 use Rattle.workers.proofs.windows.run_in_windows.Goals as goal
 
@@ -84,3 +87,36 @@ returns-clause-skipped g c =
     (all_hits job classes firsts table c.blocks-blocks.result c.skipped_after-skipped.result
     (all_with c.args.job.now c.args.tests.now classes c.in_ok-all.ensures) known by
     c.blocks-blocks.ensures is)
+
+pub returns-clause-ledgers : goal.returns-clause-ledgers
+returns-clause-ledgers g c =
+    let job = with_tests c.args.job.now c.args.tests.now in
+    let classes = c.in_ok-all.all.items in
+    let firsts = c.in_ok-firsts.firsts.items in
+    let table = c.in_ok-table.table.items in
+    let count = c.count-count.ensures
+    ∙ ap (λ (x : Collapsed). length x.representative) c.classes.ensures.part in
+    let by = verdicts_under c.count-count.result (length job.classes.representative) _ classes _
+    firsts table count c.as_slice-2.ensures.value c.as_slice-3.ensures.value
+    c.in_ok-table.ensures in
+    let kept = c.in_ok-firsts.ensures.kept in
+    let is : c.in_ok-found.found.items ≡ map (λ class. first_in (get_or table class OtherPart))
+    job.classes.class_of =
+    c.in_ok-found.ensures.firsts ∙ ap
+    (λ (l : List PartVerdict). map (λ class. first_in (get_or l class OtherPart))
+    (c.run_windows.new.job).classes.class_of) c.as_slice-5.ensures.value
+    ∙ ap (λ (j : Parts). map (λ class. first_in (get_or table class OtherPart)) j.classes.class_of)
+    kept.1 in
+    let all = all_with c.args.job.now c.args.tests.now classes c.in_ok-all.ensures in
+    let together = together_with c.args.job.now c.args.tests.now c.classes.ensures.together
+    c.requires.list c.requires.width in
+    record {
+      classes = classes;
+      are = all;
+      firsts = firsts;
+      of = subst (λ l. AreOfWindows job c.args.workers l firsts) c.as_slice.ensures.value
+          c.in_ok-firsts.ensures.ledgers;
+      each = λ i class first at v. verdict_there job classes firsts c.in_ok-found.found.items table
+          together all by is i class first at
+          (subst (λ l. slice_get l i ≡ Some first) c.of.ensures.firsts v);
+    }

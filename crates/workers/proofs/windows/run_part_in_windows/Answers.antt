@@ -7,7 +7,9 @@ use Rattle.block_sim.specs.Parts.{Parts, with_tests}
 use Rattle.workers.specs.declared.parts.PartVerdict.{PartVerdict}
 use Rattle.workers.specs.declared.parts.PartVerdict.TheVariants.{OtherPart}
 use Rattle.workers.specs.Verdict.{AreClassFirsts}
-use Rattle.workers.proofs.PartsOfClasses.{part_verdicts, part_within, verdicts_under}
+use Rattle.workers.specs.WindowLedgers.{AreOfWindows}
+use Rattle.workers.proofs.PartsOfClasses.{part_verdict_there, part_verdicts, part_within}
+use Rattle.workers.proofs.PartsOfClasses.{verdicts_under}
 use Rattle.workers.proofs.WindowSteps.{part_with, together_with}
 use Rattle.workers.proofs.windows.run_part_in_windows.Goals as goal
 
@@ -63,6 +65,37 @@ returns-clause-verdicts g c =
     c.requires.width)
     (part_with c.args.job.now c.args.tests.now c.args.parts c.args.part classes c.in_ok-own.ensures)
     known by is
+
+pub returns-clause-ledgers : goal.returns-clause-ledgers
+returns-clause-ledgers g c =
+    let job = with_tests c.args.job.now c.args.tests.now in
+    let classes = c.in_ok-own.own.items in
+    let firsts = c.in_ok-firsts.firsts.items in
+    let table = c.in_ok-table.table.items in
+    let kept = c.in_ok-firsts.ensures.kept in
+    let count : c.count-count.result ≡ length job.classes.representative = c.count-count.ensures
+    ∙ ap (λ (x : Collapsed). length x.representative) c.classes.ensures.part
+    ∙ ap (λ (j : Parts). length j.classes.representative) kept.1 in
+    let by = verdicts_under c.count-count.result (length job.classes.representative) _ classes _
+    firsts table count c.as_slice-3.ensures.value c.as_slice-4.ensures.value
+    c.in_ok-table.ensures in
+    let is : c.in_ok-verdicts.verdicts.items ≡ map (λ class. get_or table class OtherPart)
+    job.classes.class_of =
+    c.in_ok-verdicts.ensures ∙ ap (λ (l : List PartVerdict). map (λ class. get_or l class OtherPart)
+    (c.run_windows.new.job).classes.class_of) c.as_slice-5.ensures.value
+    ∙ ap (λ (j : Parts). map (λ class. get_or table class OtherPart) j.classes.class_of) kept.1 in
+    let together = together_with c.args.job.now c.args.tests.now c.count_in.ensures.together
+    c.requires.list c.requires.width in
+    record {
+      classes = classes;
+      are = part_with c.args.job.now c.args.tests.now c.args.parts c.args.part classes
+          c.in_ok-own.ensures;
+      firsts = firsts;
+      of = subst (λ l. AreOfWindows job c.args.workers l firsts) c.as_slice-2.ensures.value
+          c.in_ok-firsts.ensures.ledgers;
+      each = λ i class first at v. part_verdict_there job classes firsts table
+          c.in_ok-verdicts.verdicts.items together by is i class first at v;
+    }
 
 pub returns-clause-within : goal.returns-clause-within
 returns-clause-within g c =

@@ -2,12 +2,14 @@ use Rattle.std.proofs.Common.{◌≡◌, ◌⊎◌, ◌<◌, ◌*◌, ◌∙◌,
 use Rattle.std.proofs.Common.{length, map, refl, subst, sym, ℕ}
 use Rattle.std.proofs.lemmas.Bool.{eqb-true}
 use Rattle.std.proofs.lemmas.List.{nil_from_length}
-use Rattle.std.specs.Prelude.{vec_len, zip}
-use Rattle.block_sim.specs.Parts.{Parts}
+use Rattle.std.specs.Prelude.{Option, vec_len, zip}
+use Rattle.block_sim.specs.Parts.{Parts, with_tests}
 use Rattle.workers.specs.declared.parts.PartVerdict.TheVariants.{OtherPart}
 use Rattle.workers.specs.Part.{AreClassVerdicts}
 use Rattle.workers.specs.Verdict.{AreClassFirsts}
 use Rattle.workers.specs.Windows.{advanced}
+use Rattle.workers.specs.WindowLedgers.{AreFoundByLedger, AreOfWindows, HasRunWindow, goes_on}
+use Rattle.workers.specs.WindowLedgers.{open_classes}
 use Rattle.workers.proofs.WindowFirsts.{firsts_after, firsts_settled}
 use Rattle.workers.proofs.WindowFirsts.{left_few, left_of, left_within}
 use Rattle.workers.proofs.WindowWords.{begins_before}
@@ -97,3 +99,52 @@ returns-clause-firsts g c =
         → (64 * c.args.window.from ≡ 0) ⊎ (64 * c.args.window.from < 64 * c.args.window.first)
     after (inl e) = inl (omega (arith, e))
     after (inr lt) = inr (omega (arith, lt))
+
+pub returns-then-is_empty-clause-ledgers : goal.returns-then-is_empty-clause-ledgers
+returns-then-is_empty-clause-ledgers g c = λ of. of
+
+pub returns-clause-ledgers : goal.returns-clause-ledgers
+returns-clause-ledgers g c = λ of. goes_on c.args.firsts.items c.in_ok-next.next.items of ran
+  where
+    job : Parts
+    job = with_tests c.args.job.now c.args.tests.now
+
+    classes : List ℕ
+    classes = c.args.classes.now
+
+    firsts : List (Option ℕ)
+    firsts = c.args.firsts.items
+
+    is : c.in_ok-left.left.items ≡ open_classes classes firsts
+    is = c.in_ok-left.ensures ∙ ap (λ l. open_classes classes l) c.as_slice.ensures.value
+
+    ran : HasRunWindow job c.args.workers classes firsts c.in_ok-next.next.items
+    ran =
+        let some = (c.take_window.new.job).tests in
+        let set = c.in_ok-take_window.ensures.kept in
+        let table = c.in_ok-table.table.items in
+        let found = c.in_ok-table.ensures.found in
+        let ledger = found.3 in
+        let window = c.args.window in
+        let next = c.in_ok-next.ensures
+        ∙ ap (λ l. map (λ at. advanced (64 * window.from) at.1 (get_or l at.0 OtherPart))
+        (zip classes c.as_slice-2.result.now)) c.as_slice-3.ensures.value
+        ∙ ap (λ l. map (λ at. advanced (64 * window.from) at.1 (get_or table at.0 OtherPart))
+        (zip classes l)) c.as_slice-2.ensures.value in
+        record {
+          window = window;
+          tests = some;
+          are = c.in_ok-take_window.ensures.tests;
+          firsts = found.0;
+          ledger = ledger.0;
+          found = subst (λ l. AreFoundByLedger (with_tests job some) c.args.workers l found.0
+              ledger.0) is
+              (subst (λ (j : Parts). AreFoundByLedger j c.args.workers c.in_ok-left.left.items
+              found.0 ledger.0) set ledger.1);
+          table = table;
+          by = subst (λ l. AreClassVerdicts (length job.classes.representative) l found.0 (length l)
+              table) is
+              (subst (λ (j : Parts). AreClassVerdicts (length j.classes.representative)
+              c.in_ok-left.left.items found.0 (length c.in_ok-left.left.items) table) set found.2);
+          after_is = next;
+        }

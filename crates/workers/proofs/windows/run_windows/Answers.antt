@@ -2,6 +2,7 @@ use Rattle.std.proofs.Common.{◌≡◌, ◌<◌, ◌≤◌, ◌+◌, ◌*◌, �
 use Rattle.std.proofs.Common.{refl, subst, sym}
 use Rattle.bench_net.specs.Scan.{sources}
 use Rattle.block_sim.specs.Parts.{Parts, with_tests}
+use Rattle.workers.specs.WindowLedgers.{AreOfWindows, begins}
 use Rattle.workers.specs.Windows.{AreFirstsBelow}
 use Rattle.workers.proofs.WindowFirsts.{firsts_begin, firsts_end}
 use Rattle.workers.proofs.WindowSteps.{some_step, step_all, step_first, step_within}
@@ -23,6 +24,7 @@ loop-number-init g c =
           (firsts_begin job.list.model job.circuit tests c.args.classes.now
           c.in_ok-firsts.firsts.items (omega (arith, c.in_ok-firsts.ensures.count))
           c.in_ok-firsts.ensures.none);
+      ledgers = begins c.in_ok-firsts.firsts.items c.in_ok-firsts.ensures.none;
     }
 
 pub new-window-requires-clause-within : goal.new-window-requires-clause-within
@@ -88,6 +90,11 @@ loop-number-preserved g c =
           (subst (λ (j : Parts). AreFirstsBelow j.list.model j.circuit tests
           (64 * c.new-window.result.end) c.args.classes.now c.in_ok-firsts-2.firsts.items)
           was.kept.1 c.in_ok-firsts-2.ensures.firsts);
+      ledgers = subst (λ (j : Parts). AreOfWindows (with_tests j c.args.tests.now) c.args.workers
+          c.args.classes.now c.in_ok-firsts-2.firsts.items) was.kept.1
+          (c.in_ok-firsts-2.ensures.ledgers
+          (subst (λ (j : Parts). AreOfWindows (with_tests j c.args.tests.now) c.args.workers
+          c.args.classes.now c.loop-number.firsts.items) (sym was.kept.1) was.ledgers));
     }
 
 pub returns-clause-firsts : goal.returns-clause-firsts

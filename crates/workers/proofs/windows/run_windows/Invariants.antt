@@ -1,6 +1,7 @@
 use Rattle.std.proofs.Common.{◌≡◌, ◌*◌, min}
 use Rattle.patterns.specs.Tests.{TestList}
 use Rattle.block_sim.specs.Parts.{with_tests}
+use Rattle.workers.specs.WindowLedgers.{AreOfWindows}
 use Rattle.workers.specs.Windows.{AreFirstsBelow}
 use Rattle.workers.proofs.windows.run_windows.Given as goal
 
@@ -9,4 +10,5 @@ invariant-loop-number g l = record {
   kept : (some : TestList) × (l.job ≡ with_tests l.fn.job some);
   firsts : AreFirstsBelow l.fn.job.list.model l.fn.job.circuit l.tests.tests
       (64 * min (l.number * l.step) l.blocks) l.classes l.firsts.items;
+  ledgers : AreOfWindows (with_tests l.fn.job l.tests) l.workers l.classes l.firsts.items;
 }
