@@ -151,12 +151,12 @@ impl Counts {
             .saturating_add(each.saturating_mul(workers))
     }
 
-    /// Estimates the bytes of a run as a whole, with the words of all tests.
-    fn memory_whole(&self, tests: u32, workers: u64) -> u64 {
+    /// Estimates the bytes of a run that has the words of all tests.
+    fn memory_of_all(&self, tests: u32, workers: u64) -> u64 {
         self.memory(tests, groups_of(tests), workers)
     }
 
-    /// Estimates the bytes of a run in parts, which goes window by window.
+    /// Estimates the bytes of a run that goes window by window.
     fn memory_in_windows(&self, tests: u32, workers: u64) -> u64 {
         // The blocks by which a window goes on, and the block before.
         let window = window_blocks(self.signals) / 2 + 1;
@@ -244,10 +244,12 @@ pub struct TestCounts {
     pub blocks: u32,
     /// Classes times blocks.
     pub pieces: u64,
-    /// An estimate of the bytes of a run with four workers.
+    /// An estimate of the bytes of a run with four workers, which has the fault-free words of some
+    /// tests at a time.
     pub bytes: u64,
-    /// The same for a run in parts, which has the fault-free words of some tests at a time.
-    pub bytes_in_parts: u64,
+    /// The same for a run with the fault-free words of all tests: one that tells reasons or counts
+    /// detections, and a compaction.
+    pub bytes_of_all: u64,
 }
 
 /// Computes the size of a run of tests on a circuit with these counts.
@@ -259,8 +261,8 @@ pub fn count_tests(counts: &Counts, tests: &Tests) -> TestCounts
         tests: tests.count(),
         blocks,
         pieces: u64::from(counts.classes).saturating_mul(u64::from(blocks)),
-        bytes: counts.memory_whole(tests.count(), USUAL_WORKERS),
-        bytes_in_parts: counts.memory_in_windows(tests.count(), USUAL_WORKERS),
+        bytes: counts.memory_in_windows(tests.count(), USUAL_WORKERS),
+        bytes_of_all: counts.memory_of_all(tests.count(), USUAL_WORKERS),
     }
 }
 
@@ -321,13 +323,13 @@ impl Display for TestCounts {
         fmt_row("tests", u64::from(self.tests), f)?;
         fmt_row("blocks", u64::from(self.blocks), f)?;
         fmt_row("pieces", self.pieces, f)?;
-        let whole = megabytes(self.bytes);
+        let some = megabytes(self.bytes);
         writeln!(
             f,
-            "memory      {whole:>10} MB, some, for {USUAL_WORKERS} workers"
+            "memory      {some:>10} MB, some, for {USUAL_WORKERS} workers"
         )?;
-        match megabytes(self.bytes_in_parts) {
-            parts if parts < whole => writeln!(f, "  --parts   {parts:>10} MB, some"),
+        match megabytes(self.bytes_of_all) {
+            all if all > some => writeln!(f, "  --why     {all:>10} MB, some"),
             _ => Ok(()),
         }
     }

@@ -2,19 +2,20 @@
 
 ghost use Rattle.std.specs.Prelude.{◌≡◌, ◌<◌, ◌≤◌, IfErr, IfOk, OnOk, false, length, true};
 ghost use Rattle.bench_net.specs.Scan.{sources};
-ghost use Rattle.patterns.specs.Tests.{IsTestList};
-ghost use Rattle.block_sim.specs.Parts.{BelongTogether, with_tests};
+ghost use Rattle.patterns.specs.Tests.{IsTestList, max_pieces};
+ghost use Rattle.block_sim.specs.Parts.{BelongTogether, piece_count, with_tests};
 ghost use Rattle.workers.specs.Part.{ArePartVerdicts};
 ghost use Rattle.workers.specs.Refused.{ArePartsWithin, IsPartFault, IsPartsFault, IsPartWithin};
 ghost use Rattle.workers.specs.Verdict.{AreAfterHits, AreFirsts};
 ghost use Rattle.block_sim.specs.JobParts.{IsJobUnder};
-ghost use Rattle.job_loading.specs.Jobs.{AreTestsFor};
+ghost use Rattle.job_loading.specs.Jobs.{AreTestsFor, IsPiecesFault};
 
-use crate::texts::make_any_job_in_threads;
+use crate::fault::SimFault;
+use crate::texts::{job_for_in_threads, make_any_job_in_threads};
 use bench_net::Circuit;
-use block_sim::Job;
+use block_sim::{Job, JobFault};
 use fault_model::Model;
-use patterns::Tests;
+use patterns::{MAX_PIECES, Tests};
 use std::alloc::{AllocError, Global};
 use std::marker;
 use std::sync::Wait;
@@ -176,4 +177,45 @@ pub(crate) fn make_run_in_threads<R: Threads + Wait>(
     let none = Tests::new(alloc, tests.width());
     let job = make_any_job_in_threads(rt, alloc, model, circuit, none, workers)?;
     Ok(RunJob::apart(job, tests))
+}
+
+/// Makes the run as [`make_run_in_threads`] does, for at most [`MAX_PIECES`] pieces. It computes no
+/// fault-free words if there are more.
+pub(crate) fn make_limited_run_in_threads<R: Threads + Wait>(
+    rt: &R,
+    alloc: Global,
+    model: Model,
+    circuit: Circuit,
+    tests: Tests,
+    apart: bool,
+    workers: u32,
+) -> Result<RunJob, SimFault>
+    requires { AreTestsFor circuit tests }
+    ensures job { IfOk result (λ run. IsJobUnder model circuit tests run.parts) }
+    ensures few { IfOk result (λ run. piece_count run.parts ≤ max_pieces) }
+    ensures apart { IfOk result (λ run. run.apart ≡ true → apart ≡ true) }
+    ensures refused { IfErr result (IsPiecesFault model circuit tests) }
+{
+    let blocks = window_blocks(circuit.signals());
+    if !apart || tests.blocks() <= blocks {
+        let job = job_for_in_threads(rt, alloc, model, circuit, tests, workers)?;
+        return Ok(RunJob::whole(job));
+    }
+    let run = make_run_in_threads(rt, alloc, model, circuit, tests, apart, workers)?;
+    check_pieces(&run)?;
+    Ok(run)
+}
+
+/// Checks that a run has at most [`MAX_PIECES`] pieces.
+fn check_pieces(run: &RunJob) -> Result<(), JobFault>
+    ensures few { OnOk result (piece_count run.now.parts ≤ max_pieces) }
+    ensures refused { IfErr result (λ fault. (fault ≡ JobFault.TooManyPieces)
+        × (max_pieces < piece_count run.now.parts)) }
+{
+    let classes = run.job().classes().count();
+    let blocks = run.tests().blocks();
+    if u64::from(classes) * u64::from(blocks) > u64::from(MAX_PIECES) {
+        return Err(JobFault::TooManyPieces);
+    }
+    Ok(())
 }

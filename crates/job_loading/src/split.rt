@@ -9,7 +9,7 @@ ghost use Rattle.job_loading.specs.Splits.{HasSomePart, IsLeastSplit, IsSplitFau
 
 use crate::fault::SimFault;
 use crate::run_job::RunJob;
-use crate::texts::{job_of_any_size_in_threads, job_of_in_threads, run_of_any_size};
+use crate::texts::{job_of_any_size_in_threads, job_of_in_threads, run_of, run_of_any_size};
 use block_sim::Job;
 use fault_model::Model;
 use patterns::MAX_PIECES;
@@ -104,8 +104,7 @@ pub fn split_job_of<R: Threads + Wait>(
 /// Reads the job of a bench file and a test file under a model, for a run of all its classes.
 /// Returns it with the number of parts, as [`split_job_of`] does, with the same errors.
 ///
-/// If `apart` is set, its tests may stand apart, so that it runs window by window. A run as a whole
-/// ([`Split::Whole`]) is within the limit on pieces, so it has the words of all tests.
+/// If `apart` is set, its tests may stand apart, so that it runs window by window.
 pub fn split_run_of<R: Threads + Wait>(
     rt: &R,
     alloc: Global,
@@ -124,8 +123,9 @@ pub fn split_run_of<R: Threads + Wait>(
 {
     match split {
         Split::Whole => {
-            let (job, parts) = split_job_of(rt, alloc, model, bench, tests, split, workers)?;
-            Ok((RunJob::whole(job), parts))
+            let run = run_of(rt, alloc, model, bench, tests, apart, workers)?;
+            let parts = parts_for(run.job(), workers);
+            Ok((run, parts))
         }
         Split::Parts(count) => {
             let run = run_of_any_size(rt, alloc, model, bench, tests, apart, workers)?;

@@ -11,7 +11,7 @@ ghost use Rattle.job_loading.specs.Jobs.{AreTestsFor, IsInputFault, IsJobFault, 
 ghost use Rattle.job_loading.specs.Jobs.{IsGuessOf, IsPiecesFault, IsReadFault};
 
 use crate::fault::SimFault;
-use crate::run_job::{RunJob, make_run_in_threads};
+use crate::run_job::{RunJob, make_limited_run_in_threads, make_run_in_threads};
 use bench_net::{BenchFault, Circuit, read_bench, read_bench_in_threads};
 use block_sim::Job;
 use fault_model::{Model, collapse, list_faults_in};
@@ -116,6 +116,26 @@ pub fn run_of_any_size<R: Threads + Wait>(
     let (circuit, tests) = read_inputs_in_threads(rt, alloc, bench, tests, workers)?;
     let run = make_run_in_threads(rt, alloc, model, circuit, tests, apart, workers)?;
     Ok(run)
+}
+
+/// Reads the job as [`job_of_in_threads`] does, with the same errors, for a run. Its tests may stand
+/// apart if `apart` is set.
+pub fn run_of<R: Threads + Wait>(
+    rt: &R,
+    alloc: Global,
+    model: Model,
+    bench: &[u8],
+    tests: &[u8],
+    apart: bool,
+    workers: u32,
+) -> Result<RunJob, SimFault>
+    ensures job { IfOk result (λ run. IsJobOf model bench.now tests.now run.parts) }
+    ensures few { IfOk result (λ run. piece_count run.parts ≤ max_pieces) }
+    ensures apart { IfOk result (λ run. run.apart ≡ true → apart ≡ true) }
+    ensures refused { IfErr result (IsJobFault model bench.now tests.now) }
+{
+    let (circuit, tests) = read_inputs_in_threads(rt, alloc, bench, tests, workers)?;
+    make_limited_run_in_threads(rt, alloc, model, circuit, tests, apart, workers)
 }
 
 /// Makes the job of a circuit and of tests for it under a model, for any number of pieces.

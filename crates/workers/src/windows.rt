@@ -37,15 +37,19 @@ use std::thread::Threads;
 /// The most memory for the fault-free words of a window, in bytes: 256 MB.
 const MOST_BYTES: u32 = 1 << 28;
 
+/// The most groups of two blocks in a window. Words that stay in a cache of a core are read faster
+/// than those of more groups, and a run of 16,384 tests still has one window.
+const MOST_GROUPS: u32 = 160;
+
 /// Returns the number of blocks that a window goes on by, for this number of signals: as many as
-/// [`MOST_BYTES`] have words for, less the block before. It is odd, so that the blocks of a window
-/// with the block before are whole groups of two.
+/// [`MOST_BYTES`] have words for, and those of [`MOST_GROUPS`] at most, less the block before. It
+/// is odd, so that the blocks of a window with the block before are whole groups of two.
 pub fn window_blocks(signals: u32) -> u32
     ensures some { 0 < result }
     ensures few { result ≤ 2047 }
 {
     let groups = MOST_BYTES / 16 / signals.max(1);
-    2 * groups.clamp(1, 1024) - 1
+    2 * groups.clamp(1, MOST_GROUPS) - 1
 }
 
 /// The blocks of a window.

@@ -8,7 +8,7 @@ use Rattle.workers.specs.declared.parts.PartVerdict.TheVariants.{OtherPart}
 use Rattle.workers.specs.Part.{AreClassVerdicts}
 use Rattle.workers.specs.Verdict.{AreClassFirsts}
 use Rattle.workers.specs.Windows.{advanced}
-use Rattle.workers.specs.WindowLedgers.{AreFoundByLedger, AreOfWindows, HasRunWindow, goes_on}
+use Rattle.workers.specs.WindowLedgers.{AreFoundByLedger, HasRunWindow, goes_on}
 use Rattle.workers.specs.WindowLedgers.{open_classes}
 use Rattle.workers.proofs.WindowFirsts.{firsts_after, firsts_settled}
 use Rattle.workers.proofs.WindowFirsts.{left_few, left_of, left_within}
