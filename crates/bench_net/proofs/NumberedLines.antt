@@ -1,7 +1,8 @@
 -- The entries of lines, the numbering of lines, and the meaning of the passes over them for the
 -- file.
 use Rattle.std.proofs.Common.{◌≡◌, ◌<◌, ◌+◌, ◌==◌, ℕ, zero, suc, refl, sym, ap, List, [], ◌∷◌, ◌++◌}
-use Rattle.std.proofs.Common.{length, length-append, take, map, arith, get_or, ◌≤◌, ◌∙◌, append-nil, subst, ◌≢◌}
+use Rattle.std.proofs.Common.{length, length-append, take, map, arith, get_or, ◌≤◌, ◌∙◌, append-nil}
+use Rattle.std.proofs.Common.{subst, ◌≢◌}
 use Rattle.std.proofs.Common.{false, filter, inl, inr}
 use Rattle.std.specs.Prelude.{Option, Some, None, slice_get, flat_map, bytes_eq, ◌||◌, Contains}
 use Rattle.std.specs.Prelude.{AllPairs, option_map}

@@ -1,4 +1,5 @@
--- What a job is made of: the flat arrays of its circuit, and the lists of the classes of its faults.
+-- What a job is made of: the flat arrays of its circuit, and the lists of the classes of its
+-- faults.
 use Rattle.std.specs.Prelude.{◌≡◌, ◌<◌, All, List, length}
 use Rattle.bench_net.specs.Statement.{Statement}
 use Rattle.fault_model.specs.declared.Model.{Model}

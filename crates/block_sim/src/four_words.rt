@@ -1,7 +1,7 @@
 //! The fault-free words of all signals on four groups that follow each other, in one pass.
 //!
-//! A gate's row is read once for the four groups. The words of each pin stand side by side in a wide
-//! word, and the pins are folded there.
+//! A gate's row is read once for the four groups. The words of each pin stand side by side in a
+//! wide word, and the pins are folded there.
 
 ghost use Rattle.std.specs.Prelude.{◌≡◌, ℕ, ◌+◌, ◌*◌, ◌<◌, ◌≤◌, All, None, length, map, slice_get};
 ghost use Rattle.std.specs.List.{list_all};

@@ -118,8 +118,8 @@ pub fn run_of_any_size<R: Threads + Wait>(
     Ok(run)
 }
 
-/// Reads the job as [`job_of_in_threads`] does, with the same errors, for a run. Its tests may stand
-/// apart if `apart` is set.
+/// Reads the job as [`job_of_in_threads`] does, with the same errors, for a run. Its tests may
+/// stand apart if `apart` is set.
 pub fn run_of<R: Threads + Wait>(
     rt: &R,
     alloc: Global,

@@ -9,7 +9,8 @@ use Rattle.std.specs.Prelude.{count_by}
 use Rattle.std.specs.List.{slice_split, onto_first, enumerate_from, slice_range}
 use Rattle.std.specs.Str.Lines.{strip_carriage_return}
 use Rattle.std.proofs.lemmas.Bool.{cases_Bool, cases_lt}
-use Rattle.std.proofs.lemmas.List.{append-nil, append_assoc, drop_all, length-map, map-append, take_more}
+use Rattle.std.proofs.lemmas.List.{append-nil, append_assoc, drop_all, length-map, map-append}
+use Rattle.std.proofs.lemmas.List.{take_more}
 use Rattle.std.proofs.lemmas.List.{take-append-drop, get_or-take, length-take-le, drop-take}
 use Rattle.std.proofs.lemmas.List.{take-take, get_or-drop, length-drop}
 use Rattle.std.proofs.lemmas.List.Elements.{filter-append}
@@ -47,9 +48,9 @@ parts-append (x ∷ front) rest =
     ∙ sym (ap (λ parts. parts ++ more) (slice_split-cons_no ends_line x front goes_on)))
     (cases_Bool (ends_line x))
 
--- The lines of a front of a text that is cut at the begin of a line: the lines before the cut, which
--- are as many as their line feeds, and those of the piece behind it. Alone, the piece before the cut
--- has one line more, without a byte.
+-- The lines of a front of a text that is cut at the begin of a line: the lines before the cut,
+-- which are as many as their line feeds, and those of the piece behind it. Alone, the piece before
+-- the cut has one line more, without a byte.
 pub lines-cut : (text : List ℕ) (place end : ℕ) → place ≤ end → end ≤ length text
     → IsLineStart text place → place < length text
     → (before : List (List ℕ)) × (lines (take place text) ≡ before ++ [] ∷ [])

@@ -28,7 +28,8 @@ AreFoundByLedger job workers classes firsts ledger =
 
 -- A window ran the classes of a list that had no first test, on some tests of the job: a closed
 -- ledger of their stretches shows a legal and finished history, in which each report stands for
--- its stretch's first tests. A class then has the first test that it had, or else that of the window.
+-- its stretch's first tests. A class then has the first test that it had, or else that of the
+-- window.
 pub record HasRunWindow (job : Parts) (workers : ℕ) (classes : List ℕ)
     (before after : List (Option ℕ)) : Type 0 where
   pub window : Window

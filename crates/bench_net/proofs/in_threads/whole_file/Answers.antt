@@ -5,7 +5,8 @@ use Rattle.std.proofs.lemmas.List.Elements.{All-push}
 use Rattle.std.proofs.lemmas.Option.{slice_get-get_or}
 use Rattle.text_lines.specs.Lines.{lines}
 use Rattle.bench_net.specs.reader.Entries.{AreStated, entries_of, names_in, reads_in}
-use Rattle.bench_net.specs.reader.Stretches.{AreCounted, AreStatedBetween, HasStretch, IsCounted, joined}
+use Rattle.bench_net.specs.reader.Stretches.{AreCounted, AreStatedBetween, HasStretch, IsCounted}
+use Rattle.bench_net.specs.reader.Stretches.{joined}
 use Rattle.bench_net.proofs.StretchLines.{joined_push, names_grown, reads_grown, stated_more}
 use Rattle.bench_net.proofs.StretchLines.{stated_none}
 use Rattle.bench_net.proofs.in_threads.whole_file.Goals as goal

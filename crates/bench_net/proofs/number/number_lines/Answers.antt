@@ -4,7 +4,8 @@ use Rattle.std.proofs.lemmas.Result.{err_from_is_err_and}
 use Rattle.bench_net.specs.declared.BenchFault.TheVariants.{Undefined}
 use Rattle.bench_net.specs.reader.Parsed.{names_of}
 use Rattle.bench_net.specs.reader.Entries.{defined_of, names_in}
-use Rattle.bench_net.proofs.NumberedLines.{may_be, undefined, next_from, numbered_more, names_fit, from_fits}
+use Rattle.bench_net.proofs.NumberedLines.{may_be, undefined, next_from, numbered_more, names_fit}
+use Rattle.bench_net.proofs.NumberedLines.{from_fits}
 use Rattle.bench_net.proofs.NumberedLines.{names_more}
 use Rattle.bench_net.proofs.number.number_lines.Goals as goal
 

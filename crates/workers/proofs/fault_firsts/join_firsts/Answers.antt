@@ -3,7 +3,8 @@ use Rattle.std.proofs.Common.{suc, ℕ, List, Option, Vec, ◌++◌, length-appe
 use Rattle.std.specs.Vec.Iter.{into_iter_items, into_iter_len}
 use Rattle.workers.specs.FaultFirsts.{AreFirstsFrom, HasFirsts}
 use Rattle.workers.proofs.FaultFirsts.{firsts_append, firsts_whole}
-use Rattle.workers.proofs.fault_firsts.join_firsts.Goals.{then-start-len+in_ok-append, else-start-len}
+use Rattle.workers.proofs.fault_firsts.join_firsts.Goals.{then-start-len+in_ok-append}
+use Rattle.workers.proofs.fault_firsts.join_firsts.Goals.{else-start-len}
 use Rattle.workers.proofs.fault_firsts.join_firsts.Goals as goal
 
 pub loop-part-preserved : goal.loop-part-preserved

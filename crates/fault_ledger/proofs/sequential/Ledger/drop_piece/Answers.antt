@@ -1,4 +1,5 @@
-use Rattle.std.proofs.Common.{◌≡◌, ℕ, ◌%◌, ◌/◌, ◌<◌, List, Option, Some, None, Err, set, get_or, rules}
+use Rattle.std.proofs.Common.{◌≡◌, ℕ, ◌%◌, ◌/◌, ◌<◌, List, Option, Some, None, Err, set, get_or}
+use Rattle.std.proofs.Common.{rules}
 use Rattle.std.proofs.Common.{nat_lt, slice_get, sym, ◌∙◌, subst, ap, arith, lt-ltb, le-ltb}
 use Rattle.std.proofs.lemmas.Option.{slice_get_within}
 use Rattle.std.proofs.lemmas.Result.{err_from_is_err_and}

@@ -1,4 +1,5 @@
-use Rattle.std.proofs.Common.{◌≡◌, ℕ, ◌+◌, ◌/◌, ◌%◌, ◌<◌, ◌≤◌, Bool, true, false, slice_index_or, rules}
+use Rattle.std.proofs.Common.{◌≡◌, ℕ, ◌+◌, ◌/◌, ◌%◌, ◌<◌, ◌≤◌, Bool, true, false, slice_index_or}
+use Rattle.std.proofs.Common.{rules}
 use Rattle.std.proofs.Common.{refl, sym, ap, ◌∙◌, subst, arith}
 use Rattle.fault_ledger.specs.History.{ContinuesWithout, class_of, block_of, piece_at, entry}
 use Rattle.fault_ledger.specs.Answer.{is_hit}
