@@ -17,17 +17,14 @@ use Rattle.workers.specs.declared.parts.PartVerdict.{PartVerdict}
 use Rattle.workers.specs.declared.parts.PartVerdict.TheVariants.{First, OtherPart}
 use Rattle.workers.specs.Part.{AreClassVerdicts, IsClassVerdict}
 use Rattle.workers.specs.Verdict.{AreClassFirsts}
+use Rattle.workers.specs.WindowLedgers.{open_classes}
 use Rattle.workers.specs.Windows.{AreFirstsBelow, IsFirstBelow, IsWindowOf, advanced}
 use Rattle.workers.proofs.WindowTests.{first_after, first_of_all}
-
--- the classes that have no first test beside them
-abbrev pub left_of : List ℕ → List (Option ℕ) → List ℕ
-left_of classes firsts = map (λ at. at.0) (filter (λ at. is_none at.1) (zip classes firsts))
 
 -- a class with no first test is among them
 left_has : (classes : List ℕ) (firsts : List (Option ℕ)) (k class : ℕ)
     → slice_get classes k ≡ Some class → slice_get firsts k ≡ Some None
-    → (j : ℕ) × (slice_get (left_of classes firsts) j ≡ Some class)
+    → (j : ℕ) × (slice_get (open_classes classes firsts) j ≡ Some class)
 left_has [] firsts k class at none = absurd (let bad : None ≡ Some class = at in cc)
 left_has (x ∷ classes) [] k class at none =
     absurd (let bad : None ≡ Some None = none in cc)
@@ -42,7 +39,7 @@ left_has (x ∷ classes) (Some t ∷ firsts) (suc k) class at none =
 
 -- and each of them is a class of the list
 left_in : (classes : List ℕ) (firsts : List (Option ℕ)) (j class : ℕ)
-    → slice_get (left_of classes firsts) j ≡ Some class
+    → slice_get (open_classes classes firsts) j ≡ Some class
     → (k : ℕ) × (slice_get classes k ≡ Some class)
 left_in [] firsts j class at = absurd (let bad : None ≡ Some class = at in cc)
 left_in (x ∷ classes) [] j class at = absurd (let bad : None ≡ Some class = at in cc)
@@ -55,17 +52,17 @@ left_in (x ∷ classes) (Some t ∷ firsts) j class at =
     (suc k.0, k.1)
 
 pub left_few : (classes : List ℕ) (firsts : List (Option ℕ))
-    → length (left_of classes firsts) ≤ length classes
+    → length (open_classes classes firsts) ≤ length classes
 left_few [] firsts = omega arith
 left_few (x ∷ classes) [] = omega arith
 left_few (x ∷ classes) (None ∷ firsts) = omega (arith, left_few classes firsts)
 left_few (x ∷ classes) (Some t ∷ firsts) = omega (arith, left_few classes firsts)
 
 pub left_within : (n : ℕ) (classes : List ℕ) (firsts : List (Option ℕ))
-    → All (λ class. class < n) classes → All (λ class. class < n) (left_of classes firsts)
+    → All (λ class. class < n) classes → All (λ class. class < n) (open_classes classes firsts)
 left_within n classes firsts all j d lt =
-    let class = get_or (left_of classes firsts) j d in
-    let k = left_in classes firsts j class (slice_get-get_or (left_of classes firsts) j d lt) in
+    let class = get_or (open_classes classes firsts) j d in
+    let k = left_in classes firsts j class (slice_get-get_or (open_classes classes firsts) j d lt) in
     subst (λ c. c < n) (get_or_from_slice_get classes k.0 class d k.1)
     (all k.0 d (slice_get_within classes k.0 class k.1))
 
@@ -90,7 +87,7 @@ pub firsts_after : (m : Model) (c : List Statement) (tests window : List Test)
     (from first end h n : ℕ) (classes left : List ℕ) (firsts found next : List (Option ℕ))
     (table : List PartVerdict) → IsWindowOf tests from end window → from ≡ 2 * h
     → (from ≡ 0) ⊎ (from < first) → from ≤ first → first ≤ end → end < 4294967296
-    → AreFirstsBelow m c tests first classes firsts → left ≡ left_of classes firsts
+    → AreFirstsBelow m c tests first classes firsts → left ≡ open_classes classes firsts
     → All (λ class. class < n) classes → AreClassFirsts m c window left found
     → AreClassVerdicts n left found (length left) table
     → next ≡ map (λ at. advanced from at.1 (get_or table at.0 OtherPart)) (zip classes firsts)
@@ -142,7 +139,7 @@ firsts_after m c tests window from first end h n classes left firsts found next 
 -- with none left, nothing changes
 pub firsts_settled : (m : Model) (c : List Statement) (tests : List Test) (first end : ℕ)
     (classes : List ℕ) (firsts : List (Option ℕ)) → first ≤ end
-    → AreFirstsBelow m c tests first classes firsts → left_of classes firsts ≡ []
+    → AreFirstsBelow m c tests first classes firsts → open_classes classes firsts ≡ []
     → AreFirstsBelow m c tests end classes firsts
 firsts_settled m c tests first end classes firsts up known empty = record {
   count = known.count;

@@ -4,9 +4,9 @@
 //! has only those of some blocks at a time: it runs all classes on the blocks of the first window,
 //! then those that no test detects yet on the next, and so on.
 
-ghost use Rattle.std.specs.Prelude.{◌≡◌, ◌⊎◌, ◌<◌, ◌≤◌, ◌+◌, ◌*◌, All, IfErr, IfOk};
+ghost use Rattle.std.specs.Prelude.{◌≡◌, ◌⊎◌, ◌<◌, ◌≤◌, ◌+◌, ◌*◌, ◌^◌, All, IfErr, IfOk};
 ghost use Rattle.std.specs.Prelude.{[], List, OnOk, Option};
-ghost use Rattle.std.specs.Prelude.{⊤, ℕ, filter, is_none, length, map, min, slice_index_or, zip};
+ghost use Rattle.std.specs.Prelude.{⊤, ℕ, length, map, min, slice_index_or, zip};
 ghost use Rattle.bench_net.specs.Scan.{sources};
 ghost use Rattle.patterns.specs.Tests.{IsTestList, TestList, blocks};
 ghost use Rattle.block_sim.specs.Parts.{with_tests};
@@ -16,7 +16,7 @@ ghost use Rattle.workers.specs.Refused.{ArePartsWithin, IsPartFault, IsPartsFaul
 ghost use Rattle.workers.specs.Stops.{no_stop};
 ghost use Rattle.workers.specs.Verdict.{AreAfterHits, AreClassFirsts, AreFirsts};
 ghost use Rattle.workers.specs.WindowLedgers.{AreFoundByLedger, AreOfWindows};
-ghost use Rattle.workers.specs.WindowLedgers.{IsOfWindows, IsPartOfWindows};
+ghost use Rattle.workers.specs.WindowLedgers.{IsOfWindows, IsPartOfWindows, open_classes};
 ghost use Rattle.workers.specs.Windows.{AreFirstsBelow, AreWordsFrom, GoesOnFrom};
 ghost use Rattle.workers.specs.Windows.{IsWindowOf, advanced, moved};
 
@@ -37,8 +37,8 @@ use std::thread::Threads;
 /// The most memory for the fault-free words of a window, in bytes: 256 MB.
 const MOST_BYTES: u32 = 1 << 28;
 
-/// The most groups of two blocks in a window. Words that stay in a cache of a core are read faster
-/// than those of more groups, and a run of 16,384 tests still has one window.
+/// The most groups of two blocks in a window. A window reuses the pages of the one before it. A run
+/// of 16,384 tests has one window.
 const MOST_GROUPS: u32 = 160;
 
 /// Returns the number of blocks that a window goes on by, for this number of signals: as many as
@@ -46,7 +46,8 @@ const MOST_GROUPS: u32 = 160;
 /// is odd, so that the blocks of a window with the block before are whole groups of two.
 pub fn window_blocks(signals: u32) -> u32
     ensures some { 0 < result }
-    ensures few { result ≤ 2047 }
+    ensures few { result ≤ 319 }
+    ensures fit { (result ≡ 1) ⊎ (8 * signals * (result + 1) ≤ 2 ^ 28) }
 {
     let groups = MOST_BYTES / 16 / signals.max(1);
     2 * groups.clamp(1, MOST_GROUPS) - 1
@@ -124,8 +125,7 @@ pub fn without_first(
     classes: &[u32],
     firsts: &[Option<u32>],
 ) -> Result<Vec<u32>, AllocError>
-    ensures { IfOk result (λ left. left.items ≡ map (λ at. at.0)
-        (filter (λ at. is_none at.1) (zip classes.now firsts.now))) }
+    ensures { IfOk result (λ left. left.items ≡ open_classes classes.now firsts.now) }
 {
     classes
         .iter()
@@ -290,9 +290,9 @@ fn run_window<G: Gate + Sync, R: Threads + Wait>(
         (64 * window.first) classes.now firsts.items }
     ensures firsts { IfOk result (λ next. AreFirstsBelow job.old.list.model job.old.circuit
         tests.now.tests (64 * window.end) classes.now next.items) }
-    ensures ledgers { AreOfWindows (with_tests job.old tests.now) workers classes.now firsts.items
-        → IfOk result (λ next.
-        AreOfWindows (with_tests job.old tests.now) workers classes.now next.items) }
+    ensures ledgers { AreOfWindows (with_tests job.old tests.now) workers classes.now window.first
+        firsts.items → IfOk result (λ next. AreOfWindows (with_tests job.old tests.now) workers
+        classes.now window.end next.items) }
     ensures refused { IfErr result (λ fault.
         (fault ≡ RunFault.Memory) ⊎ (fault ≡ RunFault.Threads)) }
     ensures kept { (some : TestList) × (job.new ≡ with_tests job.old some) }
@@ -334,8 +334,9 @@ fn run_windows<G: Gate + Sync, R: Threads + Wait>(
     requires within { All (λ class. class < length job.old.classes.representative) classes.now }
     ensures firsts { IfOk result (λ firsts. AreClassFirsts job.old.list.model job.old.circuit
         tests.now.tests classes.now firsts.items) }
-    ensures ledgers { IfOk result (λ firsts.
-        AreOfWindows (with_tests job.old tests.now) workers classes.now firsts.items) }
+    ensures ledgers { IfOk result (λ firsts. AreOfWindows (with_tests job.old tests.now) workers
+        classes.now (blocks (length tests.now.tests)) firsts.items) }
+    ensures none { OnOk result (job.new.tests.tests ≡ []) }
     ensures refused { IfErr result (λ fault.
         (fault ≡ RunFault.Memory) ⊎ (fault ≡ RunFault.Threads)) }
     ensures kept { (some : TestList) × (job.new ≡ with_tests job.old some) }
@@ -357,7 +358,7 @@ fn run_windows<G: Gate + Sync, R: Threads + Wait>(
 /// number of blocks at a time ([`window_blocks`] suits), with the fault-free words of these and of
 /// the block before. The verdicts are those that [`crate::run_in_parts`] returns for a job with
 /// these tests. The job has none then, so that no fault-free words take memory. After an error it
-/// has its own or those of some window.
+/// has its own tests, those of some window, or none.
 ///
 /// The workers run the open classes of each window in a number of stretches that suits them. The
 /// limit on pieces is that of [`crate::run_in_parts`] for this number of parts.
@@ -388,6 +389,7 @@ pub fn run_in_windows<G: Gate + Sync, R: Threads + Wait>(
     ensures workers { OnOk result ((0 < workers) × (workers ≤ 64)) }
     ensures within { OnOk result (ArePartsWithin (with_tests job.old tests.now) parts) }
     ensures ledgers { IfOk result (IsOfWindows (with_tests job.old tests.now) workers) }
+    ensures none { OnOk result (job.new.tests.tests ≡ []) }
     ensures refused { IfErr result
         (IsPartsFault (with_tests job.old tests.now) parts workers ⊤ no_stop) }
     ensures kept { (some : TestList) × (job.new ≡ with_tests job.old some) }
@@ -442,6 +444,7 @@ pub fn run_part_in_windows<G: Gate + Sync, R: Threads + Wait>(
     ensures within { OnOk result (IsPartWithin (with_tests job.old tests.now) parts part) }
     ensures ledgers { IfOk result (λ verdicts. IsPartOfWindows (with_tests job.old tests.now) parts
         part workers verdicts.items) }
+    ensures none { OnOk result (job.new.tests.tests ≡ []) }
     ensures refused { IfErr result
         (IsPartFault (with_tests job.old tests.now) parts part workers ⊤ no_stop) }
     ensures kept { (some : TestList) × (job.new ≡ with_tests job.old some) }

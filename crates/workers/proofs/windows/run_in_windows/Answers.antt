@@ -2,6 +2,7 @@ use Rattle.std.proofs.Common.{◌≡◌, ◌<◌, ◌∙◌, All, List, ap, get_
 use Rattle.std.proofs.Common.{Some, sym}
 use Rattle.std.specs.Prelude.{slice_get}
 use Rattle.fault_model.specs.Collapse.{Collapsed}
+use Rattle.patterns.specs.Tests.{blocks}
 use Rattle.block_sim.specs.Parts.{Parts, with_tests}
 use Rattle.workers.specs.declared.parts.PartVerdict.{PartVerdict}
 use Rattle.workers.specs.declared.parts.PartVerdict.TheVariants.{OtherPart}
@@ -114,8 +115,8 @@ returns-clause-ledgers g c =
       classes = classes;
       are = all;
       firsts = firsts;
-      of = subst (λ l. AreOfWindows job c.args.workers l firsts) c.as_slice.ensures.value
-          c.in_ok-firsts.ensures.ledgers;
+      of = subst (λ l. AreOfWindows job c.args.workers l (blocks (length job.tests.tests)) firsts)
+          c.as_slice.ensures.value c.in_ok-firsts.ensures.ledgers;
       each = λ i class first at v. verdict_there job classes firsts c.in_ok-found.found.items table
           together all by is i class first at
           (subst (λ l. slice_get l i ≡ Some first) c.of.ensures.firsts v);

@@ -8,10 +8,10 @@ use Rattle.workers.specs.declared.parts.PartVerdict.TheVariants.{OtherPart}
 use Rattle.workers.specs.Part.{AreClassVerdicts}
 use Rattle.workers.specs.Verdict.{AreClassFirsts}
 use Rattle.workers.specs.Windows.{advanced}
-use Rattle.workers.specs.WindowLedgers.{AreFoundByLedger, HasRunWindow, goes_on}
-use Rattle.workers.specs.WindowLedgers.{open_classes}
+use Rattle.workers.specs.WindowLedgers.{AreFoundByLedger, HasRunWindow, goes_on, open_classes}
+use Rattle.workers.specs.WindowLedgers.{settled}
 use Rattle.workers.proofs.WindowFirsts.{firsts_after, firsts_settled}
-use Rattle.workers.proofs.WindowFirsts.{left_few, left_of, left_within}
+use Rattle.workers.proofs.WindowFirsts.{left_few, left_within}
 use Rattle.workers.proofs.WindowWords.{begins_before}
 use Rattle.workers.proofs.windows.run_window.Goals as goal
 
@@ -25,8 +25,8 @@ returns-then-is_empty-clause-firsts g c =
     let none : vec_len left ≡ 0 =
     eqb-true (vec_len left) 0 (sym c.is_empty.ensures ∙ c.if-is_empty.true) in
     let empty : left.items ≡ [] = nil_from_length left.items (omega (arith, none)) in
-    let is : left.items ≡ left_of c.args.classes.now c.args.firsts.items =
-    c.in_ok-left.ensures ∙ ap (λ l. left_of c.args.classes.now l) c.as_slice.ensures.value in
+    let is : left.items ≡ open_classes c.args.classes.now c.args.firsts.items =
+    c.in_ok-left.ensures ∙ ap (λ l. open_classes c.args.classes.now l) c.as_slice.ensures.value in
     firsts_settled job.list.model job.circuit c.args.tests.now.tests (64 * c.args.window.first)
     (64 * c.args.window.end) c.args.classes.now c.args.firsts.items
     (omega (arith, c.requires.window.some)) c.requires.firsts (sym is ∙ empty)
@@ -41,7 +41,7 @@ returns-in_err-take_window-clause-kept g c =
 pub run_classes_left-requires-clause-few : goal.run_classes_left-requires-clause-few
 run_classes_left-requires-clause-few g c κs within =
     let set = c.in_ok-take_window.ensures.kept in
-    let is : c.in_ok-left.left.items ≡ left_of c.args.classes.now c.as_slice.result.now =
+    let is : c.in_ok-left.left.items ≡ open_classes c.args.classes.now c.as_slice.result.now =
     c.in_ok-left.ensures in
     let few = left_few c.args.classes.now c.as_slice.result.now in
     omega (
@@ -56,7 +56,7 @@ pub run_classes_left-requires-clause-within : goal.run_classes_left-requires-cla
 run_classes_left-requires-clause-within g c κs within =
     let job = c.args.job.now in
     let set = c.in_ok-take_window.ensures.kept in
-    let is : c.in_ok-left.left.items ≡ left_of c.args.classes.now c.as_slice.result.now =
+    let is : c.in_ok-left.left.items ≡ open_classes c.args.classes.now c.as_slice.result.now =
     c.in_ok-left.ensures in
     subst (λ (j : Parts). All (λ class. class < length j.classes.representative)
     c.in_ok-left.left.items) (sym set)
@@ -75,8 +75,8 @@ returns-clause-firsts g c =
     let set = c.in_ok-take_window.ensures.kept in
     let table = c.in_ok-table.table.items in
     let found = c.in_ok-table.ensures.found in
-    let is : left ≡ left_of classes firsts =
-    c.in_ok-left.ensures ∙ ap (λ l. left_of classes l) c.as_slice.ensures.value in
+    let is : left ≡ open_classes classes firsts =
+    c.in_ok-left.ensures ∙ ap (λ l. open_classes classes l) c.as_slice.ensures.value in
     let begins = begins_before _ _ window c.requires.window in
     let are = subst (λ (j : Parts). AreClassFirsts j.list.model j.circuit j.tests.tests left
     found.0) set found.1 in
@@ -101,10 +101,18 @@ returns-clause-firsts g c =
     after (inr lt) = inr (omega (arith, lt))
 
 pub returns-then-is_empty-clause-ledgers : goal.returns-then-is_empty-clause-ledgers
-returns-then-is_empty-clause-ledgers g c = λ of. of
+returns-then-is_empty-clause-ledgers g c = λ of.
+    let left = c.in_ok-left.left in
+    let none : vec_len left ≡ 0 =
+    eqb-true (vec_len left) 0 (sym c.is_empty.ensures ∙ c.if-is_empty.true) in
+    let empty : left.items ≡ [] = nil_from_length left.items (omega (arith, none)) in
+    let is : left.items ≡ open_classes c.args.classes.now c.args.firsts.items =
+    c.in_ok-left.ensures ∙ ap (λ l. open_classes c.args.classes.now l) c.as_slice.ensures.value in
+    settled c.args.window.first c.args.window.end c.args.firsts.items of (sym is ∙ empty)
 
 pub returns-clause-ledgers : goal.returns-clause-ledgers
-returns-clause-ledgers g c = λ of. goes_on c.args.firsts.items c.in_ok-next.next.items of ran
+returns-clause-ledgers g c = λ of. goes_on c.args.window.first c.args.window c.args.firsts.items
+    c.in_ok-next.next.items c.requires.window of ran
   where
     job : Parts
     job = with_tests c.args.job.now c.args.tests.now
@@ -118,7 +126,7 @@ returns-clause-ledgers g c = λ of. goes_on c.args.firsts.items c.in_ok-next.nex
     is : c.in_ok-left.left.items ≡ open_classes classes firsts
     is = c.in_ok-left.ensures ∙ ap (λ l. open_classes classes l) c.as_slice.ensures.value
 
-    ran : HasRunWindow job c.args.workers classes firsts c.in_ok-next.next.items
+    ran : HasRunWindow job c.args.workers classes c.args.window firsts c.in_ok-next.next.items
     ran =
         let some = (c.take_window.new.job).tests in
         let set = c.in_ok-take_window.ensures.kept in
@@ -132,7 +140,6 @@ returns-clause-ledgers g c = λ of. goes_on c.args.firsts.items c.in_ok-next.nex
         ∙ ap (λ l. map (λ at. advanced (64 * window.from) at.1 (get_or table at.0 OtherPart))
         (zip classes l)) c.as_slice-2.ensures.value in
         record {
-          window = window;
           tests = some;
           are = c.in_ok-take_window.ensures.tests;
           firsts = found.0;

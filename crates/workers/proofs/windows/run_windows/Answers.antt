@@ -17,6 +17,7 @@ loop-number-init g c =
     let tests = c.args.tests.now.tests in
     let none : 64 * min (0 * c.min-step.result) c.blocks-blocks.result ≡ 0 =
     omega arith in
+    let zero_low : min (0 * c.min-step.result) c.blocks-blocks.result ≡ 0 = omega arith in
     record {
       kept = (job.tests, refl);
       firsts = subst (λ n. AreFirstsBelow job.list.model job.circuit tests n c.args.classes.now
@@ -24,7 +25,10 @@ loop-number-init g c =
           (firsts_begin job.list.model job.circuit tests c.args.classes.now
           c.in_ok-firsts.firsts.items (omega (arith, c.in_ok-firsts.ensures.count))
           c.in_ok-firsts.ensures.none);
-      ledgers = begins c.in_ok-firsts.firsts.items c.in_ok-firsts.ensures.none;
+      ledgers = subst (λ n. AreOfWindows (with_tests job c.args.tests.now) c.args.workers
+          c.args.classes.now n c.in_ok-firsts.firsts.items) (sym zero_low)
+          (begins c.in_ok-firsts.firsts.items (omega (arith, c.in_ok-firsts.ensures.count))
+          c.in_ok-firsts.ensures.none);
     }
 
 pub new-window-requires-clause-within : goal.new-window-requires-clause-within
@@ -83,6 +87,11 @@ loop-number-preserved g c =
     let next : number * step + step ≡ (number + 1) * step = omega arith in
     let end : c.new-window.result.end ≡ min ((number + 1) * step) c.blocks-blocks.result =
     c.new-window.ensures.end ∙ ap (λ n. min n c.blocks-blocks.result) next in
+    let below = step_within c.blocks-blocks.result step number
+    (some_step c.args.blocks_of_window step c.requires.window c.min-step.ensures)
+    (subst (λ n. number < n) c.div_ceil-number-end.ensures c.loop-number-test.true) in
+    let first = step_first c.blocks-blocks.result step number below
+    ∙ sym c.new-window.ensures.window.first_is in
     record {
       kept = (kept.0, kept.1 ∙ ap (λ j. with_tests j kept.0) was.kept.1);
       firsts = subst (λ n. AreFirstsBelow c.args.job.now.list.model c.args.job.now.circuit tests
@@ -90,11 +99,16 @@ loop-number-preserved g c =
           (subst (λ (j : Parts). AreFirstsBelow j.list.model j.circuit tests
           (64 * c.new-window.result.end) c.args.classes.now c.in_ok-firsts-2.firsts.items)
           was.kept.1 c.in_ok-firsts-2.ensures.firsts);
-      ledgers = subst (λ (j : Parts). AreOfWindows (with_tests j c.args.tests.now) c.args.workers
-          c.args.classes.now c.in_ok-firsts-2.firsts.items) was.kept.1
+      ledgers = subst (λ n. AreOfWindows (with_tests c.args.job.now c.args.tests.now)
+          c.args.workers c.args.classes.now n c.in_ok-firsts-2.firsts.items) end
+          (subst (λ (j : Parts). AreOfWindows (with_tests j c.args.tests.now) c.args.workers
+          c.args.classes.now c.new-window.result.end c.in_ok-firsts-2.firsts.items) was.kept.1
           (c.in_ok-firsts-2.ensures.ledgers
           (subst (λ (j : Parts). AreOfWindows (with_tests j c.args.tests.now) c.args.workers
-          c.args.classes.now c.loop-number.firsts.items) (sym was.kept.1) was.ledgers));
+          c.args.classes.now c.new-window.result.first c.loop-number.firsts.items)
+          (sym was.kept.1)
+          (subst (λ n. AreOfWindows (with_tests c.args.job.now c.args.tests.now) c.args.workers
+          c.args.classes.now n c.loop-number.firsts.items) first was.ledgers))));
     }
 
 pub returns-clause-firsts : goal.returns-clause-firsts
@@ -132,3 +146,16 @@ returns-clause-kept g c =
       c.in_ok-forget_tests.ensures.kept
           ∙ ap (λ j. with_tests j tests) c.loop-number.invariant.kept.1,
     )
+
+pub returns-clause-ledgers : goal.returns-clause-ledgers
+returns-clause-ledgers g c =
+    let all = step_all c.blocks-blocks.result c.min-step.result c.loop-number.number
+    (some_step c.args.blocks_of_window c.min-step.result
+    c.requires.window c.min-step.ensures) (omega (
+      arith,
+      c.loop-number-test.false,
+      c.div_ceil-number-end.ensures,
+    )) in
+    subst (λ n. AreOfWindows (with_tests c.args.job.now c.args.tests.now) c.args.workers
+    c.args.classes.now n c.loop-number.firsts.items) (all ∙ c.blocks-blocks.ensures)
+    c.loop-number.invariant.ledgers

@@ -10,5 +10,6 @@ invariant-loop-number g l = record {
   kept : (some : TestList) × (l.job ≡ with_tests l.fn.job some);
   firsts : AreFirstsBelow l.fn.job.list.model l.fn.job.circuit l.tests.tests
       (64 * min (l.number * l.step) l.blocks) l.classes l.firsts.items;
-  ledgers : AreOfWindows (with_tests l.fn.job l.tests) l.workers l.classes l.firsts.items;
+  ledgers : AreOfWindows (with_tests l.fn.job l.tests) l.workers l.classes
+      (min (l.number * l.step) l.blocks) l.firsts.items;
 }
