@@ -86,8 +86,8 @@ fn threads_for(signals: u32, groups: u32, workers: u32) -> u32 {
     u64::from(most).min(worth) as u32
 }
 
-/// Returns the words of the groups from one up to another, which is not included. Four groups at a
-/// time have one pass, and up to three at the end have one each.
+/// Returns the words of the groups from one up to another, which is not included. One pass computes
+/// four groups. Each of up to three groups at the end has a pass of its own.
 fn rows_between(
     alloc: Global,
     circuit: &FlatCircuit,

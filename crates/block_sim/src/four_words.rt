@@ -32,7 +32,7 @@ struct FourWords {
 }
 
 /// Returns the lanes in which the signals that a gate reads are all 1, each inverted if its form
-/// inverts inputs. The first and the last are read apart, as a gate of 128 lanes does.
+/// inverts inputs. It reads the first pin and the last apart from the others, as `folds_of` does.
 #[inline(always)]
 fn wide_all_of<C: Copies>(gate: FlatGate<'_>, copies: C) -> Wide
     requires some { 0 < length gate.pins.now }

@@ -636,7 +636,7 @@ fn flat_and_lists<R: Threads + Wait>(
 }
 
 /// Returns whether classes times blocks are more than [`patterns::MAX_PIECES`].
-fn has_too_many_pieces(classes: &Classes, tests: &Tests) -> bool
+pub fn has_too_many_pieces(classes: &Classes, tests: &Tests) -> bool
     ensures { IsTrue result ↔ (max_pieces
         < length classes.now.representative * blocks (length tests.now.tests)) }
 {

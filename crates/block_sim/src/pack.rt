@@ -105,7 +105,7 @@ fn pin_lanes<C: Copies>(copies: C, turn: bool, deltas: &WideOverlay, pin: u32) -
 }
 
 /// Returns the lanes in which the bits that a gate sees are all 1, each inverted if its form
-/// inverts inputs. The first and the last are read apart, as a gate of 128 lanes does.
+/// inverts inputs. It reads the first pin and the last apart from the others, as `folds_of` does.
 #[inline(always)]
 fn lanes_of_all<C: Copies>(gate: FlatGate<'_>, copies: C, deltas: &WideOverlay) -> Wide
     requires some { 0 < length gate.pins.now }

@@ -152,7 +152,7 @@ impl Counts {
     }
 
     /// Estimates the bytes of a run that has the words of all tests.
-    fn memory_of_all(&self, tests: u32, workers: u64) -> u64 {
+    fn memory_with_all_words(&self, tests: u32, workers: u64) -> u64 {
         self.memory(tests, groups_of(tests), workers)
     }
 
@@ -247,9 +247,9 @@ pub struct TestCounts {
     /// An estimate of the bytes of a run with four workers, which has the fault-free words of some
     /// tests at a time.
     pub bytes: u64,
-    /// The same for a run with the fault-free words of all tests: one that tells reasons or counts
-    /// detections, and a compaction.
-    pub bytes_of_all: u64,
+    /// The same for a run with the fault-free words of all tests: one that reports reasons or
+    /// detection counts, and a compaction.
+    pub bytes_with_all_words: u64,
 }
 
 /// Computes the size of a run of tests on a circuit with these counts.
@@ -262,7 +262,7 @@ pub fn count_tests(counts: &Counts, tests: &Tests) -> TestCounts
         blocks,
         pieces: u64::from(counts.classes).saturating_mul(u64::from(blocks)),
         bytes: counts.memory_in_windows(tests.count(), USUAL_WORKERS),
-        bytes_of_all: counts.memory_of_all(tests.count(), USUAL_WORKERS),
+        bytes_with_all_words: counts.memory_with_all_words(tests.count(), USUAL_WORKERS),
     }
 }
 
@@ -328,7 +328,7 @@ impl Display for TestCounts {
             f,
             "memory      {some:>10} MB, some, for {USUAL_WORKERS} workers"
         )?;
-        match megabytes(self.bytes_of_all) {
+        match megabytes(self.bytes_with_all_words) {
             all if all > some => writeln!(f, "  --why     {all:>10} MB, some"),
             _ => Ok(()),
         }

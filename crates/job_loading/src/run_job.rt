@@ -1,4 +1,4 @@
-//! Jobs that run window by window if the fault-free words of all tests take much memory.
+//! Jobs that run window by window if their tests have more blocks than a window.
 
 ghost use Rattle.std.specs.Prelude.{◌≡◌, ◌<◌, ◌≤◌, IfErr, IfOk, OnOk, false, length, true};
 ghost use Rattle.bench_net.specs.Scan.{sources};
@@ -13,9 +13,9 @@ ghost use Rattle.job_loading.specs.Jobs.{AreTestsFor, IsPiecesFault};
 use crate::fault::SimFault;
 use crate::texts::{job_for_in_threads, make_any_job_in_threads};
 use bench_net::Circuit;
-use block_sim::{Job, JobFault};
+use block_sim::{Job, JobFault, has_too_many_pieces};
 use fault_model::Model;
-use patterns::{MAX_PIECES, Tests};
+use patterns::Tests;
 use std::alloc::{AllocError, Global};
 use std::marker;
 use std::sync::Wait;
@@ -25,8 +25,8 @@ use workers::{
     run_part_in_windows, window_blocks,
 };
 
-/// A job to be run. If the fault-free words of all tests would take more memory than those of a
-/// window ([`workers::window_blocks`]), its tests may stand apart, and it runs window by window.
+/// A job to be run. If its tests have more blocks than a window ([`workers::window_blocks`]), they
+/// may stand apart, and it runs window by window.
 #[derive(Drop)]
 pub struct RunJob {
     /// The job, with no tests or those of a window if its own stand apart.
@@ -59,7 +59,8 @@ impl RunJob {
     pub fn apart(job: Job, tests: Tests) -> RunJob
         requires list { IsTestList tests }
         requires width { tests.width ≡ length (sources job.circuit) }
-        ensures { result.parts ≡ with_tests job tests }
+        ensures parts { result.parts ≡ with_tests job tests }
+        ensures apart { result.apart ≡ true }
     {
         RunJob {
             job,
@@ -153,6 +154,14 @@ impl RunJob {
     }
 }
 
+/// Returns whether the tests for a circuit stand apart from its job: if they may, and have more
+/// blocks than a window.
+fn stands_apart(circuit: &Circuit, tests: &Tests, apart: bool) -> bool
+    ensures { result ≡ true → apart ≡ true }
+{
+    apart && tests.blocks() > window_blocks(circuit.signals())
+}
+
 /// Makes the job of a circuit and of tests for it under a model, for any number of pieces, in at
 /// most as many threads as there are workers. Its tests stand apart if they may, and have more
 /// blocks than a window.
@@ -169,8 +178,7 @@ pub(crate) fn make_run_in_threads<R: Threads + Wait>(
     ensures job { IfOk result (λ run. IsJobUnder model circuit tests run.parts) }
     ensures apart { IfOk result (λ run. run.apart ≡ true → apart ≡ true) }
 {
-    let blocks = window_blocks(circuit.signals());
-    if !apart || tests.blocks() <= blocks {
+    if !stands_apart(&circuit, &tests, apart) {
         let job = make_any_job_in_threads(rt, alloc, model, circuit, tests, workers)?;
         return Ok(RunJob::whole(job));
     }
@@ -179,8 +187,8 @@ pub(crate) fn make_run_in_threads<R: Threads + Wait>(
     Ok(RunJob::apart(job, tests))
 }
 
-/// Makes the run as [`make_run_in_threads`] does, for at most [`MAX_PIECES`] pieces. It computes no
-/// fault-free words if there are more.
+/// Makes the run as [`make_run_in_threads`] does, for at most [`patterns::MAX_PIECES`] pieces. It
+/// computes no fault-free words if there are more.
 pub(crate) fn make_limited_run_in_threads<R: Threads + Wait>(
     rt: &R,
     alloc: Global,
@@ -196,26 +204,13 @@ pub(crate) fn make_limited_run_in_threads<R: Threads + Wait>(
     ensures apart { IfOk result (λ run. run.apart ≡ true → apart ≡ true) }
     ensures refused { IfErr result (IsPiecesFault model circuit tests) }
 {
-    let blocks = window_blocks(circuit.signals());
-    if !apart || tests.blocks() <= blocks {
+    if !stands_apart(&circuit, &tests, apart) {
         let job = job_for_in_threads(rt, alloc, model, circuit, tests, workers)?;
         return Ok(RunJob::whole(job));
     }
     let run = make_run_in_threads(rt, alloc, model, circuit, tests, apart, workers)?;
-    check_pieces(&run)?;
-    Ok(run)
-}
-
-/// Checks that a run has at most [`MAX_PIECES`] pieces.
-fn check_pieces(run: &RunJob) -> Result<(), JobFault>
-    ensures few { OnOk result (piece_count run.now.parts ≤ max_pieces) }
-    ensures refused { IfErr result (λ fault. (fault ≡ JobFault.TooManyPieces)
-        × (max_pieces < piece_count run.now.parts)) }
-{
-    let classes = run.job().classes().count();
-    let blocks = run.tests().blocks();
-    if u64::from(classes) * u64::from(blocks) > u64::from(MAX_PIECES) {
-        return Err(JobFault::TooManyPieces);
+    if has_too_many_pieces(run.job().classes(), run.tests()) {
+        return Err(SimFault::Job(JobFault::TooManyPieces));
     }
-    Ok(())
+    Ok(run)
 }

@@ -63,8 +63,8 @@ pub fn part_text_in<R: Threads + Wait, W: Out>(
 /// same bytes. It calls the gate when the run of the part begins and when it ends, and asks it
 /// before each piece of work. The gate decides whether there is a part file, but not its bytes.
 ///
-/// Under a gate that lets each piece pass it runs window by window if the fault-free words of all
-/// tests would take much memory, as [`report::simulate_text_watched`] does.
+/// Under a gate that lets each piece pass it runs window by window if the tests have more blocks
+/// than a window, as [`report::simulate_text_watched`] does.
 ///
 /// It fails as [`part_text_in`] does. If the gate stops workers and not all classes of the part are
 /// settled, it fails with [`workers::RunFault::Unfinished`].

@@ -20,8 +20,8 @@ use std::thread::Threads;
 /// writes, with the same bytes. It calls the gate when the run begins and when it ends, and asks it
 /// before each piece of work. The gate decides whether there is a report, but not its bytes.
 ///
-/// Under a gate that lets each piece pass it runs window by window if the fault-free words of all
-/// tests would take much memory ([`workers::window_blocks`]).
+/// Under a gate that lets each piece pass it runs window by window if the tests have more blocks
+/// than a window ([`workers::window_blocks`]).
 ///
 /// With [`Split::Parts`] it runs as [`crate::simulate_text_in_parts`] does, and with
 /// [`Split::Whole`] as [`crate::simulate_text_with`]. It fails as these do, and with

@@ -170,8 +170,8 @@ pub fn run_table_in<R: Threads + Wait, W: Out>(
 
 /// Writes the table that [`run_table_in`] writes, for each split of the run. It calls the gate when
 /// the run begins and when it ends, and asks it before each piece of work. Under a gate that lets
-/// each piece pass it runs window by window if the fault-free words of all tests would take much
-/// memory, as `report::simulate_text_watched` does.
+/// each piece pass it runs window by window if the tests have more blocks than a window, as
+/// `report::simulate_text_watched` does.
 ///
 /// It fails as `report::curve_text_watched` does.
 pub fn run_table_watched<R: Threads + Wait, G: Watch + Sync, W: Out>(

@@ -19,7 +19,7 @@ use Rattle.block_sim.specs.Parts.{BelongTogether, Parts}
 use Rattle.block_sim.specs.RegionHits.{IsFirstOn}
 use Rattle.block_sim.proofs.Public.{true_table}
 use Rattle.workers.specs.declared.stretch_run.Stop.{Stop}
-use Rattle.workers.specs.BlockSweeps.{AreAllAsked, AreDeadFrom, between, classes_of}
+use Rattle.workers.specs.BlockSweeps.{AreAllNotStopped, AreDeadFrom, between, classes_of}
 use Rattle.workers.specs.StretchRuns.{AreFoundUpTo, ArePassed, HasEnded, IsEarlier, IsUndetected}
 use Rattle.workers.specs.Stops.{Stops}
 use Rattle.workers.proofs.BlockSweeps.{row_listed, true_clear}
@@ -124,7 +124,7 @@ module _ (job : Parts) (b : BelongTogether job) (live dead : List ListedClass)
   whole_passed : (worker : ℕ) (S : Stops)
       → ArePassed job (classes_of live) worker S 0 (blocks (length job.tests.tests))
       → ((block : ℕ) → block < blocks (length job.tests.tests)
-      → AreAllAsked dead worker S block (length dead))
+      → AreAllNotStopped dead worker S block (length dead))
       → ArePassed job (classes_of (live ++ dead)) worker S 0 (blocks (length job.tests.tests))
   whole_passed worker S before asked = λ k class block at e still must.
       go k class block at e still must (cases_lt k (length live))
@@ -183,7 +183,7 @@ module _ (job : Parts) (b : BelongTogether job) (live dead : List ListedClass)
     pub has_ended : (worker : ℕ) (S : Stops) (stop : Option Stop) (found : List (Option ℕ))
         → stop ≡ None → HasEnded job (classes_of live) worker S stop found
         → ((block : ℕ) → block < blocks (length job.tests.tests)
-        → AreAllAsked dead worker S block (length dead))
+        → AreAllNotStopped dead worker S block (length dead))
         → HasEnded job (classes_of (live ++ dead)) worker S stop (found ++ rest)
     has_ended worker S stop found is ended asked =
         let own = subst (λ s. HasEnded job (classes_of live) worker S s found) is ended in

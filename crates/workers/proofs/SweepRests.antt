@@ -16,7 +16,7 @@ use Rattle.block_sim.specs.First.{IsTrueOutcome}
 use Rattle.block_sim.specs.Parts.{BelongTogether, Parts}
 use Rattle.block_sim.specs.OpenPlaces.{AreSettled}
 use Rattle.block_sim.proofs.Public.{true_table}
-use Rattle.workers.specs.BlockSweeps.{AreAsked, classes_of}
+use Rattle.workers.specs.BlockSweeps.{AreNotStopped, classes_of}
 use Rattle.workers.specs.Schedule.{IsTableOf}
 use Rattle.workers.specs.StretchRuns.{AreFoundUpTo, ArePassed, IsEarlier, IsUndetected}
 use Rattle.workers.specs.Stops.{Stops}
@@ -162,7 +162,7 @@ module _ (job : Parts) (b : BelongTogether job) (rows : List ListedClass) (worke
           (done_high 0 from k (omega arith)))))) still
 
   rest_asked : (k class block : ℕ) → slice_get (classes_of rows) k ≡ Some class → from ≤ block
-      → IsUndetected job class block → AreAsked rows firsts worker S block (length rows)
+      → IsUndetected job class block → AreNotStopped rows firsts worker S block (length rows)
       → S.must worker class block → ⊥
   rest_asked k class block at le still asked must = go (slice_get rows k) refl
     where
@@ -182,7 +182,7 @@ module _ (job : Parts) (b : BelongTogether job) (rows : List ListedClass) (worke
 
   pub rest_passed : ArePassed job (classes_of rows) worker S 0 from
       → ((block : ℕ) → from ≤ block → block ≤ last
-      → AreAsked rows firsts worker S block (length rows))
+      → AreNotStopped rows firsts worker S block (length rows))
       → ArePassed job (classes_of rows) worker S 0 (last + 1)
   rest_passed first asked = λ k class block at e still must.
       go k class block at e still must (cases_lt block from)

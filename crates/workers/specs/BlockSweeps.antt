@@ -57,13 +57,13 @@ HaveFirstsAfter job rows firsts sweep place hits = (k : ℕ) (row : ListedClass)
     → IsOpenAt rows firsts k row → HasFirst job (between (sweep.block + 1) sweep.last) row hits k
 
 -- the gate surely stops the worker on a block at none of the open classes before a place
-abbrev pub AreAsked : List ListedClass → List (Option ℕ) → ℕ → Stops → ℕ → ℕ → Type 0
-AreAsked rows firsts worker stops block place = (k : ℕ) (row : ListedClass) → k < place
+abbrev pub AreNotStopped : List ListedClass → List (Option ℕ) → ℕ → Stops → ℕ → ℕ → Type 0
+AreNotStopped rows firsts worker stops block place = (k : ℕ) (row : ListedClass) → k < place
     → IsOpenAt rows firsts k row → stops.must worker row.class block → ⊥
 
 -- and at none of all classes before a place
-abbrev pub AreAllAsked : List ListedClass → ℕ → Stops → ℕ → ℕ → Type 0
-AreAllAsked rows worker stops block place = (k : ℕ) (row : ListedClass) → k < place
+abbrev pub AreAllNotStopped : List ListedClass → ℕ → Stops → ℕ → ℕ → Type 0
+AreAllNotStopped rows worker stops block place = (k : ℕ) (row : ListedClass) → k < place
     → slice_get rows k ≡ Some row → stops.must worker row.class block → ⊥
 
 -- no test of any blocks detects the classes at the places from one on

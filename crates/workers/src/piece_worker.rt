@@ -45,8 +45,8 @@ pub trait Gate {
         ensures shut { (stops self.now).must worker class block → result ≡ false };
 
     /// Returns whether the gate is known to let every piece pass. Only then does a run go window by
-    /// window ([`crate::run_in_windows`]), and ask for several blocks of a class before it settles
-    /// them.
+    /// window ([`crate::run_in_windows`]), leave out dead classes, and settle several blocks of a
+    /// class in one pass. It still asks the gate for these pieces.
     fn lets_all_pass(&self) -> bool
         ensures { result ≡ true → passing self.now }
     {

@@ -14,7 +14,7 @@ ghost use Rattle.workers.specs.Schedule.{IsTableOf};
 ghost use Rattle.workers.specs.StretchRuns.{IsLowerOf, IsLowest, IsOpenIn, IsStopAt, IsUndetected};
 ghost use Rattle.block_sim.specs.OpenPlaces.{AreNextOpen};
 ghost use Rattle.workers.specs.BlockSweeps.{HaveFirstsFrom, HaveFirstsAfter, AreRowsOf};
-ghost use Rattle.workers.specs.BlockSweeps.{AreAllAsked, AreAsked, AreDeadFrom, IsBlockSweep};
+ghost use Rattle.workers.specs.BlockSweeps.{AreAllNotStopped, AreNotStopped, AreDeadFrom, IsBlockSweep};
 ghost use Rattle.workers.specs.BlockSweeps.{IsWhole, between, classes_of};
 
 use crate::open_classes::{leave_out, next_open};
@@ -54,7 +54,8 @@ pub(crate) fn rows_of(
     Ok(rows)
 }
 
-/// A sweep over the classes of a list on one block.
+/// A sweep over the classes of a list on one block. Its later blocks are those after the block, up
+/// to the last that is simulated with it.
 #[derive(Clone, Copy)]
 struct BlockSweep {
     block: u32,
@@ -138,7 +139,7 @@ fn live_end(job: &Job, rows: &[ListedClass]) -> usize
 fn ask_dead<G: Gate>(rows: &[ListedClass], worker: u32, blocks: u32, gate: &G)
     requires { G.passing gate.now }
     ensures { (block : ℕ) → block < blocks
-        → AreAllAsked rows.now worker (G.stops gate.now) block (length rows.now) }
+        → AreAllNotStopped rows.now worker (G.stops gate.now) block (length rows.now) }
 {
     for block in 0..blocks {
         ask_rows(rows, worker, block, gate);
@@ -149,7 +150,7 @@ fn ask_dead<G: Gate>(rows: &[ListedClass], worker: u32, blocks: u32, gate: &G)
 #[inline(always)]
 fn ask_rows<G: Gate>(rows: &[ListedClass], worker: u32, block: u32, gate: &G)
     requires { G.passing gate.now }
-    ensures { AreAllAsked rows.now worker (G.stops gate.now) block (length rows.now) }
+    ensures { AreAllNotStopped rows.now worker (G.stops gate.now) block (length rows.now) }
 {
     for row in rows {
         gate.pass(worker, row.class, block);
@@ -229,9 +230,8 @@ fn finish_sweep<G: Gate>(
     sweep.last + 1
 }
 
-/// Asks the gate, which lets every piece pass, for the open classes of a list on the blocks that
-/// were simulated with the block of a sweep, after that: one block after another, as a gate that
-/// draws the progress expects.
+/// Asks the gate, which lets every piece pass, for the open classes of a list on the later blocks
+/// of a sweep. It asks block after block, as a gate that draws the progress expects.
 fn ask_rest<G: Gate>(
     rows: &[ListedClass],
     worker: u32,
@@ -246,7 +246,7 @@ fn ask_rest<G: Gate>(
     requires firsts { length firsts.now ≡ length rows.now }
     requires next { AreNextOpen firsts.now next.now }
     ensures { (block : ℕ) → sweep.block < block → block ≤ sweep.last
-        → AreAsked rows.now firsts.now worker (G.stops gate.now) block (length rows.now) }
+        → AreNotStopped rows.now firsts.now worker (G.stops gate.now) block (length rows.now) }
 {
     for block in sweep.block + 1..sweep.last + 1 {
         ask_block(rows, worker, block, gate, next, firsts);
@@ -266,7 +266,7 @@ fn ask_block<G: Gate>(
     requires passing { G.passing gate.now }
     requires firsts { length firsts.now ≡ length rows.now }
     requires next { AreNextOpen firsts.now next.now }
-    ensures { AreAsked rows.now firsts.now worker (G.stops gate.now) block (length rows.now) }
+    ensures { AreNotStopped rows.now firsts.now worker (G.stops gate.now) block (length rows.now) }
 {
     let _firsts = firsts;
     let mut place = 0;
@@ -276,8 +276,8 @@ fn ask_block<G: Gate>(
     }
 }
 
-/// Keeps the first tests of the classes of a list on the blocks that were simulated with the block
-/// of a sweep, after that: one pass over the list for all of these blocks.
+/// Keeps the first tests of the classes of a list on the later blocks of a sweep, in one pass over
+/// the list.
 fn settle_rest(
     job: &Job,
     rows: &[ListedClass],
@@ -316,8 +316,8 @@ fn settle_rest(
     }
 }
 
-/// Returns the first test of a class on the blocks that were simulated with the block of a sweep,
-/// after that, if this is its first test there by the simulation.
+/// Returns the first test of a class on the later blocks of a sweep, if this is its first test there
+/// by the simulation.
 #[inline(always)]
 fn first_through(job: &Job, class: u32, sweep: BlockSweep, hit: Option<u32>) -> Option<u32>
     requires together { BelongTogether job.now }

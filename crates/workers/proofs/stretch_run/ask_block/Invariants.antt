@@ -1,11 +1,11 @@
 use Rattle.std.proofs.Common.{◌-◌, ◌≤◌, length}
-use Rattle.workers.specs.BlockSweeps.{AreAsked}
+use Rattle.workers.specs.BlockSweeps.{AreNotStopped}
 use Rattle.workers.proofs.stretch_run.ask_block.Given as goal
 
 abbrev pub invariant-loop-place : goal.invariant-loop-place
 invariant-loop-place g l = record {
   within : l.place ≤ length l.rows;
-  asked : AreAsked l.rows l.firsts l.worker (g.G.Gate.stops l.gate) l.block l.place;
+  asked : AreNotStopped l.rows l.firsts l.worker (g.G.Gate.stops l.gate) l.block l.place;
 }
 
 abbrev pub decreases-loop-place : goal.decreases-loop-place
