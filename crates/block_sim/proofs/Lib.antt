@@ -96,3 +96,5 @@ mod PackRanges
 mod PackKept
 mod PackBegins
 mod FourWords
+mod GroupLanes
+mod FlipsInLanes

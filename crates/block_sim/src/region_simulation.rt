@@ -496,7 +496,7 @@ pub fn next_open(next: &[usize], place: usize) -> usize
 
 /// Returns the circuit as the job's simulation reads it, with the words of a span's group and the
 /// lanes of its tests.
-fn view_of(job: &Job, span: BlockSpan) -> BlockView<'_>
+pub fn view_of(job: &Job, span: BlockSpan) -> BlockView<'_>
     requires { IsSpan (length job.now.tests.tests) span }
     ensures { IsViewOf job.now span result }
 {
