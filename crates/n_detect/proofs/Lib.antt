@@ -1,5 +1,9 @@
 mod RangeCounts
 mod ClassCounts
-mod Shares
 mod EachPushed
 mod ThreadPromises
+mod CountsBefore
+mod Tallies
+mod ShareCounts
+mod Orders
+mod RowsOf

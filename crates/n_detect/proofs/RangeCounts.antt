@@ -78,6 +78,15 @@ ones_lanes (suc k) w a p few same =
     let front = count_more p a k in
     omega (arith, step, rest, first, front)
 
+-- no fewer of more numbers have it
+pub no_fewer_of_more : (p : ℕ → Bool) (n m : ℕ) → n ≤ m
+    → count_by p (below n) ≤ count_by p (below m)
+no_fewer_of_more p n m le =
+    let parts : m ≡ n + (m - n) = omega (arith, le) in
+    let both = count_parts p 0 n (m - n) in
+    let whole = ap (λ k. count_by p (below k)) parts in
+    omega (arith, both, whole)
+
 module _ (c : List Statement) (tests : List Test) (f : Fault) (detects : ℕ → Bool)
     (decides : (t : ℕ) → Decides (detects t) (DetectsAt c tests f t)) where
   -- one block more
@@ -94,6 +103,21 @@ module _ (c : List Statement) (tests : List Test) (f : Fault) (detects : ℕ →
       ap (λ n. count_by detects (below n)) all ∙ count_parts detects 0 (64 * block) 64
       ∙ ap (λ a. count_by detects (below (64 * block)) + count_by detects (from_up a 64)) start
       ∙ ap (λ n. count_by detects (below (64 * block)) + n) (sym own)
+
+  -- one group more
+  pub one_group : (group word : ℕ) → word < 2 ^ 128
+      → ((k : ℕ) → k < 128 → Decides (lane word k) (DetectsAt c tests f (128 * group + k)))
+      → count_by detects (below (128 * (group + 1)))
+      ≡ count_by detects (below (128 * group)) + count_ones word
+  one_group group word few told =
+      let all : 128 * (group + 1) ≡ 128 * group + 128 = omega arith in
+      let start : 0 + 128 * group ≡ 128 * group = omega arith in
+      let own = ones_lanes 128 word (128 * group) detects few
+      (λ j lt. one_answer (lane word j) (detects (128 * group + j)) (told j lt)
+      (decides (128 * group + j))) in
+      ap (λ n. count_by detects (below n)) all ∙ count_parts detects 0 (128 * group) 128
+      ∙ ap (λ a. count_by detects (below (128 * group)) + count_by detects (from_up a 128)) start
+      ∙ ap (λ n. count_by detects (below (128 * group)) + n) (sym own)
 
   -- no test past the last detects
   past : (t : ℕ) → length tests ≤ t → detects t ≡ false

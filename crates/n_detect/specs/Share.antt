@@ -1,30 +1,89 @@
--- The classes of one thread.
-use Rattle.std.specs.Prelude.{◌≡◌, ◌<◌, ◌≤◌, ◌+◌, ◌*◌, ℕ, List, Some, length, slice_get}
+-- The classes of one worker.
+use Rattle.std.specs.Prelude.{◌≡◌, ◌⊎◌, ◌<◌, ◌≤◌, ◌*◌, ℕ, All, Bool, Contains, List, Some, count_by}
+use Rattle.std.specs.Prelude.{length, min, slice_get}
+use Rattle.std.specs.Bool.{Decides}
+use Rattle.fault_model.specs.Collapse.{representatives}
+use Rattle.fault_model.specs.Detection.{DetectsAt}
+use Rattle.fault_model.specs.Fault.{Fault}
+use Rattle.patterns.specs.Least.{below}
+use Rattle.block_sim.specs.declared.origin.ListedClass.{ListedClass}
+use Rattle.block_sim.specs.Origins.{IsListed}
 use Rattle.block_sim.specs.Parts.{HasRoom, Parts}
 use Rattle.n_detect.specs.Detections.{IsClassCount}
 use Rattle.n_detect.specs.declared.share.Share.{Share}
 
--- a share of a number of shares that begins with this class: it has a place for each of its classes
-pub record IsShareFor (job : Parts) (first shares : ℕ) (share : Share) : Type 0 where
-  pub first_is : share.first ≡ first
-  pub within : first < shares
-  pub places : length job.classes.representative ≤ length share.counts.items * shares
-  pub room : HasRoom share.workspace job
+-- the list has each class of a job, and no number that is no class
+pub record HasAllClasses (job : Parts) (classes : List ℕ) : Type 0 where
+  pub within : All (λ class. class < length job.classes.representative) classes
+  pub whole : (class : ℕ) → class < length job.classes.representative → Contains classes class
+  pub count : length classes ≡ length job.classes.representative
 
--- place k has the count of class first + k * shares, if there is such a class
-pub record HasCounted (job : Parts) (most first shares : ℕ) (counts : List ℕ) : Type 0 where
-  pub places : length job.classes.representative ≤ length counts * shares
-  pub each : (k n : ℕ) → first + k * shares < length job.classes.representative
-      → slice_get counts k ≡ Some n → IsClassCount job most (first + k * shares) n
+-- each class of a job has an owner, one of the workers
+pub record AreOwners (job : Parts) (workers : ℕ) (owners : List ℕ) : Type 0 where
+  pub count : length owners ≡ length job.classes.representative
+  pub within : All (λ owner. owner < workers) owners
+
+-- one of the rows is of the class
+abbrev pub IsOpen : List ListedClass → ℕ → Type 0
+IsOpen rows class = (place : ℕ) × (row : ListedClass) × (slice_get rows place ≡ Some row)
+    × (row.class ≡ class)
+
+-- the rows have each class of an owner
+abbrev pub HasRowsOf : Parts → List ℕ → ℕ → List ListedClass → Type 0
+HasRowsOf job owners owner rows = (class : ℕ) → class < length job.classes.representative
+    → slice_get owners class ≡ Some owner → IsOpen rows class
+
+-- of the first tests, as many as the number, this many detect the representative of a class,
+-- counted up to `most`
+abbrev pub IsCountBefore : Parts → ℕ → ℕ → ℕ → ℕ → Type 0
+IsCountBefore job most class tests count = (r : Fault) (detects : ℕ → Bool)
+    → slice_get (representatives job.list.model job.circuit) class ≡ Some r
+    → ((t : ℕ) → Decides (detects t) (DetectsAt job.circuit job.tests.tests r t))
+    → count ≡ min most (count_by detects (below tests))
+
+-- On the first tests the tally of each row is the count of its class, and each class of the owner
+-- has its count. A class without a row has the greatest count.
+pub record AreTallied (job : Parts) (owners : List ℕ) (owner most tests : ℕ)
+    (rows : List ListedClass) (tallies counts : List ℕ) : Type 0 where
+  pub listed : All (IsListed job) rows
+  pub many : length tallies ≡ length rows
+  pub places : length counts ≡ length job.classes.representative
+  pub tallied : (place n : ℕ) (row : ListedClass) → slice_get rows place ≡ Some row
+      → slice_get tallies place ≡ Some n → IsCountBefore job most row.class tests n
+  pub counted : (class n : ℕ) → class < length job.classes.representative
+      → slice_get owners class ≡ Some owner → slice_get counts class ≡ Some n
+      → IsCountBefore job most class tests n × (IsOpen rows class ⊎ (n ≡ most))
+
+-- a share of an owner, with no count yet
+pub record IsShareFor (job : Parts) (owners : List ℕ) (owner : ℕ) (share : Share) : Type 0 where
+  pub owner_is : share.owner ≡ owner
+  pub rows : All (IsListed job) share.rows.items
+  pub whole : HasRowsOf job owners owner share.rows.items
+  pub many : length share.tallies.items ≡ length share.rows.items
+  pub words : length share.rows.items ≤ length share.words.items
+  pub places : length share.counts.items ≡ length job.classes.representative
+  pub tallies : All (λ n. n ≡ 0) share.tallies.items
+  pub counts : All (λ n. n ≡ 0) share.counts.items
+  pub room : HasRoom share.detection job
+
+-- the counts of the classes of an owner, by the classes' numbers
+pub record HasCounted (job : Parts) (owners : List ℕ) (owner most : ℕ) (counts : List ℕ)
+    : Type 0 where
+  pub places : length counts ≡ length job.classes.representative
+  pub each : (class n : ℕ) → class < length job.classes.representative
+      → slice_get owners class ≡ Some owner → slice_get counts class ≡ Some n
+      → IsClassCount job most class n
 
 -- a share for each worker, in their order
-pub record AreShares (job : Parts) (workers : ℕ) (shares : List Share) : Type 0 where
+pub record AreShares (job : Parts) (owners : List ℕ) (workers : ℕ) (shares : List Share)
+    : Type 0 where
   pub count : length shares ≡ workers
   pub each : (i : ℕ) (share : Share) → slice_get shares i ≡ Some share
-      → IsShareFor job i workers share
+      → IsShareFor job owners i share
 
 -- the same if all have counted
-pub record HaveCounted (job : Parts) (most workers : ℕ) (shares : List Share) : Type 0 where
+pub record HaveCounted (job : Parts) (owners : List ℕ) (most workers : ℕ) (shares : List Share)
+    : Type 0 where
   pub count : length shares ≡ workers
   pub each : (i : ℕ) (share : Share) → slice_get shares i ≡ Some share
-      → HasCounted job most i workers share.counts.items
+      → HasCounted job owners i most share.counts.items

@@ -2,9 +2,10 @@
 
 ghost use Rattle.std.specs.Prelude.{◌≡◌, ◌<◌, ◌≤◌, ℕ, IfOk, Some, length, slice_get};
 ghost use Rattle.n_detect.specs.Detections.{AreCounts, IsClassCount};
-ghost use Rattle.n_detect.specs.Share.{AreShares, HaveCounted};
+ghost use Rattle.n_detect.specs.Share.{AreOwners, AreShares, HasAllClasses, HaveCounted};
 
 use crate::CountFault;
+use crate::order::{classes_by_region, owners_of};
 use crate::share::Share;
 use crate::threads::count_shares;
 use block_sim::Job;
@@ -17,7 +18,8 @@ use std::thread::Threads;
 ///
 /// A transition fault is counted at the capture test of each pair that detects it. The workers
 /// share the classes, each in a thread of its own; the counts are the same for every number of
-/// workers. It takes two numbers for each fault, and for each worker a workspace.
+/// workers. It takes a few numbers for each fault, and for each worker some for each signal and a
+/// number for each class.
 ///
 /// # Errors
 ///
@@ -34,19 +36,35 @@ pub fn detections<R: Threads + Wait>(
     ensures { IfOk result (λ counts. AreCounts job.now.list.model job.now.circuit
         job.now.tests.tests most counts.items) }
 {
-    let shares = shares_of(alloc, job, workers)?;
-    let counted = count_shares(rt, alloc, job, most, workers, shares)?;
-    Ok(by_fault(alloc, job, most, workers, counted.as_slice())?)
+    let classes = classes_by_region(alloc, job)?;
+    let owners = owners_of(alloc, job, classes.as_slice(), workers)?;
+    let shares = shares_of(alloc, job, classes.as_slice(), owners.as_slice(), workers)?;
+    let counted = count_shares(rt, alloc, job, &owners, most, workers, shares)?;
+    Ok(by_fault(
+        alloc,
+        job,
+        owners.as_slice(),
+        most,
+        workers,
+        counted.as_slice(),
+    )?)
 }
 
 /// Makes a share for each worker.
-fn shares_of(alloc: Global, job: &Job, workers: u32) -> Result<Vec<Share>, AllocError>
-    requires { 0 < workers }
-    ensures { IfOk result (λ shares. AreShares job.now workers shares.items) }
+fn shares_of(
+    alloc: Global,
+    job: &Job,
+    classes: &[u32],
+    owners: &[u32],
+    workers: u32,
+) -> Result<Vec<Share>, AllocError>
+    requires classes { HasAllClasses job.now classes.now }
+    requires owners { AreOwners job.now workers owners.now }
+    ensures { IfOk result (λ shares. AreShares job.now owners.now workers shares.items) }
 {
     let mut shares = Vec::with_capacity(alloc, workers as usize)?;
-    for first in 0..workers {
-        shares.push(Share::new(alloc, job, first, workers)?)?;
+    for owner in 0..workers {
+        shares.push(Share::new(alloc, job, classes, owners, owner)?)?;
     }
     Ok(shares)
 }
@@ -55,12 +73,13 @@ fn shares_of(alloc: Global, job: &Job, workers: u32) -> Result<Vec<Share>, Alloc
 fn by_fault(
     alloc: Global,
     job: &Job,
+    owners: &[u32],
     most: u32,
     workers: u32,
     shares: &[Share],
 ) -> Result<Vec<u32>, AllocError>
-    requires workers { 0 < workers }
-    requires counted { HaveCounted job.now most workers shares.now }
+    requires owners { AreOwners job.now workers owners.now }
+    requires counted { HaveCounted job.now owners.now most workers shares.now }
     ensures { IfOk result (λ counts. AreCounts job.now.list.model job.now.circuit
         job.now.tests.tests most counts.items) }
 {
@@ -68,18 +87,18 @@ fn by_fault(
     let mut counts = Vec::with_capacity(alloc, count as usize)?;
     for fault in 0..count {
         let class = job.classes().class_of(fault);
-        counts.push(count_in(job, most, workers, shares, class))?;
+        counts.push(count_in(job, owners, most, workers, shares, class))?;
     }
     Ok(counts)
 }
 
 /// Returns the count of a class.
-fn count_in(job: &Job, most: u32, workers: u32, shares: &[Share], class: u32) -> u32
-    requires workers { 0 < workers }
+fn count_in(job: &Job, owners: &[u32], most: u32, workers: u32, shares: &[Share], class: u32) -> u32
     requires class { class < length job.now.classes.representative }
-    requires counted { HaveCounted job.now most workers shares.now }
+    requires owners { AreOwners job.now workers owners.now }
+    requires counted { HaveCounted job.now owners.now most workers shares.now }
     ensures { IsClassCount job.now most class result }
 {
-    let share = &shares[(class % workers) as usize];
-    share.counts[(class / workers) as usize]
+    let share = &shares[owners[class as usize] as usize];
+    share.counts[class as usize]
 }

@@ -8,7 +8,9 @@
 
 mod class;
 mod faults;
+mod order;
 mod share;
+mod tally;
 mod threads;
 
 pub use class::class_detections;

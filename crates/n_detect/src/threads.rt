@@ -16,24 +16,25 @@ use std::thread::{Promise, Threads};
 #[derive(Drop)]
 struct Counter {
     job: Snapshot<Job>,
+    owners: Snapshot<Vec<u32>>,
+    owner: u32,
     most: u32,
-    first: u32,
-    shares: u32,
 }
 
 impl Promise<Share> for Counter {
     ghost use Rattle.n_detect.specs.Share.{HasCounted};
 
-    ghost kept_by = { λ p r. HasCounted p.job.value p.most p.first p.shares r.counts.items };
+    ghost kept_by = { λ p r. HasCounted p.job.value p.owners.value.items p.owner p.most
+        r.counts.items };
 }
 
 /// Does the work of one thread.
-fn serve(job: &Job, most: u32, shares: u32, share: Share) -> Share
-    requires { IsShareFor job.now share.first shares share }
-    ensures { HasCounted job.now most share.first shares result.counts.items }
+fn serve(job: &Job, owners: &Vec<u32>, most: u32, share: Share) -> Share
+    requires { IsShareFor job.now owners.now.items share.owner share }
+    ensures { HasCounted job.now owners.now.items share.owner most result.counts.items }
 {
     let mut share = share;
-    count_share(job, most, shares, &mut share);
+    count_share(job, owners.as_slice(), most, &mut share);
     share
 }
 
@@ -42,30 +43,32 @@ pub(crate) fn count_shares<R: Threads + Wait>(
     rt: &R,
     alloc: Global,
     job: &Job,
+    owners: &Vec<u32>,
     most: u32,
     workers: u32,
     shares: Vec<Share>,
 ) -> Result<Vec<Share>, CountFault>
-    requires { AreShares job.now workers shares.items }
-    ensures { IfOk result (λ back. HaveCounted job.now most workers back.items) }
+    requires { AreShares job.now owners.now.items workers shares.items }
+    ensures { IfOk result (λ back. HaveCounted job.now owners.now.items most workers back.items) }
 {
     thread::scope(
         thread::scope_env(),
         rt,
         |scope| -> Result<Vec<Share>, CountFault>
-            requires { AreShares job.now workers shares.items }
-            ensures { IfOk result (λ back. HaveCounted job.entry.now most workers back.items) }
+            requires { AreShares job.now owners.now.items workers shares.items }
+            ensures { IfOk result (λ back. HaveCounted job.entry.now owners.entry.now.items most
+                workers back.items) }
         {
-            let count = shares.len();
+            let count = workers as usize;
             let mut handles = Vec::with_capacity(alloc, count)?;
             for share in shares {
                 let counter = Counter {
                     job: Snapshot::of(job),
+                    owners: Snapshot::of(owners),
+                    owner: share.owner,
                     most,
-                    first: share.first,
-                    shares: workers,
                 };
-                let Ok(handle) = scope.spawn_with(counter, move || serve(job, most, workers, share))
+                let Ok(handle) = scope.spawn_with(counter, move || serve(job, owners, most, share))
                 else {
                     break;
                 };

@@ -1,59 +1,38 @@
-use Rattle.std.proofs.Common.{◌≡◌, ◌+◌, ◌*◌, ◌∙◌, ap, length, arith}
-use Rattle.std.proofs.lemmas.List.{length-set}
-use Rattle.fault_model.specs.Collapse.{Collapsed}
-use Rattle.n_detect.proofs.Shares.{none_left, one_more, past_last}
+use Rattle.std.proofs.Common.{◌≡◌, ◌≤◌, ◌*◌, ◌∙◌, ap, arith, eqb-true, length, sym, vec_len}
+use Rattle.patterns.specs.Tests.{TestList}
+use Rattle.n_detect.proofs.ShareCounts.{counted_early, counted_last, tallied_first}
 use Rattle.n_detect.proofs.share.count_share.Goals as goal
 
-pub loop-place-preserved : goal.loop-place-preserved
-loop-place-preserved c =
-    let before = c.loop-place.invariant in
-    let counts = c.loop-place.share.counts.items in
-    let number = ap (λ (x : Collapsed). length x.representative) c.classes.ensures.part in
-    let step : (c.loop-place.place + 1) * c.args.shares
-    ≡ c.loop-place.place * c.args.shares + c.args.shares =
-    omega arith in
-    record {
-      first = before.first;
-      places = length-set counts c.loop-place.place c.count_class-count.result ∙ before.places;
-      room = c.count_class-count.ensures.fits;
-      class_is = omega (
-        arith,
-        before.class_is,
-        c.saturating_add-class.ensures,
-        step,
-        c.if-class-count.false,
-        c.count.type_inv,
-      );
-      each =
-          one_more c.args.job.now c.args.most c.args.share.now.first c.args.shares
-          c.loop-place.class c.loop-place.place counts c.count_class-count.result
-          (omega (arith, c.if-class-count.false, c.count.ensures, number))
-          (omega (arith, c.count.type_inv, c.count.ensures, number))
-          (omega (arith, c.loop-place-test.true, before.places))
-          before.class_is before.each c.count_class-count.ensures.count;
-    }
+pub loop-group-init : goal.loop-group-init
+loop-group-init c = record {
+  room = c.requires.room;
+  words = c.requires.words;
+  owner = c.requires.owner_is;
+  tallied = tallied_first c.args.job.now c.args.owners.now c.args.share.now.owner c.args.most
+      c.args.share.now c.requires;
+}
 
-pub returns-after-loop-place-clause-counted : goal.returns-after-loop-place-clause-counted
-returns-after-loop-place-clause-counted c =
-    let before = c.loop-place.invariant in
-    let product = ap (λ n. n * c.args.shares) before.places in
-    none_left c.args.job.now c.args.most c.args.share.now.first c.args.shares c.loop-place.class
-    c.loop-place.place c.loop-place.share.counts.items
-    (omega (arith, product, c.requires.share.places)) (omega (
+pub returns-after-loop-group : goal.returns-after-loop-group
+returns-after-loop-group c =
+    let job = c.args.job.now in
+    let share = c.loop-group.share in
+    let number = ap (λ (t : TestList). length t.tests) c.tests.ensures.part in
+    counted_last job c.args.owners.now c.args.share.now.owner c.args.most
+    (128 * c.loop-group.group) share.rows.items share.tallies.items share.counts.items
+    c.tests.ensures.together c.loop-group.invariant.tallied
+    (omega (
       arith,
-      c.loop-place-test.false,
-      c.len-place-end.ensures,
-      c.args.share.now.counts.ok,
-      before.places,
-    )) before.each
+      c.loop-group-test.false,
+      c.div_ceil-group-end.ensures,
+      c.blocks-2.ensures,
+      number,
+    ))
 
-pub returns-then-class-count-clause-counted : goal.returns-then-class-count-clause-counted
-returns-then-class-count-clause-counted c =
-    let before = c.loop-place.invariant in
-    let number = ap (λ (x : Collapsed). length x.representative) c.classes.ensures.part in
-    let product = ap (λ n. n * c.args.shares) before.places in
-    past_last c.args.job.now c.args.most c.args.share.now.first c.args.shares c.loop-place.class
-    c.loop-place.place c.loop-place.share.counts.items
-    (omega (arith, product, c.requires.share.places))
-    (omega (arith, c.count.type_inv, c.count.ensures, number))
-    (omega (arith, c.if-class-count.true, c.count.ensures, number)) before.class_is before.each
+pub returns-then-is_empty : goal.returns-then-is_empty
+returns-then-is_empty c =
+    let share = c.loop-group.share in
+    let none : vec_len share.rows ≡ 0 =
+    eqb-true (vec_len share.rows) 0 (sym c.is_empty.ensures ∙ c.if-is_empty.true) in
+    counted_early c.args.job.now c.args.owners.now c.args.share.now.owner c.args.most
+    (128 * c.loop-group.group) share.rows.items share.tallies.items share.counts.items
+    c.tests.ensures.together c.loop-group.invariant.tallied (omega (arith, none, share.rows.ok))

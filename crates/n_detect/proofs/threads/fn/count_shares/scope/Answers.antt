@@ -21,9 +21,9 @@ loop-share-init g c =
           let own = c.requires.each k (get_or c.captures.shares.items k d)
           (slice_get-get_or c.captures.shares.items k d within) in
           let same = ap (λ l. get_or l k d) began.0 in
-          subst (λ x. IsShareFor c.captures.job.now (vec_len c.in_ok-handles.handles + k)
-          c.captures.workers x) (sym same)
-          (subst (λ m. IsShareFor c.captures.job.now m c.captures.workers
+          subst (λ x. IsShareFor c.captures.job.now c.captures.owners.now.items
+          (vec_len c.in_ok-handles.handles + k) x) (sym same)
+          (subst (λ m. IsShareFor c.captures.job.now c.captures.owners.now.items m
           (get_or c.captures.shares.items k d)) n own);
       each = λ k d lt. absurd (omega (arith, lt, none));
     }
@@ -41,31 +41,34 @@ loop-share-preserved g c =
     let by = c.push.ensures.by_index in
     let promised = c.in-Ok.ensures.ok in
     let job = c.captures.job.now in
+    let owners = c.captures.owners.now.items in
     let most = c.captures.most in
-    let workers = c.captures.workers in
-    let first : c.in-Some.share.first ≡ done =
-    ap (λ x. x.first) next ∙ (was.left 0 c.in-Some.share some).first_is ∙ omega arith in
+    let first : c.in-Some.share.owner ≡ done =
+    ap (λ x. x.owner) next ∙ (was.left 0 c.in-Some.share some).owner_is ∙ omega arith in
     record {
       sum = omega (arith, grown, was.sum, step.1);
       left = λ k d lt.
           let h = was.left (suc k) d (omega (arith, lt, step.1)) in
           let n : done + suc k ≡ vec_len c.push.new.self + k = omega (arith, grown) in
           let same = ap (λ l. get_or l (suc k) d) step.0 in
-          subst (λ x. IsShareFor job (vec_len c.push.new.self + k) workers x) same
-          (subst (λ m. IsShareFor job m workers
+          subst (λ x. IsShareFor job owners (vec_len c.push.new.self + k) x) same
+          (subst (λ m. IsShareFor job owners m
           (get_or (into_iter_items c.loop-share.share-iterator) (suc k) d)) n h);
       each = λ k d lt.
           below_more (λ i.
           let p = (get_or (vec_items c.push.new.self) i d).promise in
-          (p.job.value ≡ job) × (p.most ≡ most) × (p.first ≡ i) × (p.shares ≡ workers)) done
-          (λ i low. subst (λ x. (x.promise.job.value ≡ job) × (x.promise.most ≡ most)
-          × (x.promise.first ≡ i) × (x.promise.shares ≡ workers)) (sym (by.0 i d low))
+          (p.job.value ≡ job) × (p.owners.value.items ≡ owners) × (p.owner ≡ i)
+          × (p.most ≡ most)) done
+          (λ i low. subst (λ x. (x.promise.job.value ≡ job)
+          × (x.promise.owners.value.items ≡ owners)
+          × (x.promise.owner ≡ i) × (x.promise.most ≡ most)) (sym (by.0 i d low))
           (was.each i d low))
           (let at = by.1 d (search rules) in (
             ap (λ x. x.promise.job.value) at ∙ ap (λ p. p.job.value) promised ∙ c.of.ensures,
+            ap (λ x. x.promise.owners.value.items) at ∙ ap (λ p. p.owners.value.items) promised
+                ∙ ap (λ x. x.items) c.of-in-loop-share.ensures,
+            ap (λ x. x.promise.owner) at ∙ ap (λ p. p.owner) promised ∙ first,
             ap (λ x. x.promise.most) at ∙ ap (λ p. p.most) promised,
-            ap (λ x. x.promise.first) at ∙ ap (λ p. p.first) promised ∙ first,
-            ap (λ x. x.promise.shares) at ∙ ap (λ p. p.shares) promised,
           ))
           k (omega (arith, lt, grown));
     }
@@ -77,13 +80,13 @@ spawn_with-requires-clause-runs g c κs within =
     grind rules in
     let some : 0 < into_iter_len c.loop-share.share-iterator = grind rules in
     let h = c.loop-share.invariant.left 0 c.in-Some.share some in
-    let first = ap (λ x. x.first) next ∙ h.first_is in
-    let own : IsShareFor c.captures.job.now c.in-Some.share.first c.captures.workers
+    let first = ap (λ x. x.owner) next ∙ h.owner_is in
+    let own : IsShareFor c.captures.job.now c.captures.owners.now.items c.in-Some.share.owner
     c.in-Some.share =
-    subst (λ m. IsShareFor c.captures.job.now m c.captures.workers c.in-Some.share) (sym first)
-    (subst
-    (λ x. IsShareFor c.captures.job.now (vec_len c.loop-share.handles + 0) c.captures.workers x)
-    (sym next) h) in
+    subst (λ m. IsShareFor c.captures.job.now c.captures.owners.now.items m c.in-Some.share)
+    (sym first)
+    (subst (λ x. IsShareFor c.captures.job.now c.captures.owners.now.items
+    (vec_len c.loop-share.handles + 0) x) (sym next) h) in
     grind serving
 
 pub returns : goal.returns
@@ -101,7 +104,6 @@ returns g c =
         len,
         c.len.ensures,
         c.if-refused.false,
-        c.len-count.ensures,
         full,
         c.requires.count,
         sized,
@@ -112,13 +114,14 @@ returns g c =
           let low : w < vec_len c.loop-share.handles = omega (arith, lt, sized, len) in
           let k = (c.in_ok-back.ensures.each w share low).1 in
           let i = was.each w k.handle low in
-          counted_along k.handle.promise.job.value c.captures.job.now k.handle.promise.most
-          c.captures.most k.handle.promise.first w k.handle.promise.shares c.captures.workers
+          counted_along k.handle.promise.job.value c.captures.job.now
+          k.handle.promise.owners.value.items c.captures.owners.now.items k.handle.promise.owner w
+          k.handle.promise.most c.captures.most
           (get_or c.in_ok-back.back.items w share) share
           (ap (λ x. x.promise.job.value) k.handle_is ∙ i.0)
-          (ap (λ x. x.promise.most) k.handle_is ∙ i.1)
-          (ap (λ x. x.promise.first) k.handle_is ∙ i.2)
-          (ap (λ x. x.promise.shares) k.handle_is ∙ i.3)
+          (ap (λ x. x.promise.owners.value.items) k.handle_is ∙ i.1)
+          (ap (λ x. x.promise.owner) k.handle_is ∙ i.2)
+          (ap (λ x. x.promise.most) k.handle_is ∙ i.3)
           (get_or_from_slice_get c.in_ok-back.back.items w share share e)
           k.kept;
     }

@@ -9,12 +9,13 @@ abbrev pub invariant-loop-share : goal.invariant-loop-share
 invariant-loop-share g l =
     let done = vec_len l.handles in let rest = l.share-iterator in
     record {
-      sum : done + into_iter_len rest ≡ l.workers;
+      sum : done + into_iter_len rest ≡ l.count;
       left : (k : ℕ) (d : _) → k < into_iter_len rest
-          → IsShareFor l.job.now (done + k) l.workers (get_or (into_iter_items rest) k d);
+          → IsShareFor l.job.now l.owners.now.items (done + k)
+          (get_or (into_iter_items rest) k d);
       each : (k : ℕ) (d : _) → k < done
           → ((get_or (vec_items l.handles) k d).promise.job.value ≡ l.job.now)
-          × ((get_or (vec_items l.handles) k d).promise.most ≡ l.most)
-          × ((get_or (vec_items l.handles) k d).promise.first ≡ k)
-          × ((get_or (vec_items l.handles) k d).promise.shares ≡ l.workers);
+          × ((get_or (vec_items l.handles) k d).promise.owners.value.items ≡ l.owners.now.items)
+          × ((get_or (vec_items l.handles) k d).promise.owner ≡ k)
+          × ((get_or (vec_items l.handles) k d).promise.most ≡ l.most);
     }
