@@ -1,17 +1,15 @@
 -- The tallies of the rows of a worker, as one group of tests more is counted.
-use Rattle.std.proofs.Common.{◌≡◌, ◌≢◌, ◌⊎◌, ◌<◌, ◌≤◌, ◌+◌, ◌*◌, ◌^◌, ◌∙◌, ℕ, zero, suc, List, []}
-use Rattle.std.proofs.Common.{◌∷◌, length, set, take, min, inl, inr, sym, ap, subst, refl, arith}
-use Rattle.std.specs.Prelude.{All, None, Some, count_ones, slice_get, unwrap_or}
-use Rattle.std.proofs.lemmas.Bool.{cases_eq, cases_lt}
-use Rattle.std.proofs.lemmas.List.{length-set}
+use Rattle.std.proofs.Common.{◌≡◌, ◌≢◌, ◌⊎◌, ◌<◌, ◌≤◌, ◌+◌, ◌*◌, ◌∙◌, ℕ, zero, suc, List, []}
+use Rattle.std.proofs.Common.{◌∷◌, length, set, take, inl, inr, sym, ap, subst, refl, arith}
+use Rattle.std.specs.Prelude.{All, None, Some, slice_get, unwrap_or}
+use Rattle.std.proofs.lemmas.Bool.{cases_eq}
 use Rattle.std.proofs.lemmas.Option.{get_or_from_slice_get, slice_get_within}
 use Rattle.list_lemmas.proofs.Places.{within_place}
 use Rattle.block_sim.specs.declared.origin.ListedClass.{ListedClass}
-use Rattle.block_sim.specs.GroupLanes.{AreGroupLanes, HaveGroupLanes}
 use Rattle.block_sim.specs.Origins.{IsListed}
 use Rattle.block_sim.specs.Parts.{Parts}
 use Rattle.n_detect.specs.Share.{AreTallied, IsCountBefore, IsOpen}
-use Rattle.n_detect.proofs.CountsBefore.{count_group_more, greatest_stays}
+use Rattle.n_detect.proofs.CountsBefore.{greatest_stays}
 
 -- ---- a write to a list
 pub set_here : {X : Type 0} (xs : List X) (i : ℕ) (x : X) → i < length xs

@@ -1,5 +1,5 @@
 -- The classes of one worker.
-use Rattle.std.specs.Prelude.{◌≡◌, ◌⊎◌, ◌<◌, ◌≤◌, ◌*◌, ℕ, All, Bool, Contains, List, Some, count_by}
+use Rattle.std.specs.Prelude.{◌≡◌, ◌⊎◌, ◌<◌, ◌≤◌, ℕ, All, Bool, Contains, List, Some, count_by}
 use Rattle.std.specs.Prelude.{length, min, slice_get}
 use Rattle.std.specs.Bool.{Decides}
 use Rattle.fault_model.specs.Collapse.{representatives}

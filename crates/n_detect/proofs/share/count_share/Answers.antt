@@ -1,4 +1,4 @@
-use Rattle.std.proofs.Common.{◌≡◌, ◌≤◌, ◌*◌, ◌∙◌, ap, arith, eqb-true, length, sym, vec_len}
+use Rattle.std.proofs.Common.{◌≡◌, ◌*◌, ◌∙◌, ap, arith, eqb-true, length, sym, vec_len}
 use Rattle.patterns.specs.Tests.{TestList}
 use Rattle.n_detect.proofs.ShareCounts.{counted_early, counted_last, tallied_first}
 use Rattle.n_detect.proofs.share.count_share.Goals as goal

@@ -1,5 +1,5 @@
 use Rattle.std.proofs.Common.{rules, arith, below_more, ◌≡◌, ◌<◌, ◌+◌, get_or, vec_items, vec_len}
-use Rattle.std.proofs.Common.{sym, subst, ap, ◌∙◌, length, suc, Some}
+use Rattle.std.proofs.Common.{sym, subst, ap, ◌∙◌, length, suc}
 use Rattle.std.specs.Vec.Iter.{into_iter_items, into_iter_len}
 use Rattle.std.proofs.lemmas.Option.{get_or_from_slice_get, slice_get-get_or, slice_get_within}
 use Rattle.std.proofs.iter.Serving.{serving}
