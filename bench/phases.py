@@ -50,13 +50,13 @@ PHASES = {
     "rows": r"block_sim::(flat::FlatCircuit::new|flat::lists_of|flat::add_|signal_order|order_walk|live|signal_places|gate_form)",
     "fault-free words": r"block_sim::(words|job::fault_free_rows|job::rows_)",
     "classes of the job": r"block_sim::(region_classes|origin)::",
-    "cut": r"workers::(class_order|counting_sort|stretches)::",
-    "verdicts": r"workers::(parts|verdicts|fault_firsts|stretch_run::lowest)",
+    "cut": r"region_runs::(class_order|counting_sort|stretches)::",
+    "verdicts": r"region_runs::(parts|fault_firsts|stretch_run::lowest)|workers::verdicts",
     "report": r"report::|part_files::|byte_output::|itoa::",
 }
 BEGIN = "start"
 # The functions of a thread that simulates.
-SIMULATION = r"block_sim::(region_simulation|pack|unit_\w+|sensitized|known_\w+)::|workers::stretch_run::"
+SIMULATION = r"block_sim::(region_simulation|pack|unit_\w+|sensitized|known_\w+)::|region_runs::stretch_run::"
 # Threads read both files at the same time, so until the next phase each has the phase of its own functions.
 READING = ("read bench", "read tests")
 

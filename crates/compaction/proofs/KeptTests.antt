@@ -26,10 +26,10 @@ use Rattle.block_sim.specs.First.{IsFirst}
 use Rattle.block_sim.specs.Parts.{Parts, with_tests}
 use Rattle.workers.specs.declared.RunFault.{RunFault}
 use Rattle.workers.specs.declared.RunFault.TheVariants as run_fault
-use Rattle.workers.specs.Part.{stretch_size}
-use Rattle.workers.specs.Refused.{IsPartsFault}
 use Rattle.workers.specs.Stops.{no_stop}
 use Rattle.workers.specs.Verdict.{AreFirsts}
+use Rattle.region_runs.specs.Part.{stretch_size}
+use Rattle.region_runs.specs.Refused.{IsPartsFault}
 use Rattle.compaction.specs.Compaction.{AreEarly, Covers, IsFirstForSome, IsFirstOrBefore}
 use Rattle.compaction.specs.Compaction.{IsLastForSome, IsLastOrBefore, IsNeeded, IsNumbered}
 use Rattle.compaction.specs.Compaction.{PassesTwice, at_marks, finds, is_first, row_of}

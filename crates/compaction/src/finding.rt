@@ -4,14 +4,15 @@ ghost use Rattle.std.specs.Prelude.{◌≡◌, ℕ, ◌+◌, ◌<◌, ◌≤◌,
 ghost use Rattle.std.specs.Prelude.{length, slice_index_or};
 ghost use Rattle.compaction.specs.Compaction.{finds, is_first};
 ghost use Rattle.compaction.specs.Marks.{AreFinding};
-ghost use Rattle.workers.specs.Refused.{ArePartsWithin, IsPartsFault};
 ghost use Rattle.workers.specs.Stops.{no_stop};
+ghost use Rattle.region_runs.specs.Refused.{ArePartsWithin, IsPartsFault};
 
 use block_sim::Job;
+use region_runs::run_in_parts;
 use std::alloc::{AllocError, Global};
 use std::sync::Wait;
 use std::thread::Threads;
-use workers::{OpenGate, RunFault, Verdicts, run_in_parts};
+use workers::{OpenGate, RunFault, Verdicts};
 
 /// Returns for each test of a job whether it is the first to detect some fault. The run is one in
 /// `parts` parts.

@@ -7,8 +7,8 @@ ghost use Rattle.compaction.specs.Steepest.{IsOrdered, IsSteepestCompaction, at_
 ghost use Rattle.compaction.specs.Steepest.{with_launches};
 ghost use Rattle.fault_model.specs.declared.Model.TheVariants as model;
 ghost use Rattle.patterns.specs.Tests.{IsTestList};
-ghost use Rattle.workers.specs.Refused.{ArePartsWithin, IsPartsFault};
 ghost use Rattle.workers.specs.Stops.{no_stop};
+ghost use Rattle.region_runs.specs.Refused.{ArePartsWithin, IsPartsFault};
 
 use crate::detections::Detections;
 use crate::passes::compact_in_parts;

@@ -6,8 +6,9 @@ ghost use Rattle.compaction.specs.Compaction.{IsCompaction, IsNumbered};
 ghost use Rattle.compaction.specs.Marks.{AreLastOf, AreLastPairsOf};
 ghost use Rattle.patterns.specs.Tests.{IsTestList};
 ghost use Rattle.fault_model.specs.declared.Model.TheVariants as model;
-ghost use Rattle.workers.specs.Refused.{ArePartsWithin, IsPartsFault, IsRunFault};
+ghost use Rattle.workers.specs.Refused.{IsRunFault};
 ghost use Rattle.workers.specs.Stops.{no_stop};
+ghost use Rattle.region_runs.specs.Refused.{ArePartsWithin, IsPartsFault};
 
 use crate::Kept;
 use crate::finding::{finding_tests, mark_before};
@@ -16,10 +17,11 @@ use crate::rows::{all_numbers, kept_tests, reversed_tests};
 use block_sim::Job;
 use fault_model::Model;
 use patterns::Tests;
+use region_runs::parts_for;
 use std::alloc::{AllocError, Global};
 use std::sync::Wait;
 use std::thread::Threads;
-use workers::{RunFault, parts_for};
+use workers::RunFault;
 
 /// Compacts a job's tests: returns some of them, in order, which detect each fault that a test of
 /// the job detects.
@@ -32,7 +34,7 @@ use workers::{RunFault, parts_for};
 /// pairs are kept and left out whole.
 ///
 /// The job keeps its circuit, its faults and its classes. Its tests are others after the second
-/// pass. It fails as [`workers::run_open`] does.
+/// pass. It fails as [`region_runs::run_open`] does.
 pub fn compact<R: Threads + Wait>(
     rt: &R,
     alloc: Global,
@@ -63,7 +65,7 @@ pub fn compact<R: Threads + Wait>(
 /// Returns the tests that [`compact`] keeps, each with its number in the list. Each run is one in
 /// `parts` parts.
 ///
-/// It fails as [`workers::run_in_parts`] does.
+/// It fails as [`region_runs::run_in_parts`] does.
 pub fn compact_in_parts<R: Threads + Wait>(
     rt: &R,
     alloc: Global,

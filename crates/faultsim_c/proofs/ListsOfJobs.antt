@@ -3,7 +3,7 @@ use Rattle.std.proofs.Common.{◌≡◌, subst, sym}
 use Rattle.std.specs.Prelude.{Result, Ok, Err, IfErr, IfOk}
 use Rattle.patterns.specs.Tests.{TestList}
 use Rattle.block_sim.specs.Parts.{HasRoom, Parts, Room, with_tests}
-use Rattle.workers.specs.ListRunners.{Runner, ServesLists}
+use Rattle.region_runs.specs.ListRunners.{Runner, ServesLists}
 
 pub serves_with_tests : (runner : Runner) (job : Parts) (tests : TestList)
     → ServesLists runner job → ServesLists runner (with_tests job tests)

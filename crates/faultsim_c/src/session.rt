@@ -10,8 +10,8 @@ ghost use Rattle.block_sim.specs.Parts.{BelongTogether, with_tests};
 ghost use Rattle.fault_model.specs.Collapse.{IsClassOf};
 ghost use Rattle.fault_model.specs.Fault.{Fault};
 ghost use Rattle.n_detect.specs.Detections.{IsCount};
-ghost use Rattle.workers.specs.ListRunners.{ServesLists};
 ghost use Rattle.workers.specs.Verdict.{AreClassFirsts, AreFirsts};
+ghost use Rattle.region_runs.specs.ListRunners.{ServesLists};
 ghost use Rattle.faultsim_c.specs.Calls.{IsCircuitJob, IsJobOfTexts};
 ghost use Rattle.faultsim_c.specs.Statuses.{IsBenchReply, IsTestsReply, IsTextsReply, IsUntaken};
 ghost use Rattle.faultsim_c.specs.Statuses.{IsNextReply, IsWordsReply};
@@ -24,10 +24,11 @@ use block_sim::{Job, Workspace, detecting};
 use fault_model::{Model as FaultModel, collapse, list_faults_in};
 use n_detect::class_detections;
 use patterns::{Tests, read_tests};
+use region_runs::ListRunner;
 use std::alloc::{AllocError, Global};
 use std::marker::Model;
 use std::sync::Arc;
-use workers::{ListRunner, Verdicts};
+use workers::Verdicts;
 
 /// A job, which sessions of several threads share, and the session's own room to simulate it.
 #[derive(Drop)]
@@ -39,7 +40,7 @@ pub(crate) struct Session {
 
 impl Model for Session {
     ghost use Rattle.block_sim.specs.Parts.{HasRoom, Parts};
-    ghost use Rattle.workers.specs.ListRunners.{ServesLists};
+    ghost use Rattle.region_runs.specs.ListRunners.{ServesLists};
 
     ghost Value = { Parts };
 

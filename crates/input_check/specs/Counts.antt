@@ -9,7 +9,7 @@ use Rattle.fault_model.specs.Collapse.{Collapsed, AreClassesOf}
 use Rattle.fault_model.specs.Fault.{faults}
 use Rattle.patterns.specs.Tests.{TestList, blocks, max_pieces}
 use Rattle.block_sim.specs.Parts.{Parts, piece_count}
-use Rattle.workers.specs.Refused.{ArePartsWithin, HasLargePart}
+use Rattle.region_runs.specs.Refused.{ArePartsWithin, HasLargePart}
 use Rattle.input_check.specs.declared.summary.Counts.{Counts}
 use Rattle.input_check.specs.declared.summary.Excess.{Excess}
 use Rattle.input_check.specs.declared.summary.TestCounts.{TestCounts}

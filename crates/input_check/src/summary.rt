@@ -7,9 +7,9 @@ ghost use Rattle.input_check.specs.Counts.{AreCountsOf, AreLeastParts, AreTestCo
 use bench_net::{Circuit, Kind};
 use fault_model::{Model, collapse, list_faults_in};
 use patterns::{BLOCK_SIZE, MAX_PIECES, MAX_TESTS, Tests};
+use region_runs::window_blocks;
 use std::alloc::{AllocError, Global};
 use std::fmt::{self, Display, Formatter};
-use workers::window_blocks;
 
 /// The blocks of the most tests that a run takes.
 const MAX_BLOCKS: u32 = MAX_TESTS / BLOCK_SIZE;

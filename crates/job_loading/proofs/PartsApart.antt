@@ -4,8 +4,8 @@ use Rattle.std.specs.Prelude.{⊤}
 use Rattle.block_sim.specs.Parts.{Parts}
 use Rattle.workers.specs.declared.RunFault.{RunFault}
 use Rattle.workers.specs.declared.RunFault.TheVariants as run_fault
-use Rattle.workers.specs.Refused.{IsPartFault}
 use Rattle.workers.specs.Stops.{Stops, no_stop}
+use Rattle.region_runs.specs.Refused.{IsPartFault}
 
 -- they are errors under every gate, since the run isn't unfinished
 pub passed_part_fault : (job : Parts) (parts part workers : ℕ) (passing : Type 0) (stops : Stops)

@@ -3,8 +3,8 @@ use Rattle.std.specs.Prelude.{◌≡◌, ⊤, ℕ, ◌<◌, ◌≤◌, List}
 use Rattle.fault_model.specs.declared.Model.{Model}
 use Rattle.patterns.specs.Tests.{max_pieces}
 use Rattle.block_sim.specs.Parts.{Parts, piece_count}
-use Rattle.workers.specs.Part.{parts_for}
-use Rattle.workers.specs.Refused.{ArePartsWithin}
+use Rattle.region_runs.specs.Part.{parts_for}
+use Rattle.region_runs.specs.Refused.{ArePartsWithin}
 use Rattle.job_loading.specs.declared.fault.SimFault.{SimFault}
 use Rattle.job_loading.specs.declared.split.Split.{Split}
 use Rattle.job_loading.specs.declared.split.Split.TheVariants as split

@@ -4,9 +4,10 @@ ghost use Rattle.std.specs.Prelude.{◌≡◌, ◌<◌, ◌≤◌, IfErr, IfOk, 
 ghost use Rattle.bench_net.specs.Scan.{sources};
 ghost use Rattle.patterns.specs.Tests.{IsTestList, max_pieces};
 ghost use Rattle.block_sim.specs.Parts.{BelongTogether, piece_count, with_tests};
-ghost use Rattle.workers.specs.Part.{ArePartVerdicts};
-ghost use Rattle.workers.specs.Refused.{ArePartsWithin, IsPartFault, IsPartsFault, IsPartWithin};
 ghost use Rattle.workers.specs.Verdict.{AreAfterHits, AreFirsts};
+ghost use Rattle.region_runs.specs.Part.{ArePartVerdicts};
+ghost use Rattle.region_runs.specs.Refused.{ArePartsWithin, IsPartFault, IsPartsFault};
+ghost use Rattle.region_runs.specs.Refused.{IsPartWithin};
 ghost use Rattle.block_sim.specs.JobParts.{IsJobUnder};
 ghost use Rattle.job_loading.specs.Jobs.{AreTestsFor, IsPiecesFault};
 
@@ -16,17 +17,17 @@ use bench_net::Circuit;
 use block_sim::{Job, JobFault, has_too_many_pieces};
 use fault_model::Model;
 use patterns::Tests;
+use region_runs::{
+    PartVerdict, run_in_parts, run_in_windows, run_part, run_part_in_windows, window_blocks,
+};
 use std::alloc::{AllocError, Global};
 use std::marker;
 use std::sync::Wait;
 use std::thread::Threads;
-use workers::{
-    Gate, PartVerdict, RunFault, Verdicts, run_in_parts, run_in_windows, run_part,
-    run_part_in_windows, window_blocks,
-};
+use workers::{Gate, RunFault, Verdicts};
 
-/// A job to be run. If its tests have more blocks than a window ([`workers::window_blocks`]), they
-/// may stand apart, and it runs window by window.
+/// A job to be run. If its tests have more blocks than a window ([`region_runs::window_blocks`]),
+/// they may stand apart, and it runs window by window.
 #[derive(Drop)]
 pub struct RunJob {
     /// The job, with no tests or those of a window if its own stand apart.
@@ -90,8 +91,8 @@ impl RunJob {
     }
 
     /// Runs all classes in a number of parts, by workers in threads of their own, with the verdicts
-    /// and the errors of [`workers::run_in_parts`]. If the tests stand apart, it runs window by
-    /// window ([`workers::run_in_windows`]), under a gate that lets each piece pass.
+    /// and the errors of [`region_runs::run_in_parts`]. If the tests stand apart, it runs window by
+    /// window ([`region_runs::run_in_windows`]), under a gate that lets each piece pass.
     pub fn run<R: Threads + Wait, G: Gate + Sync>(
         &mut self,
         rt: &R,
@@ -122,8 +123,8 @@ impl RunJob {
     }
 
     /// Runs the classes of one part, counted from 0, of a number of parts, with the verdicts and
-    /// the errors of [`workers::run_part`]. If the tests stand apart, it runs window by window
-    /// ([`workers::run_part_in_windows`]), under a gate that lets each piece pass.
+    /// the errors of [`region_runs::run_part`]. If the tests stand apart, it runs window by window
+    /// ([`region_runs::run_part_in_windows`]), under a gate that lets each piece pass.
     pub fn run_part<R: Threads + Wait, G: Gate + Sync>(
         &mut self,
         rt: &R,

@@ -2,8 +2,8 @@
 
 ghost use Rattle.std.specs.Prelude.{◌≡◌, ℕ, ◌*◌, ◌<◌, ◌≤◌, IfErr, IfOk, true};
 ghost use Rattle.patterns.specs.Tests.{max_pieces};
-ghost use Rattle.workers.specs.Part.{stretch_size};
-ghost use Rattle.workers.specs.Refused.{ArePartsWithin};
+ghost use Rattle.region_runs.specs.Part.{stretch_size};
+ghost use Rattle.region_runs.specs.Refused.{ArePartsWithin};
 ghost use Rattle.job_loading.specs.Jobs.{IsJobOf};
 ghost use Rattle.job_loading.specs.Splits.{HasSomePart, IsLeastSplit, IsSplitFault, IsSplitOf};
 
@@ -13,10 +13,10 @@ use crate::texts::{job_of_any_size_in_threads, job_of_in_threads, run_of, run_of
 use block_sim::Job;
 use fault_model::Model;
 use patterns::MAX_PIECES;
+use region_runs::parts_for;
 use std::alloc::Global;
 use std::sync::Wait;
 use std::thread::Threads;
-use workers::parts_for;
 
 /// The number of parts into which a run splits the fault classes. The verdicts are the same for
 /// each.

@@ -1,16 +1,17 @@
 //! Runs under gates that observe the whole run.
 
 ghost use Rattle.std.specs.Prelude.{◌≡◌, ◌<◌, ◌≤◌, IfErr, IfOk, OnOk, true};
-ghost use Rattle.workers.specs.Refused.{ArePartsWithin, IsPartsFault};
 ghost use Rattle.workers.specs.Verdict.{AreAfterHits, AreFirsts};
+ghost use Rattle.region_runs.specs.Refused.{ArePartsWithin, IsPartsFault};
 
 use crate::run_job::RunJob;
 use block_sim::Job;
 use patterns::Tests;
+use region_runs::run_in_parts;
 use std::alloc::Global;
 use std::sync::Wait;
 use std::thread::Threads;
-use workers::{Gate, OpenGate, RunFault, Verdicts, run_in_parts};
+use workers::{Gate, OpenGate, RunFault, Verdicts};
 
 /// The number of undetected faults of a run for each reason (the reasons of the crate
 /// `undetected`).
@@ -52,8 +53,8 @@ impl Watch for OpenGate {
 }
 
 /// Runs a job in a number of parts, by workers in threads of their own, as
-/// [`workers::run_in_parts`] does and with the same verdicts and errors. It calls the gate when the
-/// run begins, when all is settled, and with the verdicts.
+/// [`region_runs::run_in_parts`] does and with the same verdicts and errors. It calls the gate when
+/// the run begins, when all is settled, and with the verdicts.
 pub fn run_watched<R: Threads + Wait, G: Watch + Sync>(
     rt: &R,
     alloc: Global,

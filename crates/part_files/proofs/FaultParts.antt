@@ -16,9 +16,9 @@ use Rattle.fault_model.specs.Laws.{HasClasses}
 use Rattle.block_sim.specs.Parts.{BelongTogether, Parts}
 use Rattle.block_sim.specs.Regions.{IsStemOfClass}
 use Rattle.block_sim.proofs.Public.{class_has_stem, one_class_stem}
-use Rattle.workers.specs.declared.parts.PartVerdict.{PartVerdict}
-use Rattle.workers.specs.declared.parts.PartVerdict.TheVariants.{First, OtherPart}
-use Rattle.workers.specs.Part.{ArePartVerdicts, IsPartVerdict}
+use Rattle.region_runs.specs.declared.parts.PartVerdict.{PartVerdict}
+use Rattle.region_runs.specs.declared.parts.PartVerdict.TheVariants.{First, OtherPart}
+use Rattle.region_runs.specs.Part.{ArePartVerdicts, IsPartVerdict}
 use Rattle.part_files.specs.Merging.{IsJoined}
 
 -- a fault belongs to a part: the part of the stem of its class

@@ -8,7 +8,7 @@ use Rattle.std.specs.Borrow.{Bor}
 use Rattle.std.proofs.lemmas.List.{ext_get_or, get_or-map, length-map}
 use Rattle.std.proofs.lemmas.Option.{slice_get_past}
 use Rattle.part_files.specs.PartReading.{texts_in}
-use Rattle.workers.specs.declared.parts.PartVerdict.{PartVerdict}
+use Rattle.region_runs.specs.declared.parts.PartVerdict.{PartVerdict}
 use Rattle.part_files.specs.Merging.{AreJoined, DifferAt, IsJoined}
 
 -- the verdicts before a place are joined, and the others are as they were

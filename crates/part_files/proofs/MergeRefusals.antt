@@ -18,8 +18,8 @@ use Rattle.fault_model.specs.declared.Model.{Model}
 use Rattle.fault_model.specs.Fault.{Fault, faults}
 use Rattle.fault_model.specs.Laws.{HasClasses}
 use Rattle.fault_model.proofs.Public.{faults_within}
-use Rattle.workers.specs.declared.parts.PartVerdict.{PartVerdict}
-use Rattle.workers.specs.declared.parts.PartVerdict.TheVariants.{First, OtherPart}
+use Rattle.region_runs.specs.declared.parts.PartVerdict.{PartVerdict}
+use Rattle.region_runs.specs.declared.parts.PartVerdict.TheVariants.{First, OtherPart}
 use Rattle.part_files.specs.declared.joining.MergeFault.{MergeFault}
 use Rattle.part_files.specs.declared.joining.MergeFault.TheVariants as fault
 use Rattle.part_files.specs.declared.part_reader.PartFault.{PartFault}

@@ -16,10 +16,10 @@ use Rattle.fault_model.specs.Solution.{Test}
 use Rattle.patterns.specs.Tests.{HasTests, TestList}
 use Rattle.block_sim.specs.First.{IsFirst}
 use Rattle.block_sim.specs.Parts.{Parts}
-use Rattle.workers.specs.declared.parts.PartVerdict.{PartVerdict}
-use Rattle.workers.specs.declared.parts.PartVerdict.TheVariants.{First, OtherPart}
-use Rattle.workers.specs.Part.{ArePartVerdicts}
 use Rattle.workers.specs.Verdict.{AreFirsts}
+use Rattle.region_runs.specs.declared.parts.PartVerdict.{PartVerdict}
+use Rattle.region_runs.specs.declared.parts.PartVerdict.TheVariants.{First, OtherPart}
+use Rattle.region_runs.specs.Part.{ArePartVerdicts}
 use Rattle.report.specs.declared.contents.Lines.{Lines}
 use Rattle.report.specs.declared.contents.Lines.TheVariants.{Omitted}
 use Rattle.job_loading.specs.Jobs.{IsJobOf}

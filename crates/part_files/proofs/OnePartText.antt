@@ -6,8 +6,8 @@ use Rattle.std.specs.Prelude.{codes, decimal, zip, flat_map, count_by, Some, Non
 use Rattle.std.specs.List.{AllByRecursion}
 use Rattle.std.proofs.lemmas.List.{append_cancel_left}
 use Rattle.std.proofs.lemmas.Bool.{cases_Bool, eq-eqb}
-use Rattle.workers.specs.declared.parts.PartVerdict.{PartVerdict}
-use Rattle.workers.specs.declared.parts.PartVerdict.TheVariants.{First, OtherPart}
+use Rattle.region_runs.specs.declared.parts.PartVerdict.{PartVerdict}
+use Rattle.region_runs.specs.declared.parts.PartVerdict.TheVariants.{First, OtherPart}
 use Rattle.part_files.specs.Cut.{Lacks}
 use Rattle.part_files.specs.PartText.{PartHead, end_line, head_line, is_found, is_own, verdict_line}
 use Rattle.part_files.specs.PartText.{verdict_text}

@@ -3,8 +3,8 @@ use Rattle.std.proofs.Common.{◌≡◌, ◌≢◌, ◌<◌, ◌+◌, ℕ, List,
 use Rattle.std.proofs.Common.{append_assoc, append-nil, arith, subst, lit<}
 use Rattle.std.specs.Prelude.{codes, decimal, Some, None}
 use Rattle.std.proofs.lemmas.List.{append_cancel_right}
-use Rattle.workers.specs.declared.parts.PartVerdict.{PartVerdict}
-use Rattle.workers.specs.declared.parts.PartVerdict.TheVariants.{First, OtherPart}
+use Rattle.region_runs.specs.declared.parts.PartVerdict.{PartVerdict}
+use Rattle.region_runs.specs.declared.parts.PartVerdict.TheVariants.{First, OtherPart}
 use Rattle.part_files.specs.Cut.{IsCutLast, Lacks}
 use Rattle.part_files.specs.PartText.{end_line, verdict_line, verdict_text}
 use Rattle.part_files.specs.PartReading.{IsLine, IsVerdict}

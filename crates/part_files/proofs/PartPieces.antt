@@ -5,7 +5,7 @@ use Rattle.std.specs.List.{flat_map}
 use Rattle.bench_net.specs.Statement.{Statement}
 use Rattle.fault_model.specs.declared.Model.{Model}
 use Rattle.fault_model.specs.Fault.{Fault, faults}
-use Rattle.workers.specs.declared.parts.PartVerdict.{PartVerdict}
+use Rattle.region_runs.specs.declared.parts.PartVerdict.{PartVerdict}
 use Rattle.report.specs.declared.contents.Lines.{Lines}
 use Rattle.report.specs.Report.{fault_text, report, wanted_line, wanted_name}
 use Rattle.part_files.specs.Merging.{report_text}

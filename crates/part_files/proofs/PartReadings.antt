@@ -5,7 +5,7 @@ use Rattle.std.proofs.Common.{arith, subst, length-append, inl, inr}
 use Rattle.std.specs.Prelude.{codes, zip, flat_map}
 use Rattle.std.specs.List.{AllByRecursion}
 use Rattle.std.proofs.lemmas.Grind.{flat_map-append}
-use Rattle.workers.specs.declared.parts.PartVerdict.{PartVerdict}
+use Rattle.region_runs.specs.declared.parts.PartVerdict.{PartVerdict}
 use Rattle.part_files.specs.Cut.{IsCutFirst, Lacks}
 use Rattle.part_files.specs.PartText.{PartHead, head_line, verdict_line}
 use Rattle.part_files.specs.PartReading.{HasMore, IsBadHead, IsBadLine, IsBegun, IsCutLines, IsHead}

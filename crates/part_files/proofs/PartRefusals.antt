@@ -5,7 +5,7 @@ use Rattle.std.specs.Prelude.{codes, decimal, zip, flat_map, count_by, Result, O
 use Rattle.std.specs.Prelude.{MatchResult}
 use Rattle.std.specs.List.{AllByRecursion}
 use Rattle.std.proofs.lemmas.List.{append_cancel_left}
-use Rattle.workers.specs.declared.parts.PartVerdict.{PartVerdict}
+use Rattle.region_runs.specs.declared.parts.PartVerdict.{PartVerdict}
 use Rattle.part_files.specs.declared.part_reader.PartText.{PartText as Read}
 use Rattle.part_files.specs.declared.part_reader.PartFault.{PartFault}
 use Rattle.part_files.specs.declared.part_reader.PartFault.TheVariants.{NotAPart, CutOff, Memory}

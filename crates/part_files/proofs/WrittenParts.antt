@@ -13,9 +13,9 @@ use Rattle.fault_model.specs.declared.Model.TheVariants.{StuckAt, Transition, Tr
 use Rattle.fault_model.specs.Fault.{Fault, faults}
 use Rattle.block_sim.specs.First.{IsFirst}
 use Rattle.block_sim.specs.Parts.{Parts}
-use Rattle.workers.specs.declared.parts.PartVerdict.{PartVerdict}
-use Rattle.workers.specs.declared.parts.PartVerdict.TheVariants.{First, OtherPart}
-use Rattle.workers.specs.Part.{ArePartVerdicts}
+use Rattle.region_runs.specs.declared.parts.PartVerdict.{PartVerdict}
+use Rattle.region_runs.specs.declared.parts.PartVerdict.TheVariants.{First, OtherPart}
+use Rattle.region_runs.specs.Part.{ArePartVerdicts}
 use Rattle.part_files.specs.Cut.{Lacks}
 use Rattle.job_loading.specs.Jobs.{IsJobOf}
 use Rattle.part_files.specs.PartText.{IsPartTextOf, part_text, head_of, rule_name}

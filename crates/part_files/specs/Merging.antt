@@ -2,9 +2,9 @@
 use Rattle.std.specs.Prelude.{◌≡◌, ◌≢◌, ◌⊎◌, ◌<◌, ◌≤◌, ◌^◌, ℕ, ◌+◌, List, [], ◌∷◌, ◌++◌, map}
 use Rattle.std.specs.Prelude.{length, slice_get, slice_index_or as get_or, zip, flat_map}
 use Rattle.std.specs.Prelude.{Contains, Option}
-use Rattle.workers.specs.declared.parts.PartVerdict.{PartVerdict}
-use Rattle.workers.specs.declared.parts.PartVerdict.TheVariants.{First, OtherPart}
 use Rattle.workers.specs.Verdict.{detected_count}
+use Rattle.region_runs.specs.declared.parts.PartVerdict.{PartVerdict}
+use Rattle.region_runs.specs.declared.parts.PartVerdict.TheVariants.{First, OtherPart}
 use Rattle.report.specs.declared.contents.Lines.{Lines}
 use Rattle.report.specs.Report.{coverage_line, wanted_name}
 use Rattle.part_files.specs.declared.merge.Merge.{Merge}

@@ -3,8 +3,8 @@ use Rattle.std.specs.Prelude.{◌≡◌, ◌≢◌, ◌⊎◌, ◌<◌, ◌^◌,
 use Rattle.std.specs.Prelude.{length, count_by, codes, Some, None}
 use Rattle.std.specs.List.{AllByRecursion}
 use denote.Ref.{Bor}
-use Rattle.workers.specs.declared.parts.PartVerdict.{PartVerdict}
-use Rattle.workers.specs.declared.parts.PartVerdict.TheVariants.{First, OtherPart}
+use Rattle.region_runs.specs.declared.parts.PartVerdict.{PartVerdict}
+use Rattle.region_runs.specs.declared.parts.PartVerdict.TheVariants.{First, OtherPart}
 use Rattle.part_files.specs.declared.part_reader.PartHeader.{PartHeader}
 use Rattle.part_files.specs.declared.part_reader.Words.{Words}
 use Rattle.part_files.specs.declared.part_reader.PartFault.{PartFault}

@@ -5,11 +5,11 @@ use Rattle.bench_net.specs.Statement.{Statement}
 use Rattle.fault_model.specs.declared.Model.{Model}
 use Rattle.fault_model.specs.Fault.{Fault, faults}
 use Rattle.block_sim.specs.Parts.{Parts}
-use Rattle.workers.specs.declared.parts.PartVerdict.{PartVerdict}
-use Rattle.workers.specs.declared.parts.PartVerdict.TheVariants.{First, OtherPart}
-use Rattle.workers.specs.Part.{ArePartVerdicts}
-use Rattle.workers.specs.Refused.{IsPartFault}
 use Rattle.workers.specs.Stops.{no_stop}
+use Rattle.region_runs.specs.declared.parts.PartVerdict.{PartVerdict}
+use Rattle.region_runs.specs.declared.parts.PartVerdict.TheVariants.{First, OtherPart}
+use Rattle.region_runs.specs.Part.{ArePartVerdicts}
+use Rattle.region_runs.specs.Refused.{IsPartFault}
 use Rattle.part_files.specs.declared.part_writer.Head.{Head}
 use Rattle.job_loading.specs.declared.fault.SimFault.{SimFault}
 use Rattle.job_loading.specs.Jobs.{IsJobOf}

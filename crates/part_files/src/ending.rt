@@ -4,7 +4,7 @@ ghost use Rattle.std.specs.Prelude.{◌≡◌, ◌<◌, ◌^◌, [], ◌∷◌, 
 ghost use Rattle.std.specs.Prelude.{MatchOption, OnOk, length, map, zip};
 ghost use Rattle.std.specs.List.{flat_map};
 ghost use Rattle.byte_output.specs.Output.{Writes};
-ghost use Rattle.workers.specs.declared.parts.PartVerdict.TheVariants.{First};
+ghost use Rattle.region_runs.specs.declared.parts.PartVerdict.TheVariants.{First};
 ghost use Rattle.report.specs.Report.{name_line, wanted_name};
 ghost use Rattle.part_files.specs.Merging.{HasParts, IsOpenRefusal, report_text, run_of};
 ghost use Rattle.part_files.specs.PartReading.{texts_in};
@@ -14,9 +14,9 @@ use crate::merged::Merged;
 use byte_output::{Out, OutFailed, put_all, put_pieces};
 use itoa::Buffer;
 use job_loading::ReportFault;
+use region_runs::PartVerdict;
 use report::{Lines, put_coverage};
 use std::alloc::{AllocError, Global};
-use workers::PartVerdict;
 
 /// Returns the lowest of this number of parts, counted from 0, that is missing.
 pub(crate) fn missing_part(seen: &[u32], parts: u32) -> Option<u32>

@@ -6,9 +6,9 @@ ghost use Rattle.part_files.specs.PartReading.{head_in, texts_in};
 ghost use Rattle.part_files.specs.Merging.{AreJoined, AreOfOneRun, DifferAt, HaveBoth, IsOtherRun};
 
 use crate::part_reader::{PartFault, PartHeader};
+use region_runs::PartVerdict;
 use std::alloc::AllocError;
 use thiserror::Error;
-use workers::PartVerdict;
 
 /// An error of merging part files.
 #[derive(Clone, Copy, Debug, PartialEq, Eq, Error)]

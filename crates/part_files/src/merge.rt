@@ -6,8 +6,8 @@ use crate::ending::{firsts_of, missing_part};
 use crate::joining::{MergeFault, add_part, check_names, check_new, check_run, join};
 use crate::merged::Merged;
 use crate::part_reader::{PartHeader, PartText, read_part};
+use region_runs::PartVerdict;
 use std::alloc::Global;
-use workers::PartVerdict;
 
 /// The joined content of some part files of a run.
 #[derive(Drop)]

@@ -3,7 +3,7 @@
 ghost use Rattle.std.specs.Prelude.{◌≡◌, ◌≢◌, ◌+◌, ◌-◌, ◌<◌, ◌^◌, ◌∷◌, ◌++◌, ℕ, List, [], OnOk};
 ghost use Rattle.std.specs.Prelude.{true, false, IfErr, IfOk, MatchOption, MatchResult, codes};
 ghost use Rattle.std.specs.Prelude.{decimal, length};
-ghost use Rattle.workers.specs.declared.parts.PartVerdict.{PartVerdict};
+ghost use Rattle.region_runs.specs.declared.parts.PartVerdict.{PartVerdict};
 ghost use Rattle.part_files.specs.Cut.{Lacks};
 ghost use Rattle.part_files.specs.PartText.{PartHead, head_line, verdict_line, verdict_text};
 ghost use Rattle.part_files.specs.PartReading.{AreWords, IsHead, IsLine, IsPart, IsPartRefusal};
@@ -14,10 +14,10 @@ ghost use Rattle.part_files.specs.PartReading.{head_in, texts_in, words_in, word
 use crate::cut::{cut_first, cut_last, is_joined, strip};
 use crate::part_writer::{count_found, count_own};
 use itoa::Buffer;
+use region_runs::PartVerdict;
 use std::alloc::{AllocError, Global};
 use std::str::from_utf8;
 use thiserror::Error;
-use workers::PartVerdict;
 
 /// The content of the first line of a part file. The part counts from 0; the rest are words.
 #[derive(Clone, Copy, Debug)]

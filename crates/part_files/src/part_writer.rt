@@ -6,7 +6,7 @@ ghost use Rattle.std.specs.List.{flat_map};
 ghost use Rattle.fault_model.specs.Fault.{faults};
 ghost use Rattle.block_sim.specs.Parts.{BelongTogether};
 ghost use Rattle.byte_output.specs.Output.{Writes};
-ghost use Rattle.workers.specs.Refused.{IsPartFault};
+ghost use Rattle.region_runs.specs.Refused.{IsPartFault};
 ghost use Rattle.report.specs.EndToEnd.{IsJobReportFault, IsTextFault, WritesOneOf};
 ghost use Rattle.part_files.specs.PartText.{IsPartReportFault, IsPartTextOf, IsPartTextOfJob};
 ghost use Rattle.part_files.specs.PartText.{end_line, head_line, is_found, is_own, job_part_text};
@@ -18,11 +18,12 @@ use byte_output::{Out, OutFailed, put_pieces};
 use fault_model::{Faults, Model};
 use itoa::Buffer;
 use job_loading::{ReportFault, RunJob, SimFault, Watch, run_of_any_size};
+use region_runs::{PartVerdict, part_of};
 use report::{first_text, model_name, put_fault_line, sum_of};
 use std::alloc::Global;
 use std::sync::Wait;
 use std::thread::Threads;
-use workers::{OpenGate, PartVerdict, part_of};
+use workers::OpenGate;
 
 /// The rule of parts, as a part file names it: by the stem of a class's region.
 const RULE: &str = "region";

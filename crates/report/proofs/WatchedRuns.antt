@@ -5,9 +5,9 @@ use Rattle.fault_model.specs.declared.Model.{Model}
 use Rattle.block_sim.specs.Parts.{Parts}
 use Rattle.workers.specs.declared.RunFault.{RunFault}
 use Rattle.workers.specs.declared.RunFault.TheVariants as run_fault
-use Rattle.workers.specs.Part.{parts_for}
-use Rattle.workers.specs.Refused.{ArePartsWithin, IsPartsFault}
 use Rattle.workers.specs.Stops.{Stops, no_stop}
+use Rattle.region_runs.specs.Part.{parts_for}
+use Rattle.region_runs.specs.Refused.{ArePartsWithin, IsPartsFault}
 use Rattle.job_loading.specs.declared.fault.SimFault.{SimFault}
 use Rattle.job_loading.specs.declared.fault.SimFault.TheVariants as fault
 use Rattle.job_loading.specs.declared.split.Split.{Split}
@@ -16,7 +16,7 @@ use Rattle.job_loading.specs.Jobs.{IsJobOf, IsJobWithin}
 use Rattle.job_loading.specs.Splits.{IsSplitFault, IsSplitOf}
 use Rattle.report.specs.EndToEnd.{IsFittingFault, IsJobReportFault, IsJobTextFault, IsReportFault}
 use Rattle.report.specs.EndToEnd.{IsTextFault, IsWatchedFault, IsWithin}
-use Rattle.workers.proofs.Public.{parts_fault}
+use Rattle.region_runs.proofs.Public.{parts_fault}
 use Rattle.report.proofs.ReportsOfTexts.{refused_as, text_fault}
 
 -- an error of a run of a job of the files that is run whole, so that the job is within the limit of

@@ -13,11 +13,12 @@ use Rattle.patterns.specs.Tests.{TestList, HasTests}
 use Rattle.block_sim.specs.Parts.{Parts, piece_count}
 use Rattle.workers.specs.declared.RunFault.TheVariants as run_fault
 use Rattle.workers.specs.declared.RunFault.{RunFault}
-use Rattle.workers.specs.Part.{parts_for}
-use Rattle.workers.specs.Refused.{ArePartsWithin, IsPartsFault, IsRunFault}
+use Rattle.workers.specs.Refused.{IsRunFault}
 use Rattle.workers.specs.Refused.{IsScheduleFault}
 use Rattle.workers.specs.Stops.{Stops, no_stop}
 use Rattle.workers.specs.Verdict.{AreFirsts}
+use Rattle.region_runs.specs.Part.{parts_for}
+use Rattle.region_runs.specs.Refused.{ArePartsWithin, IsPartsFault}
 use Rattle.job_loading.specs.declared.fault.SimFault.{SimFault}
 use Rattle.job_loading.specs.declared.fault.SimFault.TheVariants as fault
 use Rattle.job_loading.specs.declared.split.Split.{Split}

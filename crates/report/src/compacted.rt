@@ -10,8 +10,8 @@ ghost use Rattle.report.specs.Compacted.{GivesOneOf, IsCompactionOf, IsKeptText,
 ghost use Rattle.report.specs.Compacted.{kept_text, number_line};
 ghost use Rattle.report.specs.EndToEnd.{IsJobTextFault, IsListFault, IsReportFault, IsWatchedFault};
 ghost use Rattle.report.specs.EndToEnd.{IsWithin, WritesOneOf};
-ghost use Rattle.workers.specs.Refused.{ArePartsWithin, IsPartsFault};
 ghost use Rattle.workers.specs.Stops.{no_stop};
+ghost use Rattle.region_runs.specs.Refused.{ArePartsWithin, IsPartsFault};
 
 use crate::whole::put_text;
 use block_sim::Job;

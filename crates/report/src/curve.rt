@@ -10,7 +10,7 @@ ghost use Rattle.report.specs.Curve.{IsCurveOf, IsCurveOfJob, curve, curve_text}
 ghost use Rattle.report.specs.Curve.{counts_at, news_at, point_line};
 ghost use Rattle.report.specs.EndToEnd.{IsJobTextFault, IsReportFault, IsWatchedFault};
 ghost use Rattle.report.specs.EndToEnd.{IsWithin, WritesOneOf};
-ghost use Rattle.workers.specs.Refused.{ArePartsWithin, IsPartsFault};
+ghost use Rattle.region_runs.specs.Refused.{ArePartsWithin, IsPartsFault};
 
 use crate::report::{hundredths, put_coverage};
 use block_sim::Job;

@@ -97,7 +97,7 @@ pub fn simulate_text_with<R: Threads + Wait, W: Out>(
 
 /// Reads a circuit and tests for it, and writes the report as [`simulate_text_with`] does, with the
 /// same bytes. It runs the classes of the faults in this number of parts, each by one worker
-/// ([`workers::run_in_parts`]).
+/// ([`region_runs::run_in_parts`]).
 ///
 /// It fails as [`simulate_text_with`] does, except for the number of pieces. The whole has no
 /// limit: it fails with [`RunFault::TooManyPieces`] if one part has too many. Here it checks the

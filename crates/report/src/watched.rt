@@ -3,7 +3,7 @@
 ghost use Rattle.std.specs.Prelude.{◌≡◌, ◌<◌, ◌≤◌, IfErr, OnOk, true};
 ghost use Rattle.block_sim.specs.Parts.{BelongTogether};
 ghost use Rattle.job_loading.specs.Splits.{HasSomePart};
-ghost use Rattle.workers.specs.Refused.{ArePartsWithin, IsPartsFault};
+ghost use Rattle.region_runs.specs.Refused.{ArePartsWithin, IsPartsFault};
 ghost use Rattle.report.specs.EndToEnd.{IsJobReportFault, IsReportOf, IsReportOfJob};
 ghost use Rattle.report.specs.EndToEnd.{IsWatchedFault, IsWithin, WritesOneOf};
 
@@ -21,7 +21,7 @@ use std::thread::Threads;
 /// before each piece of work. The gate decides whether there is a report, but not its bytes.
 ///
 /// Under a gate that lets each piece pass it runs window by window if the tests have more blocks
-/// than a window ([`workers::window_blocks`]).
+/// than a window ([`region_runs::window_blocks`]).
 ///
 /// With [`Split::Parts`] it runs as [`crate::simulate_text_in_parts`] does, and with
 /// [`Split::Whole`] as [`crate::simulate_text_with`]. It fails as these do, and with

@@ -9,7 +9,7 @@ ghost use Rattle.tables.specs.CurveTables.{IsCurveTableOf, IsCurveTableOfJob, cs
 ghost use Rattle.tables.specs.CurveTables.{curve_table, json_point, point_row, points_csv};
 ghost use Rattle.tables.specs.CurveTables.{points_json};
 ghost use Rattle.tables.specs.Tables.{coverage_object};
-ghost use Rattle.workers.specs.Refused.{ArePartsWithin, IsPartsFault};
+ghost use Rattle.region_runs.specs.Refused.{ArePartsWithin, IsPartsFault};
 
 use crate::json_table::{add_pieces, hundredths, without_first};
 use crate::table::{Format, put_text};

@@ -7,7 +7,7 @@ ghost use Rattle.report.specs.EndToEnd.{IsJobTextFault, IsWatchedFault, IsWithin
 ghost use Rattle.tables.specs.Reasons.{IsReasonTableOf, IsReasonTableOfJob, reason_csv};
 ghost use Rattle.tables.specs.Reasons.{reason_json, reason_table};
 ghost use Rattle.tables.specs.Refusals.{IsTableFault};
-ghost use Rattle.workers.specs.Refused.{ArePartsWithin, IsPartsFault};
+ghost use Rattle.region_runs.specs.Refused.{ArePartsWithin, IsPartsFault};
 
 use crate::column::Column;
 use crate::json_table::put_json;

@@ -10,7 +10,7 @@ ghost use Rattle.report.specs.EndToEnd.{IsWatchedFault, IsWithin, WritesOneOf};
 ghost use Rattle.tables.specs.Refusals.{IsTableFault};
 ghost use Rattle.tables.specs.Tables.{IsClassTableOf, IsClassTableOfCircuit, IsFirstTableOf};
 ghost use Rattle.tables.specs.Tables.{IsFirstTableOfJob, IsTable, column_in, csv_table, json_table};
-ghost use Rattle.workers.specs.Refused.{ArePartsWithin, IsPartsFault};
+ghost use Rattle.region_runs.specs.Refused.{ArePartsWithin, IsPartsFault};
 
 use crate::column::Column;
 use crate::csv_table::csv_table;

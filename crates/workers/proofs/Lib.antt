@@ -6,26 +6,4 @@ mod SeatCalls
 mod TrueReports
 mod ThreadHandles
 mod ClosedLedgers
-mod PartsOfClasses
-mod SortedPlaces
-mod ClassOrders
-mod SumsInOrder
-mod FaultFirsts
-mod ListedRuns
-mod StretchRuns
-mod PassedPieces
-mod BlockSweeps
-mod OpenClasses
-mod SweepRests
-mod DeadClasses
-mod StretchSeats
-mod ClaimedStretches
-mod RunsOfParts
-mod ReturnsByPart
-mod SharedStretches
-mod WindowTests
-mod WindowWords
-mod WindowFirsts
-mod WindowSteps
-mod PartRefusals
 pub mod Public

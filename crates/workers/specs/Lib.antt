@@ -1,17 +1,7 @@
 pub mod ClassSelection
-pub mod Part
-pub mod SortedPlaces
-pub mod ClassOrder
-pub mod FaultFirsts
 pub mod Verdict
 pub mod Settling
 pub mod Schedule
 pub mod Stops
 pub mod Work
-pub mod StretchRuns
 pub mod Refused
-pub mod BlockSweeps
-pub mod Stretches
-pub mod ListRunners
-pub mod Windows
-pub mod WindowLedgers

@@ -12,10 +12,9 @@ ghost use Rattle.workers.specs.Refused.{IsRunFaultOver};
 ghost use Rattle.workers.specs.Settling.{AreSettled};
 ghost use Rattle.workers.specs.Verdict.{AreClassFirsts, settled_at};
 
-use crate::class_selection::ClassList;
+use crate::class_selection::{ClassList, count_in};
 use crate::piece_threads::run_over;
 use crate::piece_worker::Gate;
-use crate::stretches::count_in;
 use crate::{RunFault, check_pieces, check_workers};
 use block_sim::Job;
 use fault_ledger::{Closed, Status};

@@ -1,9 +1,10 @@
 //! The classes of a job that a run covers.
 
-ghost use Rattle.std.specs.Prelude.{◌≡◌, ◌<◌};
-ghost use Rattle.std.specs.Prelude.{slice_index_or};
+ghost use Rattle.std.specs.Prelude.{◌≡◌, ◌<◌, ◌≤◌, length, slice_index_or};
+ghost use Rattle.block_sim.specs.Parts.{BelongTogether};
 ghost use Rattle.workers.specs.ClassSelection.{every, first_listed};
 
+use block_sim::Job;
 use fault_model::Classes;
 
 /// Classes of a job, in the order in which the ledger of a run numbers them.
@@ -63,4 +64,16 @@ fn class_in(classes: &[u32], number: u32) -> u32
         Some(class) => *class,
         None => 0,
     }
+}
+
+/// Returns the number of classes of a list that has no more classes than the job.
+pub fn count_in(job: &Job, classes: &[u32]) -> u32
+    requires { length classes.now ≤ length job.now.classes.representative }
+    ensures count { result ≡ length classes.now }
+    ensures together { BelongTogether job.now }
+{
+    let most = job.classes().count();
+    let holds = classes.len() <= most as usize;
+    prove!(holds);
+    classes.len() as u32
 }

@@ -1,4 +1,4 @@
-//! Runs of a job by workers, and their verdicts.
+//! Runs of a job by workers, piece by piece, and their verdicts.
 //!
 //! Workers share one fault ledger. Each claims a piece of work, a fault class on a block of 64
 //! tests. It drops the piece if an earlier block of the class is known to detect it, else it
@@ -7,31 +7,19 @@
 //! depends neither on the workers' choices nor on their order.
 //!
 //! [`run_schedule`] is a run of one thread, which makes the moves of all workers in the caller's
-//! order. [`run`] has a thread for each worker, and [`work`] is the work of one. [`run_in_parts`]
-//! cuts the classes into parts, each of which one worker simulates by itself. A ledger hands out
-//! the parts. [`run_open`] does so with a number of parts that suits the workers. [`run_part`] runs
-//! the classes of one part of a run that several machines share.
+//! order. [`run`] has a thread for each worker, and [`work`] is the work of one. [`run_classes`]
+//! runs some classes. The crate `region_runs` runs regions of classes, each by one worker, with the
+//! same verdicts.
 #![tactic(auto)]
 
 mod claim_backoff;
 mod class_list_run;
-mod class_order;
 mod class_selection;
-mod counting_sort;
-mod fault_firsts;
-mod list_runner;
-mod open_classes;
-mod open_run;
-mod parts;
 mod piece_simulator;
 mod piece_threads;
 mod piece_worker;
 mod schedule;
-mod stretch_run;
-mod stretch_workers;
-mod stretches;
 mod verdicts;
-mod windows;
 
 ghost use Rattle.std.specs.Prelude.{◌≡◌, ◌<◌, ◌≤◌, ◌*◌, IfErr, OnOk, length};
 ghost use Rattle.patterns.specs.Tests.{blocks, max_pieces};
@@ -40,21 +28,15 @@ ghost use Rattle.workers.specs.Refused.{IsWorkersFault};
 
 use block_sim::Job;
 pub use class_list_run::run_classes;
+pub use class_selection::count_in;
 pub use fault_ledger::MAX_WORKERS;
-pub use list_runner::ListRunner;
-pub use open_run::run_open;
-pub use parts::{
-    LedgerRun, PartVerdict, in_one_part, part_of, run_in_parts, run_over_ledger, run_part,
-};
 use patterns::MAX_PIECES;
 pub use piece_threads::run;
 pub use piece_worker::{End, Gate, OpenGate, work};
 pub use schedule::run_schedule;
 use std::alloc::{AllocError, AllocFailed};
-pub use stretches::parts_for;
 use thiserror::Error;
 pub use verdicts::Verdicts;
-pub use windows::{run_in_windows, run_part_in_windows, window_blocks, without_first};
 
 /// An error of a run.
 #[derive(Clone, Copy, Debug, PartialEq, Eq, Error)]
@@ -105,8 +87,12 @@ impl<T: Drop> From<AllocFailed<T>> for RunFault {
     }
 }
 
-/// Checks that the number of workers is in range.
-pub(crate) fn check_workers(workers: u32) -> Result<(), RunFault>
+/// Checks that the number of workers is in range, from 1 to [`MAX_WORKERS`].
+///
+/// # Errors
+///
+/// [`RunFault::NoWorkers`] or [`RunFault::TooManyWorkers`].
+pub fn check_workers(workers: u32) -> Result<(), RunFault>
     ensures in_range { OnOk result ((0 < workers) × (workers ≤ 64)) }
     ensures refused { IfErr result (IsWorkersFault workers) }
 {
@@ -118,7 +104,11 @@ pub(crate) fn check_workers(workers: u32) -> Result<(), RunFault>
 }
 
 /// Checks that this number of classes of a job has no more pieces than a ledger takes.
-pub(crate) fn check_pieces(job: &Job, classes: u32) -> Result<(), RunFault>
+///
+/// # Errors
+///
+/// [`RunFault::TooManyPieces`].
+pub fn check_pieces(job: &Job, classes: u32) -> Result<(), RunFault>
     ensures few { OnOk result (classes * blocks (length job.now.tests.tests) ≤ max_pieces) }
     ensures refused { IfErr result (λ fault. (fault ≡ RunFault.TooManyPieces)
         × (max_pieces < classes * blocks (length job.now.tests.tests))) }
@@ -128,7 +118,11 @@ pub(crate) fn check_pieces(job: &Job, classes: u32) -> Result<(), RunFault>
 
 /// Checks that this number of classes has no more pieces than a ledger takes, on this number of
 /// blocks.
-pub(crate) fn check_pieces_of(classes: u32, blocks: u32) -> Result<(), RunFault>
+///
+/// # Errors
+///
+/// [`RunFault::TooManyPieces`].
+pub fn check_pieces_of(classes: u32, blocks: u32) -> Result<(), RunFault>
     ensures few { OnOk result (classes * blocks ≤ max_pieces) }
     ensures refused { IfErr result (λ fault. (fault ≡ RunFault.TooManyPieces)
         × (max_pieces < classes * blocks)) }

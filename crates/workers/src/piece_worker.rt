@@ -44,8 +44,8 @@ pub trait Gate {
         ensures stopped { result ≡ false → (stops self.now).may worker class block }
         ensures shut { (stops self.now).must worker class block → result ≡ false };
 
-    /// Returns whether the gate is known to let every piece pass. Only then does a run go window by
-    /// window ([`crate::run_in_windows`]), leave out dead classes, and settle several blocks of a
+    /// Returns whether the gate is known to let every piece pass. Only then does a run of
+    /// `region_runs` go window by window, leave out dead classes, and settle several blocks of a
     /// class in one pass. It still asks the gate for these pieces.
     fn lets_all_pass(&self) -> bool
         ensures { result ≡ true → passing self.now }

@@ -46,8 +46,9 @@ fn count_detected(firsts: &[Option<u32>]) -> u32
 }
 
 impl Verdicts {
-    /// Makes the verdicts of faults in the order of their list.
-    pub(crate) fn of(firsts: Vec<Option<u32>>, skipped: u64) -> Verdicts
+    /// Makes the verdicts of faults from their first tests, in the order of the uncollapsed list,
+    /// and the number of skipped pieces.
+    pub fn of(firsts: Vec<Option<u32>>, skipped: u64) -> Verdicts
         requires { length firsts.items < 2 ^ 32 }
         ensures firsts { result.firsts ≡ firsts.items }
         ensures skipped { result.skipped ≡ skipped }

@@ -1,7 +1,7 @@
 //! Runs of one thread over lists of classes.
 
 ghost use Rattle.std.specs.Prelude.{◌↔◌, ◌<◌, All, IfOk, IsTrue};
-ghost use Rattle.workers.specs.ListRunners.{ServesLists};
+ghost use Rattle.region_runs.specs.ListRunners.{ServesLists};
 
 use crate::checks::check;
 use crate::worker::fixtures::{C17_FIRSTS, JobText, has_firsts, job_of};
@@ -9,11 +9,12 @@ use crate::worker::gates::ShutFor;
 use block_sim::Job;
 use fault_model::Model;
 use job_loading::SimFault;
+use region_runs::{ListRunner, run_in_parts};
 use std::alloc::{AllocError, Global};
 use std::sync::Wait;
 use std::thread::Threads;
 use worked_circuits::C17_TEXT;
-use workers::{ListRunner, RunFault, run_in_parts};
+use workers::RunFault;
 
 /// C17 with 64 tests of ones, which are block 0, and one of zeros, which is test 64. Under zeros
 /// G10, G11, G16 and G19 are 1, and the outputs are 0. So zeros detect the classes of G2 sa1, G7

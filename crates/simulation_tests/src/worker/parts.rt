@@ -8,11 +8,12 @@ use crate::worker::gates::{Shut, ShutFor};
 use block_sim::Job;
 use fault_model::Model;
 use job_loading::SimFault;
+use region_runs::{PartVerdict, part_of, run_in_parts, run_part};
 use std::alloc::Global;
 use std::sync::Wait;
 use std::thread::Threads;
 use worked_circuits::C17_TEXT;
-use workers::{OpenGate, PartVerdict, RunFault, part_of, run_in_parts, run_part};
+use workers::{OpenGate, RunFault};
 
 /// The number of the stem of each fault of C17: of its class's region. The signals are G1, G2, G3,
 /// G6, G7, G10, G11, G16, G19, G22 and G23, from 0. Of these G3, G11, G16, G22 and G23 are stems.

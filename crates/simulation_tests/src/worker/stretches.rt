@@ -6,11 +6,12 @@ use crate::worker::gates::{Holding, Meeting, Roll, ShutForWorker};
 use block_sim::Job;
 use fault_ledger::Finish;
 use job_loading::SimFault;
+use region_runs::{run_in_parts, run_over_ledger};
 use std::alloc::Global;
 use std::sync::Wait;
 use std::thread::Threads;
 use std::time::Clock;
-use workers::{Gate, OpenGate, RunFault, run_in_parts, run_over_ledger};
+use workers::{Gate, OpenGate, RunFault};
 
 /// The number of parts into which C17 is cut: seven of three classes and one of only the last
 /// class, 21, the class of G23 sa1. Class 2, the class of G3 sa0, is in another part.

@@ -7,10 +7,11 @@ use crate::worker::fixtures::{BUFFER, JobText, has_firsts, job_of, rows_text};
 use fault_model::Model;
 use job_loading::{RunJob, SimFault};
 use patterns::{Tests, read_tests};
+use region_runs::{PartVerdict, run_in_windows, run_part_in_windows};
 use std::alloc::Global;
 use std::sync::Wait;
 use std::thread::Threads;
-use workers::{OpenGate, PartVerdict, run_in_windows, run_part_in_windows};
+use workers::OpenGate;
 
 /// A buffer under one test.
 const BEFORE: JobText = JobText {

@@ -1,4 +1,4 @@
-use Rattle.workers.proofs.Public.{parts_fault}
+use Rattle.region_runs.proofs.Public.{parts_fault}
 use Rattle.compaction.proofs.passes.compact.Goals as goal
 
 pub returns-in-Err-clause-refused : goal.returns-in-Err-clause-refused

@@ -3,8 +3,8 @@ use Rattle.std.specs.Prelude.{⊤, vec_len}
 use Rattle.std.proofs.lemmas.Result.{err_from_is_err_and}
 use Rattle.std.specs.List.{ReversedBelow}
 use Rattle.fault_model.specs.declared.Model.TheVariants.{StuckAt}
-use Rattle.workers.specs.Refused.{IsPartsFault}
 use Rattle.workers.specs.Stops.{no_stop}
+use Rattle.region_runs.specs.Refused.{IsPartsFault}
 use Rattle.compaction.specs.Compaction.{at_marks}
 use Rattle.compaction.specs.Marks.{AreFinding, AreLastOf}
 use Rattle.compaction.proofs.KeptTests.{are_last, refused_alike}

@@ -1,5 +1,5 @@
 use Rattle.std.proofs.Common.{◌≡◌, map, take}
-use Rattle.workers.specs.declared.parts.PartVerdict.TheVariants.{First}
+use Rattle.region_runs.specs.declared.parts.PartVerdict.TheVariants.{First}
 use Rattle.part_files.proofs.ending.firsts_of.Given as goal
 
 -- the verdicts so far are first tests

@@ -1,6 +1,6 @@
 use Rattle.block_sim.specs.Parts.{Parts}
 use Rattle.workers.specs.declared.RunFault.{RunFault}
-use Rattle.workers.specs.Refused.{IsPartFault}
+use Rattle.region_runs.specs.Refused.{IsPartFault}
 use Rattle.report.specs.EndToEnd.{IsJobReportFault, IsTextFault}
 use Rattle.part_files.specs.PartText.{IsPartTextOf, IsPartTextOfJob, head_of}
 use Rattle.report.proofs.Public.{written_as, refused_as, text_fault}

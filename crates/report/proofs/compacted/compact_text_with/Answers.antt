@@ -1,7 +1,7 @@
 use Rattle.std.specs.Prelude.{⊤}
 use Rattle.std.proofs.lemmas.Result.{err_from_is_err_and}
-use Rattle.workers.specs.Refused.{ArePartsWithin, IsPartsFault}
 use Rattle.workers.specs.Stops.{no_stop}
+use Rattle.region_runs.specs.Refused.{ArePartsWithin, IsPartsFault}
 use Rattle.report.specs.Compacted.{IsKeptText, IsKeptTextOfJob}
 use Rattle.report.specs.EndToEnd.{IsJobTextFault, IsWatchedFault, IsWithin}
 use Rattle.report.proofs.CompactedTexts.{err_as, given_as, kept_of_texts, ok_as}

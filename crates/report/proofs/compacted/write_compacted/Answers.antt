@@ -1,8 +1,8 @@
 use Rattle.std.proofs.Common.{◌≡◌, ◌∙◌, ap, length}
 use Rattle.std.specs.Prelude.{⊤}
 use Rattle.std.proofs.lemmas.Result.{err_from_is_err_and}
-use Rattle.workers.specs.Refused.{IsPartsFault}
 use Rattle.workers.specs.Stops.{no_stop}
+use Rattle.region_runs.specs.Refused.{IsPartsFault}
 use Rattle.report.specs.Compacted.{IsKeptTextOfJob, kept_text}
 use Rattle.report.proofs.CompactedTexts.{counted, given_text, kept_fault, the_count}
 use Rattle.report.proofs.compacted.write_compacted.Goals as goal

@@ -1,5 +1,5 @@
 use Rattle.std.proofs.lemmas.Result.{err_from_is_err_and}
-use Rattle.workers.specs.Refused.{ArePartsWithin, IsPartsFault}
+use Rattle.region_runs.specs.Refused.{ArePartsWithin, IsPartsFault}
 use Rattle.report.specs.EndToEnd.{IsJobTextFault, IsWatchedFault, IsWithin}
 use Rattle.report.specs.Reasons.{IsReasonReportOf, IsReasonReportOfJob}
 use Rattle.report.proofs.ReasonTexts.{reasons_of_texts}

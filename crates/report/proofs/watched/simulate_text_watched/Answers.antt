@@ -1,5 +1,5 @@
 use Rattle.std.proofs.lemmas.Result.{err_from_is_err_and}
-use Rattle.workers.specs.Refused.{ArePartsWithin, IsPartsFault}
+use Rattle.region_runs.specs.Refused.{ArePartsWithin, IsPartsFault}
 use Rattle.report.specs.EndToEnd.{IsJobReportFault, IsWatchedFault, IsWithin}
 use Rattle.report.proofs.ReportsOfTexts.{ok_as, refused_as, written_of_texts}
 use Rattle.report.proofs.WatchedRuns.{split_fault, split_refused, split_within}

@@ -1,5 +1,5 @@
 use Rattle.std.proofs.lemmas.Result.{err_from_is_err_and}
-use Rattle.workers.specs.Refused.{ArePartsWithin, IsPartsFault}
+use Rattle.region_runs.specs.Refused.{ArePartsWithin, IsPartsFault}
 use Rattle.report.specs.EndToEnd.{IsJobTextFault, IsWatchedFault, IsWithin}
 use Rattle.report.proofs.Public.{ok_as, refused_as, split_refused, split_text_fault, split_within}
 use Rattle.tables.specs.Reasons.{IsReasonTableOf, IsReasonTableOfJob}

@@ -1,8 +1,8 @@
 use Rattle.std.proofs.Common.{sym}
 use Rattle.std.proofs.lemmas.Result.{IfErr-weaker}
 use Rattle.block_sim.specs.Parts.{with_tests}
-use Rattle.workers.specs.Refused.{IsPartFault}
 use Rattle.workers.specs.Stops.{no_stop}
+use Rattle.region_runs.specs.Refused.{IsPartFault}
 use Rattle.std.specs.Prelude.{⊤}
 use Rattle.job_loading.proofs.PartsApart.{passed_part_fault}
 use Rattle.job_loading.proofs.run_job.RunJob.run_part.Goals as goal

@@ -1,4 +1,4 @@
-use Rattle.workers.specs.ListRunners.{ServesLists}
+use Rattle.region_runs.specs.ListRunners.{ServesLists}
 use Rattle.simulation_tests.proofs.worker.listed.first_wrong.Given as goal
 
 abbrev pub invariant-loop-list : goal.invariant-loop-list

@@ -1,0 +1,264 @@
+-- The classes in the order of their visits, and those of a part.
+use Rattle.std.proofs.Common.{◌≡◌, ◌<◌, ◌≤◌, ◌+◌, ◌⊎◌, inl, inr, ℕ, zero, suc, true, false}
+use Rattle.std.proofs.Common.{List, [], ◌∷◌, ◌++◌, length, get_or, Some, None, refl, sym, ap}
+use Rattle.std.proofs.Common.{◌∙◌, subst, arith, length-append}
+use Rattle.std.specs.Prelude.{Bool, slice_get, filter, cond}
+use Rattle.std.proofs.Math.Seq.{get_or-append_seam}
+use Rattle.std.proofs.lemmas.Bool.{cases_lt}
+use Rattle.std.proofs.lemmas.List.{get_or_append_left}
+use Rattle.std.proofs.lemmas.Option.{get_or_from_slice_get, slice_get-get_or, slice_get_within}
+use Rattle.list_lemmas.proofs.Places.{place_within, within_place}
+use Rattle.bench_net.specs.Circuit.{IsWellFormed}
+use Rattle.bench_net.specs.Scan.{names}
+use Rattle.bench_net.specs.Statement.{Statement}
+use Rattle.fault_model.specs.Reordered.{HasSameSignals, IsReordered, place}
+use Rattle.fault_model.proofs.Public.{in_signal_order, same_signals}
+use Rattle.block_sim.specs.Arranged.{ArePlaces, IsArranged}
+use Rattle.block_sim.specs.Parts.{Parts}
+use Rattle.block_sim.specs.Regions.{IsStemOfClass}
+use Rattle.block_sim.proofs.Public.{one_class_stem}
+use Rattle.region_runs.specs.ClassOrder.{AreVisits, AreVisitsTo}
+use Rattle.region_runs.specs.Part.{AreAllByRegion, ArePartOf, IsOfPart}
+use Rattle.region_runs.specs.SortedPlaces.{AreSortedPlaces, GoesFirst}
+
+-- the places of signals are numbers of signals, each of one signal
+module _ (c d : List Statement) (places : List ℕ) (well : IsWellFormed c) (is : IsArranged c d)
+    (are : ArePlaces c d places) where
+  reordered : IsReordered c d
+  reordered = subst (IsReordered c) (sym is.2)
+      (in_signal_order c is.0 is.1.signals well).reordered
+
+  signals : HasSameSignals c d
+  signals = same_signals c d well reordered
+
+  pub places_apart : (r q : ℕ) → r < length (names c) → q < length (names c)
+      → get_or places r 0 ≡ get_or places q 0 → r ≡ q
+  places_apart r q low lt e = signals.apart r q (sym (are r low) ∙ e ∙ are q lt)
+
+  pub places_low : (s : ℕ) → s < length (names c) → get_or places s 0 < length (names c)
+  places_low s lt =
+      let n = within_place (names c) s lt in
+      let low = place_within (names d) (place c d s) n.0 (signals.named s ∙ n.1) in
+      omega (arith, low, are s lt, signals.count)
+
+-- the visit to one class more
+pub visits_more : (job : Parts) (places : List ℕ) (n stem visit : ℕ) (visits : List ℕ)
+    → AreVisitsTo job places n visits → IsStemOfClass job.list.model job.circuit n stem
+    → stem < length (names job.circuit) → visit ≡ get_or places stem 0
+    → AreVisitsTo job places (n + 1) (visits ++ visit ∷ [])
+visits_more job places n stem visit visits was of within is = record {
+  count = omega (arith, was.count, length-append visits (visit ∷ []));
+  each = λ class r lt at. go class r at lt (cases_lt class n);
+}
+  where
+    go : (class r : ℕ) → IsStemOfClass job.list.model job.circuit class r → class < n + 1
+        → (class < n) ⊎ (n ≤ class) → (r < length (names job.circuit))
+        × (get_or (visits ++ visit ∷ []) class 0 ≡ get_or places r 0)
+    go class r at lt (inl low) =
+        let x = was.each class r low at in (
+          x.0,
+          get_or_append_left visits (visit ∷ []) 0 class (omega (arith, low, was.count)) ∙ x.1,
+        )
+    go class r at lt (inr high) =
+        let last : class ≡ n = omega (arith, high, lt) in
+        let there = subst (λ k. IsStemOfClass job.list.model job.circuit k r) last at in
+        let same = one_class_stem job.list.model job.circuit n stem r of there in (
+          subst (λ s. s < length (names job.circuit)) same within,
+          ap (λ k. get_or (visits ++ visit ∷ []) k 0) (last ∙ sym was.count)
+              ∙ get_or-append_seam visits visit [] 0 ∙ is ∙ ap (λ s. get_or places s 0) same,
+        )
+
+-- the classes by their visits are all classes region by region
+pub all_in_order : (job : Parts) (visits classes : List ℕ) → AreVisits job visits
+    → AreSortedPlaces visits classes → AreAllByRegion job classes
+all_in_order job visits classes known sorted = record {
+  visits = known.places;
+  each = λ k class at. (low k class at, tt);
+  all = λ class lt of.
+      let x = sorted.all class (omega (arith, lt, known.are.count)) in
+      (x.0, slice_get-get_or classes x.0 class x.1 ∙ ap Some x.2);
+  ordered = λ i k first second lt ea eb r q ra qb.
+      let left = known.are.each first r (low i first ea) ra in
+      let right = known.are.each second q (low k second eb) qb in
+      let goes = sorted.ordered i k 0 lt (slice_get_within classes k second eb) in
+      let ga = get_or_from_slice_get classes i first 0 ea in
+      let gb = get_or_from_slice_get classes k second 0 eb in
+      before first second r q left.0 right.0 left.1 right.1
+      (subst (λ b. GoesFirst visits first b) gb
+      (subst (λ a. GoesFirst visits a (get_or classes k 0)) ga goes));
+  few = omega (arith, sorted.count, known.are.count);
+}
+  where
+    low : (k class : ℕ) → slice_get classes k ≡ Some class
+        → class < length job.classes.representative
+    low k class at =
+        let lt = sorted.within k 0 (slice_get_within classes k class at) in
+        let same = get_or_from_slice_get classes k class 0 at in
+        omega (arith, lt, same, known.are.count)
+
+    before : (first second r q : ℕ) → r < length (names job.circuit)
+        → q < length (names job.circuit)
+        → get_or visits first 0 ≡ get_or known.places r 0
+        → get_or visits second 0 ≡ get_or known.places q 0 → GoesFirst visits first second
+        → (get_or known.places r 0 < get_or known.places q 0)
+        ⊎ ((get_or known.places r 0 ≡ get_or known.places q 0)
+        × ((r < q) ⊎ ((r ≡ q) × (first < second))))
+    before first second r q rl ql va vb (inl x) = inl (omega (arith, x, va, vb))
+    before first second r q rl ql va vb (inr x) =
+        let e : get_or known.places r 0 ≡ get_or known.places q 0 = omega (arith, x.0, va, vb) in
+        inr (e, inr (known.apart r q rl ql e, x.1))
+
+-- ---- lists
+
+-- one element more at the end
+pub pushed : {X : Type 0} (xs : List X) (x y : X) (i : ℕ) → slice_get (xs ++ x ∷ []) i ≡ Some y
+    → (slice_get xs i ≡ Some y) ⊎ ((i ≡ length xs) × (x ≡ y))
+pushed [] x y zero e = inr (refl, cc)
+pushed [] x y (suc i) e = let bad : None ≡ Some y = e in absurd (cc)
+pushed (z ∷ xs) x y zero e = inl e
+pushed (z ∷ xs) x y (suc i) e = go (pushed xs x y i e)
+  where
+    go : (slice_get xs i ≡ Some y) ⊎ ((i ≡ length xs) × (x ≡ y)) → (slice_get xs i ≡ Some y)
+        ⊎ ((suc i ≡ suc (length xs)) × (x ≡ y))
+    go (inl h) = inl h
+    go (inr h) = inr (ap suc h.0, h.1)
+
+-- the others stay, and it stands at the end
+kept : {X : Type 0} (xs : List X) (x y : X) (i : ℕ) → slice_get xs i ≡ Some y
+    → slice_get (xs ++ x ∷ []) i ≡ Some y
+kept [] x y i e = let bad : None ≡ Some y = e in absurd (cc)
+kept (z ∷ xs) x y zero e = e
+kept (z ∷ xs) x y (suc i) e = kept xs x y i e
+
+at_end : {X : Type 0} (xs : List X) (x : X) → slice_get (xs ++ x ∷ []) (length xs) ≡ Some x
+at_end [] x = refl
+at_end (z ∷ xs) x = at_end xs x
+
+-- each class that is to be kept is there
+pub is_kept : {X : Type 0} (p : X → Bool) (xs : List X) (j : ℕ) (x : X) → slice_get xs j ≡ Some x
+    → p x ≡ true → (k : ℕ) × (slice_get (filter p xs) k ≡ Some x)
+is_kept p [] j x e is = let bad : None ≡ Some x = e in absurd (cc)
+is_kept {X} p (y ∷ xs) zero x e is = (
+  0,
+  let same : y ≡ x = cc in
+      ap (λ t. slice_get (cond t (y ∷ filter p xs) (filter p xs)) 0) (ap p same ∙ is) ∙ e,
+)
+is_kept {X} p (y ∷ xs) (suc j) x e is = go (p y) (is_kept p xs j x e is)
+  where
+    go : (t : Bool) → (k : ℕ) × (slice_get (filter p xs) k ≡ Some x)
+        → (k : ℕ) × (slice_get (cond t (y ∷ filter p xs) (filter p xs)) k ≡ Some x)
+    go true h = (suc h.0, h.1)
+    go false h = h
+
+-- and no more
+pub kept_few : {X : Type 0} (p : X → Bool) (xs : List X) → length (filter p xs) ≤ length xs
+kept_few p [] = omega arith
+kept_few {X} p (x ∷ xs) = go (p x) (kept_few p xs)
+  where
+    go : (t : Bool) → length (filter p xs) ≤ length xs
+        → length (cond t (x ∷ filter p xs) (filter p xs)) ≤ suc (length xs)
+    go true rest = omega (arith, rest)
+    go false rest = omega (arith, rest)
+
+-- ---- the classes of a part
+
+-- the classes of a part among the first n of a list
+pub record AreOwnUpTo (job : Parts) (parts part : ℕ) (classes : List ℕ) (n : ℕ)
+    (own : List ℕ) : Type 0 where
+  pub each : (k class : ℕ) → slice_get own k ≡ Some class
+      → (j : ℕ) × (j < n) × (slice_get classes j ≡ Some class) × IsOfPart job parts part class
+  pub all : (j class : ℕ) → j < n → slice_get classes j ≡ Some class
+      → IsOfPart job parts part class → (k : ℕ) × (slice_get own k ≡ Some class)
+  pub ordered : (i k first second : ℕ) → i < k → slice_get own i ≡ Some first
+      → slice_get own k ≡ Some second
+      → (a b : ℕ) × (a < b) × (slice_get classes a ≡ Some first)
+      × (slice_get classes b ≡ Some second)
+  pub few : length own ≤ n
+
+pub own_none : (job : Parts) (parts part : ℕ) (classes : List ℕ)
+    → AreOwnUpTo job parts part classes 0 []
+own_none job parts part classes = record {
+  each = λ k class at. let bad : None ≡ Some class = at in absurd (cc);
+  all = λ j class lt. absurd (omega (arith, lt));
+  ordered = λ i k first second lt ea eb. let bad : None ≡ Some first = ea in absurd (cc);
+  few = omega arith;
+}
+
+-- one class more, which is of the part
+pub own_more : (job : Parts) (parts part : ℕ) (classes : List ℕ) (n class : ℕ) (own : List ℕ)
+    → AreOwnUpTo job parts part classes n own → slice_get classes n ≡ Some class
+    → IsOfPart job parts part class
+    → AreOwnUpTo job parts part classes (n + 1) (own ++ class ∷ [])
+own_more job parts part classes n class own was here of = record {
+  each = λ k c at. each k c (pushed own class c k at);
+  all = λ j c lt at is. all j c lt at is (cases_lt j n);
+  ordered = λ i k first second lt ea eb.
+      ordered i k first second lt (pushed own class first i ea) (pushed own class second k eb);
+  few = omega (arith, was.few, length-append own (class ∷ []));
+}
+  where
+    each : (k c : ℕ) → (slice_get own k ≡ Some c) ⊎ ((k ≡ length own) × (class ≡ c))
+        → (j : ℕ) × (j < n + 1) × (slice_get classes j ≡ Some c) × IsOfPart job parts part c
+    each k c (inl h) = let x = was.each k c h in (x.0, omega (arith, x.1), x.2, x.3)
+    each k c (inr h) = (
+      n,
+      omega arith,
+      here ∙ ap Some h.1,
+      subst (IsOfPart job parts part) h.1 of,
+    )
+
+    all : (j c : ℕ) → j < n + 1 → slice_get classes j ≡ Some c → IsOfPart job parts part c
+        → (j < n) ⊎ (n ≤ j) → (k : ℕ) × (slice_get (own ++ class ∷ []) k ≡ Some c)
+    all j c lt at is (inl low) = let x = was.all j c low at is in (x.0, kept own class c x.0 x.1)
+    all j c lt at is (inr high) =
+        let last : n ≡ j = omega (arith, lt, high) in
+        let same : Some class ≡ Some c = sym here ∙ ap (λ k. slice_get classes k) last ∙ at in
+        (length own, at_end own class ∙ same)
+
+    ordered : (i k first second : ℕ) → i < k
+        → (slice_get own i ≡ Some first) ⊎ ((i ≡ length own) × (class ≡ first))
+        → (slice_get own k ≡ Some second) ⊎ ((k ≡ length own) × (class ≡ second))
+        → (a b : ℕ) × (a < b) × (slice_get classes a ≡ Some first)
+        × (slice_get classes b ≡ Some second)
+    ordered i k first second lt (inl h) (inl m) = was.ordered i k first second lt h m
+    ordered i k first second lt (inl h) (inr m) = let x = was.each i first h in
+        (x.0, n, x.1, x.2, here ∙ ap Some m.1)
+    ordered i k first second lt (inr h) (inl m) =
+        absurd (omega (arith, lt, h.0, slice_get_within own k second m))
+    ordered i k first second lt (inr h) (inr m) = absurd (omega (arith, lt, h.0, m.0))
+
+-- one class more, which is not
+pub own_past : (job : Parts) (parts part : ℕ) (classes : List ℕ) (n class : ℕ) (own : List ℕ)
+    → AreOwnUpTo job parts part classes n own → slice_get classes n ≡ Some class
+    → (IsOfPart job parts part class → ⊥) → AreOwnUpTo job parts part classes (n + 1) own
+own_past job parts part classes n class own was here not = record {
+  each = λ k c at. let x = was.each k c at in (x.0, omega (arith, x.1), x.2, x.3);
+  all = λ j c lt at is. all j c lt at is (cases_lt j n);
+  ordered = was.ordered;
+  few = omega (arith, was.few);
+}
+  where
+    all : (j c : ℕ) → j < n + 1 → slice_get classes j ≡ Some c → IsOfPart job parts part c
+        → (j < n) ⊎ (n ≤ j) → (k : ℕ) × (slice_get own k ≡ Some c)
+    all j c lt at is (inl low) = was.all j c low at is
+    all j c lt at is (inr high) =
+        let last : j ≡ n = omega (arith, lt, high) in
+        let same : Some c ≡ Some class = sym at ∙ ap (λ k. slice_get classes k) last ∙ here in
+        let one : c ≡ class = cc in
+        absurd (not (subst (IsOfPart job parts part) one is))
+
+-- those of all classes are the classes of the part
+pub part_in_order : (job : Parts) (parts part : ℕ) (classes own : List ℕ)
+    → AreAllByRegion job classes → AreOwnUpTo job parts part classes (length classes) own
+    → ArePartOf job parts part own
+part_in_order job parts part classes own all up = record {
+  visits = all.visits;
+  each = λ k class at. let x = up.each k class at in ((all.each x.0 class x.2).0, x.3);
+  all = λ class lt of.
+      let x = all.all class lt tt in
+      up.all x.0 class (slice_get_within classes x.0 class x.1) x.1 of;
+  ordered = λ i k first second lt ea eb.
+      let x = up.ordered i k first second lt ea eb in
+      all.ordered x.0 x.1 first second x.2 x.3 x.4;
+  few = omega (arith, up.few, all.few);
+}

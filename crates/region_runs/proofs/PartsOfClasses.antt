@@ -1,0 +1,445 @@
+-- Parts are a partition, and the verdicts of runs over them.
+use Rattle.std.proofs.Common.{◌≡◌, ◌≢◌, ◌<◌, ◌≤◌, ◌+◌, ◌*◌, ◌%◌, ◌^◌, ◌⊎◌, inl, inr, ℕ, zero}
+use Rattle.std.proofs.Common.{suc, List, [], ◌∷◌, ◌++◌, map, set, take, drop, length, get_or, All}
+use Rattle.std.proofs.Common.{Option, Some, None, refl, sym, ap, ◌∙◌, subst, arith, replicate}
+use Rattle.std.proofs.Common.{add-one}
+use Rattle.std.specs.Prelude.{slice_get}
+use Rattle.bench_net.specs.Statement.{Statement}
+use Rattle.fault_model.specs.declared.Model.{Model}
+use Rattle.fault_model.specs.Solution.{Test}
+use Rattle.block_sim.specs.First.{IsFirst}
+use Rattle.block_sim.specs.Regions.{IsStemOfClass}
+use Rattle.block_sim.proofs.Public.{class_has_stem, one_class_stem}
+use Rattle.std.proofs.Math.Nat.{mod-lt, mul_comm, mul-le-mul_left, suc-mul}
+use Rattle.patterns.specs.Tests.{blocks}
+use Rattle.std.proofs.Math.Seq.{take-add}
+use Rattle.std.proofs.lemmas.Bool.{cases_lt}
+use Rattle.std.proofs.lemmas.Grind.{div_ceil_times}
+use Rattle.std.proofs.lemmas.Option.{get_or_from_slice_get, slice_get-get_or}
+use Rattle.std.proofs.lemmas.Option.{slice_get_within}
+use Rattle.std.proofs.lemmas.List.{get_or-set_same, get_or-set_other}
+use Rattle.std.proofs.lemmas.List.{length-map, length-set, take_all}
+use Rattle.std.proofs.lemmas.List.Elements.{All-drop, All-take}
+use Rattle.std.proofs.lemmas.List.Sums.{sum_by-cons}
+use Rattle.list_lemmas.proofs.Places.{from_mapped}
+use Rattle.fault_model.specs.Fault.{Fault}
+use Rattle.fault_model.specs.Collapse.{IsClassOf}
+use Rattle.block_sim.specs.Parts.{Parts, BelongTogether}
+use Rattle.workers.specs.Settling.{shape_for}
+use Rattle.workers.specs.Verdict.{AreAfterHits, AreClassFirsts, AreFirsts, blocks_after}
+use Rattle.workers.specs.Verdict.{pieces_after}
+use Rattle.workers.proofs.Public.{class_count, class_in}
+use Rattle.region_runs.specs.declared.parts.PartVerdict.{PartVerdict}
+use Rattle.region_runs.specs.declared.parts.PartVerdict.TheVariants.{First, OtherPart}
+use Rattle.region_runs.specs.Part.{AreClassVerdicts, ArePartOf, ArePartVerdicts, IsClassVerdict}
+use Rattle.region_runs.specs.Part.{AreAllByRegion, IsInOnePart, IsOfPart, IsPartVerdict}
+use Rattle.region_runs.specs.Part.{first_in, stretch, stretch_size}
+use Rattle.region_runs.specs.ClassOrder.{IsCutOf}
+
+-- the part of a class is the part of its one stem
+pub part_of_stem : (job : Parts) (parts part class stem : ℕ)
+    → IsStemOfClass job.list.model job.circuit class stem → IsOfPart job parts part class
+    → part ≡ stem % parts
+part_of_stem job parts part class stem at of = of.2
+    ∙ ap (λ n. n % parts) (one_class_stem job.list.model job.circuit class of.0 stem of.1 at)
+
+-- each class is in one part
+pub one_part : (job : Parts) (parts class : ℕ) → BelongTogether job → 0 < parts
+    → class < length job.classes.representative → IsInOnePart job parts class
+one_part job parts class b some lt =
+    let stem = class_has_stem job.list.model job.circuit b.circuit.well_formed class (omega (
+      arith,
+      lt,
+      class_count job b,
+    )) in (
+      stem.0 % parts,
+      mod-lt stem.0 some,
+      (stem.0, stem.2, refl),
+      λ other of. part_of_stem job parts other class stem.0 stem.2 of,
+    )
+
+-- each is a class of the job
+pub part_within : (job : Parts) (parts part : ℕ) (classes : List ℕ)
+    → ArePartOf job parts part classes
+    → All (λ class. class < length job.classes.representative) classes
+part_within job parts part classes are k d lt =
+    (are.each k (get_or classes k d) (slice_get-get_or classes k d lt)).0
+
+-- and so is each of all classes
+pub all_within : (job : Parts) (classes : List ℕ) → AreAllByRegion job classes
+    → All (λ class. class < length job.classes.representative) classes
+all_within job classes are k d lt =
+    (are.each k (get_or classes k d) (slice_get-get_or classes k d lt)).0
+
+-- from a verdict on a class that was set at one more place
+pub verdict_more : (count : ℕ) (classes : List ℕ) (firsts : List (Option ℕ)) (n class : ℕ)
+    (first : Option ℕ) (verdicts : List PartVerdict)
+    → AreClassVerdicts count classes firsts n verdicts
+    → slice_get classes n ≡ Some class → slice_get firsts n ≡ Some first → class < count
+    → AreClassVerdicts count classes firsts (n + 1) (set verdicts class (First first))
+verdict_more count classes firsts n class first verdicts was here there lt = record {
+  long = length-set verdicts class (First first) ∙ was.long;
+  each = λ c low. pick c low (cases_lt c class) (cases_lt class c);
+}
+  where
+    same : (c : ℕ) → c < count → c ≡ class
+        → IsClassVerdict classes firsts (n + 1) c (slice_get (set verdicts class (First first)) c)
+    same c low e =
+        subst (λ k. IsClassVerdict classes firsts (n + 1) k
+        (slice_get (set verdicts class (First first)) k)) (sym e)
+        (inl (
+          n,
+          first,
+          omega arith,
+          here,
+          there,
+          slice_get-get_or (set verdicts class (First first)) class OtherPart (omega (
+            arith,
+            length-set verdicts class (First first),
+            was.long,
+            lt,
+          ))
+              ∙ ap Some (get_or-set_same verdicts class (First first) OtherPart (omega (
+                arith,
+                was.long,
+                lt,
+              ))),
+        ))
+
+    other : (c : ℕ) → c < count → c ≢ class
+        → IsClassVerdict classes firsts (n + 1) c (slice_get (set verdicts class (First first)) c)
+    other c low d =
+        subst (λ v. IsClassVerdict classes firsts (n + 1) c v)
+        (slice_get-get_or verdicts c OtherPart (omega (arith, was.long, low))
+        ∙ ap Some (sym (get_or-set_other verdicts class c (First first) OtherPart d))
+        ∙ sym (slice_get-get_or (set verdicts class (First first)) c OtherPart (omega (
+          arith,
+          length-set verdicts class (First first),
+          was.long,
+          low,
+        ))))
+        (on (was.each c low))
+      where
+        on : IsClassVerdict classes firsts n c (slice_get verdicts c)
+            → IsClassVerdict classes firsts (n + 1) c (slice_get verdicts c)
+        on (inl x) = inl (x.0, x.1, omega (arith, x.2), x.3, x.4, x.5)
+        on (inr x) = inr ((λ k low. miss k (cases_lt k n) low), x.1)
+          where
+            miss : (k : ℕ) → (k < n) ⊎ (n ≤ k) → k < n + 1 → slice_get classes k ≢ Some c
+            miss k (inl m) l = x.0 k m
+            miss k (inr m) l = λ e.
+                let q : k ≡ n = omega (arith, m, l) in
+                let r : slice_get classes n ≡ Some c = ap (λ j. slice_get classes j) (sym q) ∙ e in
+                d (let s = sym r ∙ here in cc)
+
+    pick : (c : ℕ) → c < count → (c < class) ⊎ (class ≤ c) → (class < c) ⊎ (c ≤ class)
+        → IsClassVerdict classes firsts (n + 1) c (slice_get (set verdicts class (First first)) c)
+    pick c low (inl x) y = other c low (λ e. omega (arith, x, e))
+    pick c low (inr x) (inl y) = other c low (λ e. omega (arith, y, e))
+    pick c low (inr x) (inr y) = same c low (omega (arith, x, y))
+
+-- at first no class has one
+pub verdict_none : (count : ℕ) (classes : List ℕ) (firsts : List (Option ℕ))
+    (verdicts : List PartVerdict) → verdicts ≡ replicate count OtherPart
+    → AreClassVerdicts count classes firsts 0 verdicts
+verdict_none count classes firsts verdicts e =
+    subst (AreClassVerdicts count classes firsts 0) (sym e) (record {
+      long = all_long count;
+      each = λ class lt. inr ((λ k low. absurd (omega (arith, low))), at count class lt);
+    })
+  where
+    all_long : (n : ℕ) → length (replicate n OtherPart) ≡ n
+    all_long zero = refl
+    all_long (suc n) = ap suc (all_long n)
+
+    at : (n class : ℕ) → class < n → slice_get (replicate n OtherPart) class ≡ Some OtherPart
+    at zero class lt = absurd (omega (arith, lt))
+    at (suc n) zero lt = refl
+    at (suc n) (suc class) lt = at n class (omega (arith, lt))
+
+-- verdicts by class are so under other names of the lists and of their number
+pub verdicts_under : (m n : ℕ) (xs ys : List ℕ) (fs gs : List (Option ℕ)) (table : List PartVerdict)
+    → m ≡ n → xs ≡ ys → fs ≡ gs → AreClassVerdicts m xs fs (length xs) table
+    → AreClassVerdicts n ys gs (length ys) table
+verdicts_under m n xs ys fs gs table a b c are =
+    subst (λ k. AreClassVerdicts k ys gs (length ys) table) a
+    (subst (λ l. AreClassVerdicts m l gs (length l) table) b
+    (subst (λ l. AreClassVerdicts m xs l (length xs) table) c are))
+
+-- the verdicts of a part's run
+pub part_verdicts : (job : Parts) (parts part : ℕ) (classes : List ℕ) (firsts : List (Option ℕ))
+    (table verdicts : List PartVerdict) → BelongTogether job → ArePartOf job parts part classes
+    → AreClassFirsts job.list.model job.circuit job.tests.tests classes firsts
+    → AreClassVerdicts (length job.classes.representative) classes firsts (length classes) table
+    → verdicts ≡ map (λ class. get_or table class OtherPart) job.classes.class_of
+    → ArePartVerdicts job parts part verdicts
+part_verdicts job parts part classes firsts table verdicts b own found by is = record {
+  count = ap (λ (l : List PartVerdict). length l) is ∙ length-map job.classes.class_of g
+      ∙ b.classes.count;
+  each = λ i class f verdict at e v.
+      let of : IsClassOf job.list.model job.circuit f class = b.classes.class i f class at e in
+      let lt : class < count = class_in job (shape_for job 1) i class b (record {
+        classes = refl;
+        tests = refl;
+      }) e in
+      let x = from_mapped g job.classes.class_of i verdict
+      (ap (λ (l : List PartVerdict). slice_get l i) (sym is) ∙ v) in
+      let same : class ≡ x.0 = let q = sym e ∙ x.1 in cc in
+      let own : verdict ≡ get_or table class OtherPart = sym x.2 ∙ ap g (sym same) in
+      subst (IsPartVerdict job parts part class f) (sym own) (go f class lt of (by.each class lt));
+}
+  where
+    count : ℕ
+    count = length job.classes.representative
+
+    g : ℕ → PartVerdict
+    g class = get_or table class OtherPart
+
+    go : (f : Fault) (class : ℕ) → class < count → IsClassOf job.list.model job.circuit f class
+        → IsClassVerdict classes firsts (length classes) class (slice_get table class)
+        → IsPartVerdict job parts part class f (get_or table class OtherPart)
+    go f class lt of (inl x) =
+        subst (IsPartVerdict job parts part class f)
+        (sym (get_or_from_slice_get table class (First x.1) OtherPart x.5))
+        ((own.each x.0 class x.3).1, found.first x.0 class f x.1 x.3 of x.4)
+    go f class lt of (inr x) =
+        subst (IsPartVerdict job parts part class f)
+        (sym (get_or_from_slice_get table class OtherPart OtherPart x.1))
+        (λ here. let k = own.all class lt here in
+        x.0 k.0 (slice_get_within classes k.0 class k.1) k.1)
+
+-- the first tests of two lists of classes are the first tests of both together
+append_firsts : (m : Model) (c : List Statement) (tests : List Test) (xs ys : List ℕ)
+    (f g : List (Option ℕ)) → AreClassFirsts m c tests xs f → AreClassFirsts m c tests ys g
+    → AreClassFirsts m c tests (xs ++ ys) (f ++ g)
+append_firsts m c tests [] ys [] g a b = b
+append_firsts m c tests [] ys (y ∷ f) g a b = absurd (omega (arith, a.count))
+append_firsts m c tests (x ∷ xs) ys [] g a b = absurd (omega (arith, a.count))
+append_firsts m c tests (x ∷ xs) ys (y ∷ f) g a b =
+    let rest = append_firsts m c tests xs ys f g (record {
+      count = omega (arith, a.count);
+      first = λ k. a.first (suc k);
+    }) b in
+    record { count = ap suc rest.count; first = at rest }
+  where
+    at : AreClassFirsts m c tests (xs ++ ys) (f ++ g)
+        → (k class : ℕ) (fault : Fault) (first : Option ℕ)
+        → slice_get (x ∷ (xs ++ ys)) k ≡ Some class → IsClassOf m c fault class
+        → slice_get (y ∷ (f ++ g)) k ≡ Some first → IsFirst c tests fault first
+    at rest zero class fault first e of v = a.first 0 class fault first e of v
+    at rest (suc k) class fault first e of v = rest.first k class fault first e of v
+
+-- the first tests up to the start of a part
+abbrev pub FirstsUpTo : Parts → List ℕ → ℕ → List (Option ℕ) → Type 0
+FirstsUpTo job classes start firsts = AreClassFirsts job.list.model job.circuit job.tests.tests
+    (take start classes) firsts
+
+pub firsts_none : (job : Parts) (classes : List ℕ) → FirstsUpTo job classes 0 []
+firsts_none job classes = record {
+  count = refl;
+  first = λ k class f first e of at. let bad : None ≡ Some class = e in absurd (cc);
+}
+
+-- one stretch more
+pub firsts_more : (job : Parts) (classes : List ℕ) (size part : ℕ) (firsts more : List (Option ℕ))
+    → FirstsUpTo job classes (part * size) firsts
+    → AreClassFirsts job.list.model job.circuit job.tests.tests (stretch size classes part) more
+    → FirstsUpTo job classes ((part + 1) * size) (firsts ++ more)
+firsts_more job classes size part firsts more was found =
+    subst (λ l. AreClassFirsts job.list.model job.circuit job.tests.tests l (firsts ++ more)) joined
+    (append_firsts job.list.model job.circuit job.tests.tests (take (part * size) classes)
+    (stretch size classes part) firsts more was found)
+  where
+    joined : take (part * size) classes ++ stretch size classes part
+        ≡ take ((part + 1) * size) classes
+    joined = sym (take-add (part * size) size classes)
+        ∙ ap (λ n. take n classes) (let next = suc-mul part size in
+        let same : part + 1 ≡ suc part = add-one part in
+        omega (arith, next, ap (λ n. n * size) same))
+
+-- all stretches have all classes
+pub firsts_all : (job : Parts) (parts size : ℕ) (classes : List ℕ) (firsts : List (Option ℕ))
+    → IsCutOf job parts size classes → FirstsUpTo job classes (parts * size) firsts
+    → AreClassFirsts job.list.model job.circuit job.tests.tests classes firsts
+firsts_all job parts size classes firsts cut found =
+    subst (λ l. AreClassFirsts job.list.model job.circuit job.tests.tests l firsts)
+    (take_all (parts * size) classes long) found
+  where
+    long : length classes ≤ parts * size
+    long =
+        let high = (div_ceil_times (length classes) parts cut.some).0 in
+        let same : parts * size ≡ stretch_size (length classes) parts * parts =
+        mul_comm parts size ∙ ap (λ k. k * parts) cut.size_is in
+        omega (arith, high, same)
+
+-- a stretch of classes of the job has such classes
+pub stretch_within : (job : Parts) (size part : ℕ) (classes : List ℕ)
+    → All (λ class. class < length job.classes.representative) classes
+    → All (λ class. class < length job.classes.representative) (stretch size classes part)
+stretch_within job size part classes are =
+    All-take (λ class. class < length job.classes.representative) size (drop (part * size) classes)
+    (All-drop (λ class. class < length job.classes.representative) (part * size) classes are)
+
+-- the first test in the verdict on a class is the first test of its faults
+pub class_first : (job : Parts) (classes : List ℕ)
+    (firsts : List (Option ℕ)) (table : List PartVerdict) → AreAllByRegion job classes
+    → AreClassFirsts job.list.model job.circuit job.tests.tests classes firsts
+    → AreClassVerdicts (length job.classes.representative) classes firsts (length classes) table
+    → (f : Fault) (class : ℕ) → class < length job.classes.representative
+    → IsClassOf job.list.model job.circuit f class
+    → IsFirst job.circuit job.tests.tests f (first_in (get_or table class OtherPart))
+class_first job classes firsts table all known by f class lt of = go (by.each class lt)
+  where
+    go : IsClassVerdict classes firsts (length classes) class (slice_get table class)
+        → IsFirst job.circuit job.tests.tests f (first_in (get_or table class OtherPart))
+    go (inl x) =
+        subst (λ v. IsFirst job.circuit job.tests.tests f (first_in v))
+        (sym (get_or_from_slice_get table class (First x.1) OtherPart x.5))
+        (known.first x.0 class f x.1 x.3 of x.4)
+    go (inr x) =
+        let y = all.all class lt tt in
+        absurd (x.0 y.0 (slice_get_within classes y.0 class y.1) y.1)
+
+-- the first tests of all classes are the first tests of all faults
+pub all_firsts : (job : Parts) (classes : List ℕ)
+    (firsts found : List (Option ℕ)) (table : List PartVerdict) → BelongTogether job
+    → AreAllByRegion job classes
+    → AreClassFirsts job.list.model job.circuit job.tests.tests classes firsts
+    → AreClassVerdicts (length job.classes.representative) classes firsts (length classes) table
+    → found ≡ map (λ class. first_in (get_or table class OtherPart)) job.classes.class_of
+    → AreFirsts job.list.model job.circuit job.tests.tests found
+all_firsts job classes firsts found table b all known by is = record {
+  count = ap (λ (l : List (Option ℕ)). length l) is ∙ length-map job.classes.class_of g
+      ∙ b.classes.count;
+  first = λ i f first at v.
+      let x = from_mapped g job.classes.class_of i first
+      (ap (λ (l : List (Option ℕ)). slice_get l i) (sym is) ∙ v) in
+      let of : IsClassOf job.list.model job.circuit f x.0 = b.classes.class i f x.0 at x.1 in
+      let lt : x.0 < length job.classes.representative = class_in job (shape_for job 1) i x.0 b
+      (record { classes = refl; tests = refl }) x.1 in
+      subst (IsFirst job.circuit job.tests.tests f) x.2
+      (class_first job classes firsts table all known by f x.0 lt of);
+}
+  where
+    g : ℕ → Option ℕ
+    g class = first_in (get_or table class OtherPart)
+
+-- each verdict is the first test of some class of the list
+pub verdict_there : (job : Parts) (classes : List ℕ) (firsts found : List (Option ℕ))
+    (table : List PartVerdict) → BelongTogether job → AreAllByRegion job classes
+    → AreClassVerdicts (length job.classes.representative) classes firsts (length classes) table
+    → found ≡ map (λ class. first_in (get_or table class OtherPart)) job.classes.class_of
+    → (i class : ℕ) (first : Option ℕ) → slice_get job.classes.class_of i ≡ Some class
+    → slice_get found i ≡ Some first
+    → (k : ℕ) × (slice_get classes k ≡ Some class) × (slice_get firsts k ≡ Some first)
+verdict_there job classes firsts found table b all by is i class first at v =
+    let x = from_mapped g job.classes.class_of i first
+    (ap (λ (l : List (Option ℕ)). slice_get l i) (sym is) ∙ v) in
+    let both : Some x.0 ≡ Some class = sym x.1 ∙ at in
+    let one : x.0 ≡ class = cc in
+    let lt : class < length job.classes.representative = class_in job (shape_for job 1) i class b
+    (record { classes = refl; tests = refl }) at in
+    go (ap g (sym one) ∙ x.2) (by.each class lt)
+  where
+    g : ℕ → Option ℕ
+    g class = first_in (get_or table class OtherPart)
+
+    go : g class ≡ first
+        → IsClassVerdict classes firsts (length classes) class (slice_get table class)
+        → (k : ℕ) × (slice_get classes k ≡ Some class) × (slice_get firsts k ≡ Some first)
+    go e (inl x) =
+        let own = get_or_from_slice_get table class (First x.1) OtherPart x.5 in
+        let same : x.1 ≡ first = ap first_in (sym own) ∙ e in
+        (x.0, x.3, x.4 ∙ ap Some same)
+    go e (inr x) =
+        let lt : class < length job.classes.representative = class_in job (shape_for job 1) i class
+        b
+        (record { classes = refl; tests = refl }) at in
+        let y = all.all class lt tt in
+        absurd (x.0 y.0 (slice_get_within classes y.0 class y.1) y.1)
+
+-- so is each verdict of a part that is not of another part
+pub part_verdict_there : (job : Parts) (classes : List ℕ) (firsts : List (Option ℕ))
+    (table verdicts : List PartVerdict) → BelongTogether job
+    → AreClassVerdicts (length job.classes.representative) classes firsts (length classes) table
+    → verdicts ≡ map (λ class. get_or table class OtherPart) job.classes.class_of
+    → (i class : ℕ) (first : Option ℕ) → slice_get job.classes.class_of i ≡ Some class
+    → slice_get verdicts i ≡ Some (First first)
+    → (k : ℕ) × (slice_get classes k ≡ Some class) × (slice_get firsts k ≡ Some first)
+part_verdict_there job classes firsts table verdicts b by is i class first at v =
+    let x = from_mapped g job.classes.class_of i (First first)
+    (ap (λ (l : List PartVerdict). slice_get l i) (sym is) ∙ v) in
+    let both : Some x.0 ≡ Some class = sym x.1 ∙ at in
+    let one : x.0 ≡ class = cc in
+    go (ap g (sym one) ∙ x.2) (by.each class lt)
+  where
+    g : ℕ → PartVerdict
+    g class = get_or table class OtherPart
+
+    lt : class < length job.classes.representative
+    lt = class_in job (shape_for job 1) i class b (record { classes = refl; tests = refl }) at
+
+    go : g class ≡ First first
+        → IsClassVerdict classes firsts (length classes) class (slice_get table class)
+        → (k : ℕ) × (slice_get classes k ≡ Some class) × (slice_get firsts k ≡ Some first)
+    go e (inl x) =
+        let own = get_or_from_slice_get table class (First x.1) OtherPart x.5 in
+        let same : First x.1 ≡ First first = sym own ∙ e in
+        let first_is : x.1 ≡ first = ap first_in same in
+        (x.0, x.3, x.4 ∙ ap Some first_is)
+    go e (inr x) =
+        let own = get_or_from_slice_get table class OtherPart OtherPart x.1 in
+        let bad : OtherPart ≡ First first = sym own ∙ e in
+        absurd (cc)
+
+-- and the pieces after them are after the hits of all classes
+pub all_hits : (job : Parts) (classes : List ℕ)
+    (firsts : List (Option ℕ)) (table : List PartVerdict) (n skipped : ℕ)
+    → AreAllByRegion job classes
+    → AreClassFirsts job.list.model job.circuit job.tests.tests classes firsts
+    → AreClassVerdicts (length job.classes.representative) classes firsts (length classes) table
+    → n ≡ blocks (length job.tests.tests) → skipped ≡ pieces_after n (map first_in table)
+    → AreAfterHits job skipped
+all_hits job classes firsts table n skipped all known by same is = record {
+  firsts = map first_in table;
+  count = length-map table first_in ∙ by.long;
+  first = λ class f first of at.
+      let x = from_mapped first_in table class first at in
+      let lt : class < length job.classes.representative = omega (
+        arith,
+        slice_get_within table class x.0 x.1,
+        by.long,
+      ) in
+      let own : first_in (get_or table class OtherPart) ≡ first =
+      ap first_in (get_or_from_slice_get table class x.0 OtherPart x.1) ∙ x.2 in
+      subst (IsFirst job.circuit job.tests.tests f) own
+      (class_first job classes firsts table all known by f class lt of);
+  number = is ∙ ap (λ k. pieces_after k (map first_in table)) same;
+}
+
+-- the pieces of a class
+behind_le : (n : ℕ) (first : Option ℕ) → blocks_after n first ≤ n
+behind_le n None = omega arith
+behind_le n (Some test) = omega arith
+
+pub behind_within : (n r : ℕ) (first : Option ℕ) → r ≡ blocks_after n first → r ≤ n
+behind_within n r first is = omega (arith, is, behind_le n first)
+
+-- the classes before one leave room for its own
+pub behind_room : (n : ℕ) (table : List PartVerdict) (i : ℕ) → i < length table
+    → pieces_after n (map first_in (take i table)) + n ≤ length table * n
+behind_room n [] i lt = absurd (omega (arith, lt))
+behind_room n (x ∷ xs) zero lt = omega (arith, suc-mul (length xs) n)
+behind_room n (x ∷ xs) (suc i) lt =
+    let rest = behind_room n xs i (omega (arith, lt)) in
+    let one : pieces_after n (map first_in (take (suc i) (x ∷ xs))) ≡ blocks_after n (first_in x)
+    + pieces_after n (map first_in (take i xs)) = sum_by-cons (blocks_after n) (first_in x)
+    (map first_in (take i xs)) in
+    omega (arith, suc-mul (length xs) n, rest, one, behind_le n (first_in x))
+
+-- a product of two numbers of 32 bits has 64
+pub small_product : (a b : ℕ) → a < 2 ^ 32 → b < 2 ^ 32 → a * b < 2 ^ 64
+small_product a b small few =
+    let le : b ≤ 2 ^ 32 = omega (arith, few) in
+    let more : a * b ≤ a * 2 ^ 32 = mul-le-mul_left a le in
+    omega (arith, small, more)

@@ -1,0 +1,436 @@
+-- The results of a worker that runs a list by itself, piece by piece.
+use Rattle.std.proofs.Common.{◌≡◌, ◌≢◌, ◌<◌, ◌≤◌, ◌+◌, ◌*◌, ◌⊎◌, inl, inr, ℕ, zero, suc}
+use Rattle.std.proofs.Common.{List, [], ◌∷◌, map, length, set, All, Option, Some, None, refl}
+use Rattle.std.proofs.Common.{sym, ap, ◌∙◌, subst, arith}
+use Rattle.std.specs.Prelude.{slice_get}
+use Rattle.std.proofs.lemmas.Bool.{cases_lt}
+use Rattle.std.proofs.lemmas.Option.{get_or_from_slice_get, slice_get-get_or, slice_get_within}
+use Rattle.std.proofs.lemmas.List.{get_or-set_same, get_or-set_other, length-set}
+use Rattle.patterns.specs.Least.{Table, least, from_up, first_hit}
+use Rattle.patterns.specs.Tests.{blocks}
+use Rattle.patterns.specs.declared.Outcome.{Outcome}
+use Rattle.patterns.specs.declared.Outcome.TheVariants.{Clear, Hit}
+use Rattle.block_sim.specs.First.{IsTrueOutcome}
+use Rattle.block_sim.specs.Parts.{Parts, BelongTogether}
+use Rattle.block_sim.proofs.Public.{one_outcome, true_table}
+use Rattle.workers.specs.Schedule.{IsTableOf}
+use Rattle.workers.proofs.Public.{class_count}
+use Rattle.region_runs.specs.declared.stretch_run.Stop.{Stop}
+use Rattle.region_runs.specs.declared.stretch_run.Waiting.{Waiting}
+use Rattle.region_runs.specs.StretchRuns.{AreEarlier, AreFoundUpTo, IsEarlier, IsLowerOf, IsLowest}
+use Rattle.region_runs.specs.StretchRuns.{IsNoHigher, IsOpenBelow, IsUndetected}
+
+-- the test that an outcome of a block hits
+abbrev pub hit_at : ℕ → Outcome → Option ℕ
+hit_at block Clear = None
+hit_at block (Hit k) = Some (64 * block + k)
+
+-- a hit stays a hit with one block more
+hit_kept : (row : ℕ → Outcome) (first n t : ℕ)
+    → first_hit first (map row (from_up first n)) ≡ Some t
+    → first_hit first (map row (from_up first (suc n))) ≡ Some t
+hit_kept row first zero t is = let bad : None ≡ Some t = is in absurd (cc)
+hit_kept row first (suc n) t is = go (hit_kept row (first + 1) n t) (row first) is
+  where
+    go : (first_hit (first + 1) (map row (from_up (first + 1) n)) ≡ Some t
+        → first_hit (first + 1) (map row (from_up (first + 1) (suc n))) ≡ Some t) → (o : Outcome)
+        → first_hit first (o ∷ map row (from_up (first + 1) n)) ≡ Some t
+        → first_hit first (o ∷ map row (from_up (first + 1) (suc n))) ≡ Some t
+    go rest Clear e = rest e
+    go rest (Hit k) e = e
+
+-- if nothing is hit, one block more has its own hit
+hit_more : (row : ℕ → Outcome) (first n : ℕ) → first_hit first (map row (from_up first n)) ≡ None
+    → first_hit first (map row (from_up first (suc n))) ≡ hit_at (first + n) (row (first + n))
+hit_more row first zero is = let e : first ≡ first + 0 = omega arith in
+    subst (λ m. first_hit first (row first ∷ []) ≡ hit_at m (row m)) e (go (row first))
+  where
+    go : (o : Outcome) → first_hit first (o ∷ []) ≡ hit_at first o
+    go Clear = refl
+    go (Hit k) = refl
+hit_more row first (suc n) is = go (hit_more row (first + 1) n) (row first) is
+  where
+    go : (first_hit (first + 1) (map row (from_up (first + 1) n)) ≡ None
+        → first_hit (first + 1) (map row (from_up (first + 1) (suc n))) ≡ hit_at ((first + 1) + n)
+        (row ((first + 1) + n))) → (o : Outcome)
+        → first_hit first (o ∷ map row (from_up (first + 1) n)) ≡ None
+        → first_hit first (o ∷ map row (from_up (first + 1) (suc n))) ≡ hit_at (first + suc n)
+        (row (first + suc n))
+    go rest Clear e =
+        let same : (first + 1) + n ≡ first + suc n = omega arith in
+        subst (λ m. first_hit (first + 1) (map row (from_up (first + 1) (suc n)))
+        ≡ hit_at m (row m)) same (rest e)
+    go rest (Hit k) e = let bad : Some (64 * first + k) ≡ None = e in absurd (cc)
+
+-- a class that is hit in the first blocks is so in one more
+pub least_kept : (table : Table) (block class t : ℕ) → least table block class ≡ Some t
+    → least table (block + 1) class ≡ Some t
+least_kept table block class t is =
+    let more : suc block ≡ block + 1 = omega arith in
+    subst (λ n. least table n class ≡ Some t) more (hit_kept (table class) 0 block t is)
+
+pub least_more : (table : Table) (block class : ℕ) → least table block class ≡ None
+    → least table (block + 1) class ≡ hit_at block (table class block)
+least_more table block class none =
+    let more : suc block ≡ block + 1 = omega arith in
+    let same : 0 + block ≡ block = omega arith in
+    subst (λ n. least table n class ≡ hit_at block (table class block)) more
+    (subst (λ m. first_hit 0 (map (table class) (from_up 0 (suc block))) ≡ hit_at m (table class m))
+    same (hit_more (table class) 0 block none))
+
+-- which blocks are done
+pub done_low : (place block k : ℕ) → k < place → AreEarlier place block k (block + 1)
+done_low place block k lt = λ b. (λ l. to b l (cases_lt b block), λ e. from b e)
+  where
+    to : (b : ℕ) → b < block + 1 → (b < block) ⊎ (block ≤ b) → IsEarlier k b place block
+    to b l (inl x) = inl x
+    to b l (inr x) = inr (omega (arith, l, x), lt)
+
+    from : (b : ℕ) → IsEarlier k b place block → b < block + 1
+    from b (inl x) = omega (arith, x)
+    from b (inr x) = let e = x.0 in omega (arith, e)
+
+pub done_high : (place block k : ℕ) → place ≤ k → AreEarlier place block k block
+done_high place block k le = λ b. (λ l. inl l, λ e. from b e)
+  where
+    from : (b : ℕ) → IsEarlier k b place block → b < block
+    from b (inl x) = x
+    from b (inr x) = let low = x.1 in absurd (omega (arith, low, le))
+
+-- they are of one number
+pub one_count : (place block k n m : ℕ) → AreEarlier place block k n → AreEarlier place block k m
+    → n ≡ m
+one_count place block k n m p q = go (cases_lt n m) (cases_lt m n)
+  where
+    go : (n < m) ⊎ (m ≤ n) → (m < n) ⊎ (n ≤ m) → n ≡ m
+    go (inl lt) y = let bad = (p n).1 ((q n).0 lt) in absurd (omega (arith, bad))
+    go (inr x) (inl lt) = let bad = (q m).1 ((p m).0 lt) in absurd (omega (arith, bad))
+    go (inr x) (inr y) = omega (arith, x, y)
+
+-- at first none
+pub found_none : (job : Parts) (classes : List ℕ) (firsts : List (Option ℕ))
+    → length firsts ≡ length classes → ((k : ℕ) (first : Option ℕ) → slice_get firsts k ≡ Some first
+    → first ≡ None)
+    → AreFoundUpTo job classes 0 0 firsts
+found_none job classes firsts count none = record {
+  count = count;
+  each = λ table is k class n first ec ef up. none k first ef
+      ∙ ap (λ n. least table n class) (one_count 0 0 k 0 n (done_high 0 0 k (omega arith)) up);
+}
+
+-- after the last place the block is done
+pub found_block : (job : Parts) (classes : List ℕ) (place block : ℕ) (firsts : List (Option ℕ))
+    → length classes ≤ place → AreFoundUpTo job classes place block firsts
+    → AreFoundUpTo job classes 0 (block + 1) firsts
+found_block job classes place block firsts all was = record {
+  count = was.count;
+  each = λ table is k class n first ec ef up.
+      let lt = slice_get_within classes k class ec in
+      was.each table is k class (block + 1) first ec ef
+      (done_low place block k (omega (arith, lt, all)))
+      ∙ ap (λ n. least table n class) (one_count 0 (block + 1) k (block + 1) n
+      (done_high 0 (block + 1) k (omega arith)) up);
+}
+
+-- one place more, whose first test is known over the block too
+found_place : (job : Parts) (classes : List ℕ) (place block : ℕ) (was firsts : List (Option ℕ))
+    → length firsts ≡ length was
+    → ((k : ℕ) (first : Option ℕ) → k ≢ place → slice_get firsts k ≡ Some first
+    → slice_get was k ≡ Some first)
+    → ((table : Table) → IsTableOf job table → (class : ℕ) (first : Option ℕ)
+    → slice_get classes place ≡ Some class → slice_get firsts place ≡ Some first
+    → first ≡ least table (block + 1) class)
+    → AreFoundUpTo job classes place block was → AreFoundUpTo job classes (place + 1) block firsts
+found_place job classes place block was firsts long other here found = record {
+  count = long ∙ found.count;
+  each = λ table is k class n first ec ef up. go table is k class n first ec ef up
+      (cases_lt k place) (cases_lt place k);
+}
+  where
+    go : (table : Table) → IsTableOf job table → (k class n : ℕ) (first : Option ℕ)
+        → slice_get classes k ≡ Some class → slice_get firsts k ≡ Some first
+        → AreEarlier (place + 1) block k n
+        → (k < place) ⊎ (place ≤ k) → (place < k) ⊎ (k ≤ place)
+        → first ≡ least table n class
+    go table is k class n first ec ef up (inl x) y =
+        found.each table is k class (block + 1) first ec
+        (other k first (λ e. omega (arith, x, e)) ef) (done_low place block k x)
+        ∙ ap (λ n. least table n class) (one_count (place + 1) block k (block + 1) n
+        (done_low (place + 1) block k (omega (arith, x))) up)
+    go table is k class n first ec ef up (inr x) (inl y) =
+        found.each table is k class block first ec
+        (other k first (λ e. omega (arith, y, e)) ef) (done_high place block k x)
+        ∙ ap (λ n. least table n class) (one_count (place + 1) block k block n
+        (done_high (place + 1) block k (omega (arith, y))) up)
+    go table is k class n first ec ef up (inr x) (inr y) =
+        let same : k ≡ place = omega (arith, x, y) in
+        here table is class first (ap (slice_get classes) (sym same)
+        ∙ ec) (ap (slice_get firsts) (sym same) ∙ ef)
+        ∙ ap (λ n. least table n class) (one_count (place + 1) block k (block + 1) n
+        (done_low (place + 1) block k (omega (arith, y))) up)
+
+-- the class at a place was hit before
+pub found_known : (job : Parts) (classes : List ℕ) (place block t : ℕ) (firsts : List (Option ℕ))
+    → slice_get firsts place ≡ Some (Some t)
+    → AreFoundUpTo job classes place block firsts
+    → AreFoundUpTo job classes (place + 1) block firsts
+found_known job classes place block t firsts at was =
+    found_place job classes place block firsts firsts refl (λ k first d e. e)
+    (λ table is class first ec ef.
+    let same : first ≡ Some t = let q = sym ef ∙ at in cc in
+    let before = was.each table is place class block (Some t) ec at
+    (done_high place block place (omega arith)) in
+    same ∙ sym (least_kept table block class t (sym before)))
+    was
+
+-- the class at a place is one that no earlier block detects
+pub undetected : (job : Parts) (classes : List ℕ) (place block k class n : ℕ)
+    (firsts : List (Option ℕ)) → slice_get classes k ≡ Some class → slice_get firsts k ≡ Some None
+    → AreEarlier place block k n → AreFoundUpTo job classes place block firsts
+    → IsUndetected job class n
+undetected job classes place block k class n firsts ec ef up was =
+    λ table is. sym (was.each table is k class n None ec ef up)
+
+pub undetected_here : (job : Parts) (classes : List ℕ) (place block class : ℕ)
+    (firsts : List (Option ℕ)) → slice_get classes place ≡ Some class
+    → slice_get firsts place ≡ Some None
+    → AreFoundUpTo job classes place block firsts → IsUndetected job class block
+undetected_here job classes place block class firsts ec ef was =
+    undetected job classes place block place class block firsts ec ef
+    (done_high place block place (omega arith)) was
+
+-- its true outcome is the outcome of each true table
+pub told : (job : Parts) (table : Table) (class block : ℕ) (o : Outcome) → BelongTogether job
+    → IsTableOf job table → class < length job.classes.representative
+    → block < blocks (length job.tests.tests)
+    → IsTrueOutcome job.list.model job.circuit job.tests.tests class block o → table class block ≡ o
+told job table class block o b is lt low true_is =
+    sym (one_outcome job.list.model job.circuit job.tests.tests class block o
+    (table class block) true_is (is class block (omega (arith, lt, class_count job b)) low))
+
+-- and the block doesn't detect it
+pub found_clear : (job : Parts) (classes : List ℕ) (place block class : ℕ)
+    (firsts : List (Option ℕ)) → BelongTogether job → class < length job.classes.representative
+    → block < blocks (length job.tests.tests)
+    → slice_get classes place ≡ Some class → slice_get firsts place ≡ Some None
+    → IsTrueOutcome job.list.model job.circuit job.tests.tests class block Clear
+    → AreFoundUpTo job classes place block firsts
+    → AreFoundUpTo job classes (place + 1) block firsts
+found_clear job classes place block class firsts b lt low ec ef o was =
+    found_place job classes place block firsts firsts refl (λ k first d e. e)
+    (λ table is other first eo e1.
+    let same : other ≡ class = let q = sym eo ∙ ec in cc in
+    let none : first ≡ None = let q = sym e1 ∙ ef in cc in
+    none ∙ sym (ap (least table (block + 1)) same
+    ∙ least_more table block class
+    (undetected_here job classes place block class firsts ec ef was table is)
+    ∙ ap (hit_at block) (told job table class block Clear b is lt low o)))
+    was
+
+-- or detects it
+pub found_hit : (job : Parts) (classes : List ℕ) (place block class k : ℕ)
+    (firsts : List (Option ℕ)) → BelongTogether job → class < length job.classes.representative
+    → block < blocks (length job.tests.tests)
+    → slice_get classes place ≡ Some class → slice_get firsts place ≡ Some None
+    → IsTrueOutcome job.list.model job.circuit job.tests.tests class block (Hit k)
+    → AreFoundUpTo job classes place block firsts
+    → AreFoundUpTo job classes (place + 1) block (set firsts place (Some (64 * block + k)))
+found_hit job classes place block class n firsts b lt low ec ef o was =
+    found_place job classes place block firsts (set firsts place (Some (64 * block + n)))
+    (length-set firsts place (Some (64 * block + n)))
+    (λ k first d e.
+    let long = slice_get_within (set firsts place (Some (64 * block + n))) k first e in
+    let size = length-set firsts place (Some (64 * block + n)) in
+    slice_get-get_or firsts k first (omega (arith, long, size))
+    ∙ ap Some (sym (get_or-set_other firsts place k (Some (64 * block + n)) first d)
+    ∙ get_or_from_slice_get (set firsts place (Some (64 * block + n))) k first first e))
+    (λ table is other first eo e1.
+    let same : other ≡ class = let q = sym eo ∙ ec in cc in
+    let within = slice_get_within firsts place None ef in
+    let value : first ≡ Some (64 * block + n) =
+    sym (get_or_from_slice_get (set firsts place (Some (64 * block + n))) place first first e1)
+    ∙ get_or-set_same firsts place (Some (64 * block + n)) first within in
+    value ∙ sym (ap (least table (block + 1)) same
+    ∙ least_more table block class
+    (undetected_here job classes place block class firsts ec ef was table is)
+    ∙ ap (hit_at block) (told job table class block (Hit n) b is lt low o)))
+    was
+
+-- a class of the list is one of the job's
+pub listed_class : (job : Parts) (classes : List ℕ) (place class : ℕ)
+    → All (λ n. n < length job.classes.representative) classes
+    → slice_get classes place ≡ Some class → class < length job.classes.representative
+listed_class job classes place class all e =
+    subst (λ n. n < length job.classes.representative)
+    (get_or_from_slice_get classes place class 0 e)
+    (all place 0 (slice_get_within classes place class e))
+
+-- ---- the lowest class that waits
+
+-- of the same classes
+pub lowest_along : (P Q : ℕ → ℕ → Type 0) (lowest : Option Waiting) → ((c b : ℕ) → P c b → Q c b)
+    → ((c b : ℕ) → Q c b → P c b) → IsLowest P lowest → IsLowest Q lowest
+lowest_along P Q None to from is = λ c b q. is c b (from c b q)
+lowest_along P Q (Some w) to from is = (to w.class w.block is.0, λ c b q. is.1 c b (from c b q))
+
+-- none is no higher than a waiting class only if none waits
+lowest_none : (P : ℕ → ℕ → Type 0) (f : Option Waiting) → IsNoHigher None f → IsLowest P f
+    → (c b : ℕ) → P c b → ⊥
+lowest_none P None h p = p
+lowest_none P (Some v) h p = absurd h
+
+-- a class that is no higher than the lowest is no higher than any
+lowest_bound : (P : ℕ → ℕ → Type 0) (f : Option Waiting) (w : Waiting) → IsNoHigher (Some w) f
+    → IsLowest P f → (c b : ℕ) → P c b → w.class ≤ c
+lowest_bound P None w h p c b x = absurd (p c b x)
+lowest_bound P (Some v) w h p c b x = let m = p.1 c b x in omega (arith, h, m)
+
+lowest_holds : (P : ℕ → ℕ → Type 0) (f : Option Waiting) (w : Waiting) → Some w ≡ f
+    → IsLowest P f → P w.class w.block
+lowest_holds P f w e p = (subst (IsLowest P) (sym e) p).0
+
+-- the lowest of two kinds
+pub lowest_join : (P Q : ℕ → ℕ → Type 0) (f s lowest : Option Waiting) → IsLowest P f
+    → IsLowest Q s → IsLowerOf f s lowest → IsLowest (λ c b. P c b ⊎ Q c b) lowest
+lowest_join P Q f s None p q is = λ c b x. go c b x
+  where
+    go : (c b : ℕ) → P c b ⊎ Q c b → ⊥
+    go c b (inl x) = lowest_none P f is.1 p c b x
+    go c b (inr x) = lowest_none Q s is.2 q c b x
+lowest_join P Q f s (Some w) p q is = (either is.0, λ c b x. go c b x)
+  where
+    either : (Some w ≡ f) ⊎ (Some w ≡ s) → P w.class w.block ⊎ Q w.class w.block
+    either (inl e) = inl (lowest_holds P f w e p)
+    either (inr e) = inr (lowest_holds Q s w e q)
+
+    go : (c b : ℕ) → P c b ⊎ Q c b → w.class ≤ c
+    go c b (inl x) = lowest_bound P f w is.1 p c b x
+    go c b (inr x) = lowest_bound Q s w is.2 q c b x
+
+-- before the first place none waits
+pub open_none : (job : Parts) (classes : List ℕ) (stop : Stop)
+    → IsLowest (IsOpenBelow job classes stop 0) None
+open_none job classes stop = λ c b x. omega (arith, x.low)
+
+-- that at one place more doesn't
+pub open_same : (job : Parts) (classes : List ℕ) (stop : Stop) (place : ℕ) (lowest : Option Waiting)
+    → ((c b : ℕ) (x : IsOpenBelow job classes stop (place + 1) c b) → x.place ≡ place → ⊥)
+    → IsLowest (IsOpenBelow job classes stop place) lowest
+    → IsLowest (IsOpenBelow job classes stop (place + 1)) lowest
+open_same job classes stop place lowest none is =
+    lowest_along (IsOpenBelow job classes stop place) (IsOpenBelow job classes stop (place + 1))
+    lowest
+    (λ c b x. record {
+      place = x.place;
+      low = omega (arith, x.low);
+      at = x.at;
+      block_is = x.block_is;
+      within = x.within;
+      undetected = x.undetected;
+    })
+    (λ c b x. go c b x (cases_lt x.place place))
+    is
+  where
+    go : (c b : ℕ) (x : IsOpenBelow job classes stop (place + 1) c b)
+        → (x.place < place) ⊎ (place ≤ x.place) → IsOpenBelow job classes stop place c b
+    go c b x (inl l) = record {
+      place = x.place;
+      low = l;
+      at = x.at;
+      block_is = x.block_is;
+      within = x.within;
+      undetected = x.undetected;
+    }
+    go c b x (inr l) = let e : x.place ≡ place = omega (arith, l, x.low) in absurd (none c b x e)
+
+-- as its class was hit
+pub open_hit : (job : Parts) (classes : List ℕ) (stop : Stop) (place t : ℕ)
+    (firsts : List (Option ℕ)) (lowest : Option Waiting) → BelongTogether job
+    → AreFoundUpTo job classes stop.place stop.block firsts
+    → slice_get firsts place ≡ Some (Some t) → IsLowest (IsOpenBelow job classes stop place) lowest
+    → IsLowest (IsOpenBelow job classes stop (place + 1)) lowest
+open_hit job classes stop place t firsts lowest b found ef =
+    open_same job classes stop place lowest (λ c block x e.
+    let table = true_table job.list.model job.circuit job.tests.tests b.circuit.well_formed in
+    let hit : Some t ≡ least table.0 block c =
+    found.each table.0 table.1 x.place c block (Some t) x.at (ap (slice_get firsts) e ∙ ef)
+    x.block_is in
+    let none : least table.0 block c ≡ None = x.undetected table.0 table.1 in
+    let bad : Some t ≡ None = hit ∙ none in absurd (cc))
+
+-- as all blocks of it are done
+pub open_past : (job : Parts) (classes : List ℕ) (stop : Stop) (place block : ℕ)
+    (lowest : Option Waiting) → AreEarlier stop.place stop.block place block
+    → blocks (length job.tests.tests) ≤ block
+    → IsLowest (IsOpenBelow job classes stop place) lowest
+    → IsLowest (IsOpenBelow job classes stop (place + 1)) lowest
+open_past job classes stop place block lowest is past =
+    open_same job classes stop place lowest (λ c b x e.
+    let same : b ≡ block = one_count stop.place stop.block place b block
+    (subst (λ k. AreEarlier stop.place stop.block k b) e x.block_is) is in
+    omega (arith, same, x.within, past))
+
+-- that at one place more waits
+pub open_more : (job : Parts) (classes : List ℕ) (stop : Stop) (place class block : ℕ)
+    (firsts : List (Option ℕ)) (w : Waiting) (lowest lower : Option Waiting)
+    → AreFoundUpTo job classes stop.place stop.block firsts
+    → slice_get classes place ≡ Some class → slice_get firsts place ≡ Some None
+    → AreEarlier stop.place stop.block place block → block < blocks (length job.tests.tests)
+    → w.class ≡ class → w.block ≡ block → IsLowerOf lowest (Some w) lower
+    → IsLowest (IsOpenBelow job classes stop place) lowest
+    → IsLowest (IsOpenBelow job classes stop (place + 1)) lower
+open_more job classes stop place class block firsts w lowest lower found ec ef is low wc wb lo was =
+    lowest_along (λ c b. IsOpenBelow job classes stop place c b ⊎ Here c b)
+    (IsOpenBelow job classes stop (place + 1)) lower (λ c b x. to c b x)
+    (λ c b x. from c b x (cases_lt x.place place))
+    (lowest_join (IsOpenBelow job classes stop place) Here lowest (Some w) lower was (
+      (wc, wb),
+      λ c b x. omega (arith, wc, x.0),
+    ) lo)
+  where
+    Here : ℕ → ℕ → Type 0
+    Here c b = (c ≡ class) × (b ≡ block)
+
+    own : IsOpenBelow job classes stop (place + 1) class block
+    own = record {
+      place = place;
+      low = omega arith;
+      at = ec;
+      block_is = is;
+      within = low;
+      undetected = undetected job classes stop.place stop.block place class block firsts ec ef is
+          found;
+    }
+
+    to : (c b : ℕ) → IsOpenBelow job classes stop place c b ⊎ Here c b
+        → IsOpenBelow job classes stop (place + 1) c b
+    to c b (inl x) = record {
+      place = x.place;
+      low = omega (arith, x.low);
+      at = x.at;
+      block_is = x.block_is;
+      within = x.within;
+      undetected = x.undetected;
+    }
+    to c b (inr x) = subst (λ n. IsOpenBelow job classes stop (place + 1) n b) (sym x.0)
+        (subst (IsOpenBelow job classes stop (place + 1) class) (sym x.1) own)
+
+    from : (c b : ℕ) (x : IsOpenBelow job classes stop (place + 1) c b)
+        → (x.place < place) ⊎ (place ≤ x.place) → IsOpenBelow job classes stop place c b ⊎ Here c b
+    from c b x (inl l) = inl (record {
+      place = x.place;
+      low = l;
+      at = x.at;
+      block_is = x.block_is;
+      within = x.within;
+      undetected = x.undetected;
+    })
+    from c b x (inr l) =
+        let e : x.place ≡ place = omega (arith, l, x.low) in
+        let same : slice_get classes place ≡ Some c = ap (slice_get classes) (sym e) ∙ x.at in
+        let q : c ≡ class = let r = sym same ∙ ec in cc in
+        inr (
+          q,
+          one_count stop.place stop.block place b block
+              (subst (λ k. AreEarlier stop.place stop.block k b) e x.block_is) is,
+        )

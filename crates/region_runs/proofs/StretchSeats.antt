@@ -1,0 +1,340 @@
+-- The steps of a worker's seat with the stretches of a ledger.
+use Rattle.std.proofs.Common.{◌≡◌, ◌<◌, ◌≤◌, ◌+◌, ◌*◌, ◌-◌, inl, inr, ℕ, Bool, true, false, cond}
+use Rattle.std.proofs.Common.{List, []}
+use Rattle.std.proofs.Common.{◌∷◌, ◌++◌, length, Option, Some, None, refl, sym, ap, ◌∙◌, subst}
+use Rattle.std.proofs.Common.{arith, append_assoc, eq-eqb}
+use Rattle.std.specs.Prelude.{is_some}
+use Rattle.std.proofs.Math.Nat.{mul-zero}
+use Rattle.std.proofs.lemmas.List.Elements.{All-nil, All-push, All-weaker}
+use Rattle.patterns.specs.Tests.{blocks}
+use Rattle.patterns.specs.declared.Outcome.TheVariants as outcome
+use Rattle.block_sim.specs.Parts.{Parts}
+use Rattle.fault_ledger.specs.declared.Event.{Event}
+use Rattle.fault_ledger.specs.declared.Claim.TheVariants as claim_is
+use Rattle.fault_ledger.specs.declared.PieceState.TheVariants as state
+use Rattle.fault_ledger.specs.declared.Reply.{Reply}
+use Rattle.fault_ledger.specs.declared.Reply.TheVariants.{Claimed, Done as Accepted, Refused}
+use Rattle.fault_ledger.specs.declared.Refusal.{Refusal}
+use Rattle.fault_ledger.specs.declared.Call.TheVariants as call
+use Rattle.fault_ledger.specs.History.{History, ContinuesWithout, NoneOf, block_count, piece_at}
+use Rattle.fault_ledger.specs.History.{piece_count, claims, entry, held_by}
+use Rattle.fault_ledger.specs.Answer.{IsLegal}
+use Rattle.fault_ledger.specs.Seats.{IsSitter, Makes, Place, Sees, Sitter, Stays, newcomer}
+use Rattle.fault_ledger.proofs.Public.{claims_past, entry_past, goes_on_same, held-holds}
+use Rattle.fault_ledger.proofs.Public.{held_goes_on, legal_claims, report_answer}
+use Rattle.workers.specs.Stops.{Stops}
+use Rattle.workers.proofs.Public.{given}
+use Rattle.region_runs.specs.declared.stretch_run.Waiting.{Waiting}
+use Rattle.region_runs.specs.declared.stretch_workers.Done.{Done}
+use Rattle.region_runs.specs.StretchRuns.{IsDone}
+use Rattle.region_runs.specs.Stretches.{Accounts, AfterRun, ClaimsStretch, EachClaim}
+use Rattle.region_runs.specs.Stretches.{HasServed, IsAmong, SeesAllClaimed, Stands}
+use Rattle.region_runs.proofs.ReturnsByPart.{kept, last_of}
+
+-- ---- calls
+
+-- a claim of a piece is one of a stretch
+pub claims_stretch : (a b : Sitter) (p : Place) (class block : ℕ) → a.place ≡ p
+    → p.shape.tests ≡ 64
+    → Makes a (Event.Claim a.worker) (Claimed (claim_is.Piece class block)) b
+    → ClaimsStretch a class b
+claims_stretch a b p class block at tests m =
+    let s = a.place.shape in
+    let g = given a b class block m in
+    let seen : b.seen ≡ Event.Claim a.worker ∷ m.before = ap (λ (x : Sitter). x.seen) m.seat in
+    let held : held_by b.worker b.seen ≡ Some (claims m.before) =
+    ap (λ (x : Sitter). held_by x.worker x.seen) m.seat
+    ∙ ap (λ t. cond t (Some (claims m.before)) (held_by a.worker m.before))
+    (eq-eqb a.worker a.worker refl) in
+    let both : Some (piece_at s class block) ≡ Some (claims m.before) = sym g.0 ∙ held in
+    let piece : piece_at s class block ≡ claims m.before = cc in
+    let one : block_count s ≡ 1 = ap (λ (q : Place). blocks q.shape.tests) at ∙ ap blocks tests in
+    let low : block < block_count s = g.2 in
+    let zero : block ≡ 0 = omega (arith, low, one) in
+    let none : s.classes * block ≡ 0 = ap (λ n. s.classes * n) zero ∙ mul-zero s.classes in
+    record {
+      before = m.before;
+      place = ap (λ (x : Sitter). x.place) m.seat;
+      worker = ap (λ (x : Sitter). x.worker) m.seat;
+      newer = m.newer;
+      seen = seen;
+      legal = subst (IsLegal s) (sym seen) m.legal;
+      number = omega (arith, piece, none);
+      within = g.1;
+    }
+
+-- a claim that got Exhausted
+pub sees_all : (a b : Sitter) (r : Reply) → IsSitter a → IsSitter b → b.exhausted ≡ true
+    → (b.place ≡ a.place) × (b.worker ≡ a.worker)
+    → (a.exhausted ≡ false → Sees a true b) → (a.exhausted ≡ true
+    → Stays a (call.Claim a.worker) r b)
+    → SeesAllClaimed a b
+sees_all a b r i j ended same sees stays = go a.exhausted refl
+  where
+    all : claims b.seen ≡ piece_count a.place.shape
+    all = (j.ended ended).1 ∙ ap (λ (p : Place). piece_count p.shape) same.0
+
+    go : (t : Bool) → a.exhausted ≡ t → SeesAllClaimed a b
+    go false e = let s = sees e in record {
+      place = same.0;
+      worker = same.1;
+      newer = s.newer;
+      legal = s.legal;
+      all = all;
+    }
+    go true e = let s = (stays e).seat in record {
+      place = same.0;
+      worker = same.1;
+      newer = subst (λ (x : Sitter). ContinuesWithout a.worker x.seen a.seen) (sym s)
+          (goes_on_same a.worker a.seen);
+      legal = subst (λ (x : Sitter). IsLegal a.place.shape x.seen) (sym s) i.legal;
+      all = all;
+    }
+
+-- the stretch that was claimed is held
+pub claim_holds : (a b : Sitter) (part : ℕ) → ClaimsStretch a part b
+    → held_by b.worker b.seen ≡ Some part
+claim_holds a b part c =
+    subst (λ w. held_by w b.seen ≡ Some part) (sym c.worker)
+    (ap (held_by a.worker) c.seen
+    ∙ ap (λ t. cond t (Some (claims c.before)) (held_by a.worker c.before))
+    (eq-eqb a.worker a.worker refl) ∙ ap Some (sym c.number))
+
+-- a report of a held stretch is accepted
+pub clear_taken : (a b : Sitter) (p : ℕ) (r : Refusal) → IsSitter a
+    → held_by a.worker a.seen ≡ Some p
+    → Stays a (call.Report a.worker outcome.Clear) (Refused r) b → ⊥
+clear_taken a b p r i held s =
+    let q : Refused r ≡ Accepted = s.replied
+    ∙ report_answer a.place.shape a.seen a.worker p outcome.Clear i.among held refl in
+    absurd (cc)
+
+-- whether a class waits
+pub some_of : (x : Option Waiting) → is_some x ≡ true → (v : Waiting) × (x ≡ Some v)
+some_of None e = absurd (cc)
+some_of (Some v) e = (v, refl)
+
+pub none_of : (x : Option Waiting) → is_some x ≡ false → x ≡ None
+none_of None e = refl
+none_of (Some v) e = absurd (cc)
+
+-- ---- the results that account for claims
+
+pub claims_weaker : (H K : ℕ → Type 0) (w : ℕ) (h : History) → ((p : ℕ) → H p → K p)
+    → EachClaim H w h → EachClaim K w h
+claims_weaker H K w [] f x = tt
+claims_weaker H K w (Event.Claim u ∷ h) f x = (
+  (λ e. f (claims h) (x.0 e)),
+  claims_weaker H K w h f x.1,
+)
+claims_weaker H K w (Event.Report u o ∷ h) f x = claims_weaker H K w h f x
+claims_weaker H K w (Event.Drop u ∷ h) f x = claims_weaker H K w h f x
+
+claims_none : (H : ℕ → Type 0) (w : ℕ) (d h : History) → NoneOf w d → EachClaim H w h
+    → EachClaim H w (d ++ h)
+claims_none H w [] h n x = x
+claims_none H w (Event.Claim u ∷ d) h n x = ((λ e. absurd (n.0 e)), claims_none H w d h n.1 x)
+claims_none H w (Event.Report u o ∷ d) h n x = claims_none H w d h n.1 x
+claims_none H w (Event.Drop u ∷ d) h n x = claims_none H w d h n.1 x
+
+pub claims_go_on : (H : ℕ → Type 0) (w : ℕ) (later earlier : History)
+    → ContinuesWithout w later earlier → EachClaim H w earlier → EachClaim H w later
+claims_go_on H w later earlier c x =
+    subst (EachClaim H w) (sym c.1) (claims_none H w c.0 earlier c.2 x)
+
+-- a stretch keeps its state
+stands_on : (w part : ℕ) (x : Option Waiting) (later earlier : History)
+    → ContinuesWithout w later earlier → Stands w earlier part x → Stands w later part x
+stands_on w part None later earlier c e =
+    ap (entry part) c.1 ∙ entry_past part c.0 earlier (λ q. let bad = sym e ∙ q in absurd (cc)) ∙ e
+stands_on w part (Some v) later earlier c e = held_goes_on w later earlier c ∙ e
+
+-- of a worker that holds nothing also past its own events
+stands_past : (w part : ℕ) (x : Option Waiting) (d h : History) → held_by w h ≡ None
+    → Stands w h part x → Stands w (d ++ h) part x
+stands_past w part None d h free e =
+    entry_past part d h (λ q. let bad = sym e ∙ q in absurd (cc)) ∙ e
+stands_past w part (Some v) d h free e = let bad = sym free ∙ e in absurd (cc)
+
+-- the step of the seat after the run of a held stretch
+record Ran (b d : Sitter) (part : ℕ) (x : Option Waiting) : Type 0 where
+  pub place : d.place ≡ b.place
+  pub worker : d.worker ≡ b.worker
+  pub newer : History
+  pub seen : d.seen ≡ newer ++ b.seen
+  pub legal : IsLegal b.place.shape d.seen
+  pub stands : Stands b.worker d.seen part x
+  pub free : x ≡ None → held_by d.worker d.seen ≡ None
+
+ran : (b d : Sitter) (part : ℕ) (x : Option Waiting) → IsLegal b.place.shape b.seen
+    → held_by b.worker b.seen ≡ Some part → AfterRun b x d → Ran b d part x
+ran b d part None l held m =
+    let seen : d.seen ≡ Event.Report b.worker outcome.Clear ∷ m.before =
+    ap (λ (y : Sitter). y.seen) m.seat in
+    let still : held_by b.worker m.before ≡ Some part =
+    held_goes_on b.worker m.before b.seen m.newer ∙ held in
+    record {
+      place = ap (λ (y : Sitter). y.place) m.seat;
+      worker = ap (λ (y : Sitter). y.worker) m.seat;
+      newer = Event.Report b.worker outcome.Clear ∷ m.newer.0;
+      seen = seen ∙ ap (λ h. Event.Report b.worker outcome.Clear ∷ h) m.newer.1;
+      legal = subst (IsLegal b.place.shape) (sym seen) m.legal;
+      stands = ap (entry part) seen
+          ∙ ap (λ t. cond t state.Clear (entry part m.before))
+          (held-holds b.worker part m.before still);
+      free = λ e. ap (λ (y : Sitter). held_by y.worker y.seen) m.seat
+          ∙ ap (λ t. cond t None (held_by b.worker m.before)) (eq-eqb b.worker b.worker refl);
+    }
+ran b d part (Some v) l held same = record {
+  place = ap (λ (y : Sitter). y.place) same;
+  worker = ap (λ (y : Sitter). y.worker) same;
+  newer = [];
+  seen = ap (λ (y : Sitter). y.seen) same;
+  legal = subst (λ (y : Sitter). IsLegal b.place.shape y.seen) (sym same) l;
+  stands = ap (λ (y : Sitter). held_by b.worker y.seen) same ∙ held;
+  free = λ e. let bad : Some v ≡ None = e in absurd (cc);
+}
+
+ran_claims : (H : ℕ → Type 0) (b d : Sitter) (x : Option Waiting) → AfterRun b x d
+    → EachClaim H b.worker b.seen → EachClaim H b.worker d.seen
+ran_claims H b d None m t =
+    subst (EachClaim H b.worker) (sym (ap (λ (y : Sitter). y.seen) m.seat))
+    (claims_go_on H b.worker m.before b.seen m.newer t)
+ran_claims H b d (Some v) same t =
+    subst (λ (y : Sitter). EachClaim H b.worker y.seen) (sym same) t
+
+-- a part that is among some is among more
+among_more : (dones : List Done) (done : Done) (p : ℕ) → IsAmong dones p
+    → IsAmong (dones ++ done ∷ []) p
+among_more dones done p x = (x.0, x.1, kept dones (done ∷ []) x.0 x.1 x.2, x.3)
+
+module _ (job : Parts) (size : ℕ) (classes : List ℕ) (place : Place) (w : ℕ) (P : Type 0)
+    (S : Stops) where
+  -- a seat between two claims
+  pub record Serving (seat : Sitter) (dones : List Done) : Type 0 where
+    pub place_is : seat.place ≡ place
+    pub worker_is : seat.worker ≡ w
+    pub legal : IsLegal place.shape seat.seen
+    pub accounts : Accounts job size classes w P S seat.seen dones
+
+  pub serving_none : (a : Sitter) (dones : List Done) → a ≡ newcomer place w → dones ≡ []
+      → Serving a dones
+  serving_none a dones e empty = record {
+    place_is = ap (λ (x : Sitter). x.place) e;
+    worker_is = ap (λ (x : Sitter). x.worker) e;
+    legal = subst (λ (x : Sitter). IsLegal place.shape x.seen) (sym e) tt;
+    accounts = subst (λ (x : Sitter). Accounts job size classes w P S x.seen dones) (sym e)
+        (subst (Accounts job size classes w P S []) (sym empty) (record {
+          done = All-nil (IsDone job size classes w P S);
+          stand = All-nil (λ (d : Done). Stands w [] d.part d.waiting);
+          claimed = tt;
+        }));
+  }
+
+  -- results that account for the claims do so later, if the worker does nothing
+  pub accounts_on : (later earlier : History) (dones : List Done)
+      → ContinuesWithout w later earlier → Accounts job size classes w P S earlier dones
+      → Accounts job size classes w P S later dones
+  accounts_on later earlier dones c x = record {
+    done = x.done;
+    stand = All-weaker (λ (d : Done). Stands w earlier d.part d.waiting)
+        (λ (d : Done). Stands w later d.part d.waiting)
+        (λ d s. stands_on w d.part d.waiting later earlier c s) dones x.stand;
+    claimed = claims_go_on (IsAmong dones) w later earlier c x.claimed;
+  }
+
+  -- one stretch more
+  pub serving_more : (a b d : Sitter) (part : ℕ) (dones : List Done) (done : Done)
+      → Serving a dones → held_by a.worker a.seen ≡ None → ClaimsStretch a part b
+      → AfterRun b done.waiting d → done.part ≡ part → IsDone job size classes w P S done
+      → Serving d (dones ++ done ∷ [])
+  serving_more a b d part dones done was free c after is own =
+      let bw : b.worker ≡ w = c.worker ∙ was.worker_is in
+      let bp : b.place ≡ place = c.place ∙ was.place_is in
+      let bl : IsLegal b.place.shape b.seen =
+      subst (λ (q : Place). IsLegal q.shape b.seen) (sym c.place) c.legal in
+      let r = ran b d part done.waiting bl (claim_holds a b part c) after in
+      let af : held_by w a.seen ≡ None = subst (λ v. held_by v a.seen ≡ None) was.worker_is free in
+      let tail : History = r.newer ++ (Event.Claim a.worker ∷ c.newer.0) in
+      let all : d.seen ≡ tail ++ a.seen = r.seen ∙ ap (λ h. r.newer ++ h)
+      (c.seen ∙ ap (λ h. Event.Claim a.worker ∷ h) c.newer.1)
+      ∙ sym (append_assoc r.newer (Event.Claim a.worker ∷ c.newer.0) a.seen) in
+      let more = IsAmong (dones ++ done ∷ []) in
+      let old : EachClaim more w a.seen = claims_weaker (IsAmong dones) more w a.seen
+      (λ p x. among_more dones done p x) was.accounts.claimed in
+      let before : EachClaim more w c.before = claims_go_on more w c.before a.seen
+      (subst (λ v. ContinuesWithout v c.before a.seen) was.worker_is c.newer) old in
+      let here : more (claims c.before) = (
+        length dones,
+        done,
+        last_of dones done,
+        is ∙ c.number,
+      ) in
+      let now : EachClaim more w b.seen = subst (EachClaim more w) (sym c.seen) (
+        (λ e. here),
+        before,
+      ) in
+      record {
+        place_is = r.place ∙ bp;
+        worker_is = r.worker ∙ bw;
+        legal = subst (λ (q : Place). IsLegal q.shape d.seen) bp r.legal;
+        accounts = record {
+          done = All-push (IsDone job size classes w P S) dones done was.accounts.done own;
+          stand = All-push (λ (x : Done). Stands w d.seen x.part x.waiting) dones done
+              (All-weaker (λ (x : Done). Stands w a.seen x.part x.waiting)
+              (λ (x : Done). Stands w d.seen x.part x.waiting)
+              (λ x s. subst (λ h. Stands w h x.part x.waiting) (sym all)
+              (stands_past w x.part x.waiting tail a.seen af s)) dones was.accounts.stand)
+              (subst (λ v. Stands v d.seen done.part done.waiting) bw
+              (subst (λ n. Stands b.worker d.seen n done.waiting) (sym is) r.stands));
+          claimed = subst (λ v. EachClaim more v d.seen) bw
+              (ran_claims more b d done.waiting after
+              (subst (λ v. EachClaim more v b.seen) (sym bw) now));
+        };
+      }
+
+  -- and nothing is held after a report
+  pub serving_free : (a b d : Sitter) (part : ℕ) (x : Option Waiting) → ClaimsStretch a part b
+      → AfterRun b x d → x ≡ None → held_by d.worker d.seen ≡ None
+  serving_free a b d part x c after none =
+      (ran b d part x (subst (λ (q : Place). IsLegal q.shape b.seen) (sym c.place) c.legal)
+      (claim_holds a b part c) after).free none
+
+  -- a worker that saw all claimed
+  pub served_all : (a b : Sitter) (dones : List Done) → Serving a dones → SeesAllClaimed a b
+      → HasServed job size classes place w P S b dones
+  served_all a b dones was s = record {
+    place_is = s.place ∙ was.place_is;
+    worker_is = s.worker ∙ was.worker_is;
+    legal = subst (λ (q : Place). IsLegal q.shape b.seen) was.place_is s.legal;
+    accounts = accounts_on b.seen a.seen dones
+        (subst (λ v. ContinuesWithout v b.seen a.seen) was.worker_is s.newer) was.accounts;
+    ended = inl (s.all ∙ ap (λ (q : Place). piece_count q.shape) was.place_is);
+  }
+
+  -- a worker that was stopped
+  pub served_stopped : (d : Sitter) (dones : List Done) (done : Done) (v : Waiting)
+      → done.waiting ≡ Some v → Serving d (dones ++ done ∷ [])
+      → HasServed job size classes place w P S d (dones ++ done ∷ [])
+  served_stopped d dones done v e was = record {
+    place_is = was.place_is;
+    worker_is = was.worker_is;
+    legal = was.legal;
+    accounts = was.accounts;
+    ended = inr (length dones, done, last_of dones done, v, e);
+  }
+
+-- a stretch that was claimed leaves fewer
+pub fewer_left : (a b d : Sitter) (p : Place) (part : ℕ) (x : Option Waiting) → a.place ≡ p
+    → IsLegal p.shape d.seen → ClaimsStretch a part b → AfterRun b x d
+    → piece_count p.shape - claims d.seen < piece_count p.shape - claims a.seen
+fewer_left a b d p part x at l c after =
+    let r = ran b d part x (subst (λ (q : Place). IsLegal q.shape b.seen) (sym c.place) c.legal)
+    (claim_holds a b part c) after in
+    let most = legal_claims p.shape d.seen l in
+    let grew : claims b.seen ≡ claims c.before + 1 = ap claims c.seen in
+    let past : claims a.seen ≤ claims c.before = subst (λ h. claims a.seen ≤ claims h)
+    (sym c.newer.1) (claims_past c.newer.0 a.seen) in
+    let more : claims b.seen ≤ claims d.seen = subst (λ h. claims b.seen ≤ claims h) (sym r.seen)
+    (claims_past r.newer b.seen) in
+    omega (arith, most, grew, past, more)

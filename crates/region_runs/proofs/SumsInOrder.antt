@@ -1,0 +1,112 @@
+-- A sum over a list is the sum over the same elements in another order.
+use Rattle.std.proofs.Common.{◌≡◌, ◌≢◌, ◌<◌, ◌≤◌, ◌⊎◌, inl, inr, ℕ, zero, suc, List, [], ◌∷◌}
+use Rattle.std.proofs.Common.{set, take, length, get_or, refl, sym, ap}
+use Rattle.std.proofs.Common.{◌∙◌, arith, replicate, add-one}
+use Rattle.std.specs.List.{sum_by}
+use Rattle.std.proofs.lemmas.Bool.{cases_eq, cases_lt}
+use Rattle.std.proofs.lemmas.List.{get_or-set_same, get_or-set_other, length-set}
+use Rattle.std.proofs.lemmas.List.{take_all}
+use Rattle.std.proofs.lemmas.List.Sums.{sum_by-cons, sum_by-set, sum_by_more}
+
+module _ {X : Type 0} (f : X → ℕ) (none : X) (empty : f none ≡ 0) where
+  -- nothing adds up to 0
+  none_sum : (n : ℕ) → sum_by f (replicate n none) ≡ 0
+  none_sum zero = refl
+  none_sum (suc n) = sum_by-cons f none (replicate n none) ∙ omega (arith, empty, none_sum n)
+
+  none_long : (n : ℕ) → length (replicate n none) ≡ n
+  none_long zero = refl
+  none_long (suc n) = ap suc (none_long n)
+
+  none_at : (n i : ℕ) → get_or (replicate n none) i none ≡ none
+  none_at zero i = refl
+  none_at (suc n) zero = refl
+  none_at (suc n) (suc i) = none_at n i
+
+  -- lists with the same elements at all places are the same
+  same_lists : (xs ys : List X) → length xs ≡ length ys
+      → ((i : ℕ) → i < length xs → get_or xs i none ≡ get_or ys i none) → xs ≡ ys
+  same_lists [] [] e each = refl
+  same_lists [] (y ∷ ys) e each = absurd (omega (arith, e))
+  same_lists (x ∷ xs) [] e each = absurd (omega (arith, e))
+  same_lists (x ∷ xs) (y ∷ ys) e each =
+      let first : x ≡ y = each 0 (omega arith) in
+      let rest = same_lists xs ys (omega (arith, e)) (λ i lt. each (suc i) (omega (arith, lt))) in
+      cc
+
+  module _ (xs ys : List X) (at from : ℕ → ℕ) (long : length ys ≡ length xs)
+      (at_low : (k : ℕ) → k < length xs → at k < length ys)
+      (back : (k : ℕ) → k < length xs → from (at k) ≡ k)
+      (forth : (i : ℕ) → i < length ys → (from i < length xs) × (at (from i) ≡ i))
+      (same : (i : ℕ) → i < length ys → get_or ys i none ≡ get_or xs (from i) none) where
+    -- the second list as far as the first k elements of the first one are put into it
+    record PutSome (k : ℕ) (zs : List X) : Type 0 where
+      count : length zs ≡ length ys
+      put : (i : ℕ) → i < length ys → from i < k → get_or zs i none ≡ get_or ys i none
+      left : (i : ℕ) → i < length ys → k ≤ from i → get_or zs i none ≡ none
+      total : sum_by f zs ≡ sum_by f (take k xs)
+
+    put_all : (k : ℕ) → k ≤ length xs → (zs : List X) × PutSome k zs
+    put_all zero le = (
+      replicate (length ys) none,
+      record {
+        count = none_long (length ys);
+        put = λ i lt low. absurd (omega (arith, low));
+        left = λ i lt high. none_at (length ys) i;
+        total = none_sum (length ys);
+      },
+    )
+    put_all (suc k) le =
+        let was = put_all k (omega (arith, le)) in
+        (set was.0 (at k) (get_or xs k none), next was.0 was.1)
+      where
+        low : k < length xs
+        low = omega (arith, le)
+
+        next : (zs : List X) → PutSome k zs → PutSome (suc k) (set zs (at k) (get_or xs k none))
+        next zs was = record {
+          count = length-set zs (at k) (get_or xs k none) ∙ was.count;
+          put = λ i lt less. put i lt less (cases_eq i (at k));
+          left = λ i lt high.
+              let other : i ≢ at k = λ e. let is = ap from e ∙ back k low in
+              omega (arith, high, is) in
+              get_or-set_other zs (at k) i (get_or xs k none) none other
+              ∙ was.left i lt (omega (arith, high));
+          total =
+              let here = sum_by-set f zs (at k) (get_or xs k none) none
+              (omega (arith, at_low k low, was.count)) in
+              let gone = ap f (was.left (at k) (at_low k low)
+              (omega (arith, back k low))) ∙ empty in
+              let more = sum_by_more f xs k none low in
+              let one = ap (λ n. sum_by f (take n xs)) (add-one k) in
+              omega (arith, here, gone, more, one, was.total);
+        }
+          where
+            put : (i : ℕ) → i < length ys → from i < suc k → (i ≡ at k) ⊎ (i ≡ at k → ⊥)
+                → get_or (set zs (at k) (get_or xs k none)) i none ≡ get_or ys i none
+            put i lt less (inl e) =
+                ap (λ j. get_or (set zs (at k) (get_or xs k none)) j none) e
+                ∙ get_or-set_same zs (at k) (get_or xs k none) none
+                (omega (arith, at_low k low, was.count))
+                ∙ ap (λ j. get_or xs j none) (sym (ap from e ∙ back k low)) ∙ sym (same i lt)
+            put i lt less (inr other) =
+                get_or-set_other zs (at k) i (get_or xs k none) none other
+                ∙ was.put i lt (earlier (cases_lt (from i) k))
+              where
+                earlier : (from i < k) ⊎ (k ≤ from i) → from i < k
+                earlier (inl h) = h
+                earlier (inr h) =
+                    let is : from i ≡ k = omega (arith, h, less) in
+                    absurd (other (sym (forth i lt).1 ∙ ap at is))
+
+    pub sum_in_order : sum_by f ys ≡ sum_by f xs
+    sum_in_order =
+        let all = put_all (length xs) (omega arith) in
+        let is = same_lists all.0 ys all.1.count
+        (λ i lt. all.1.put i (omega (arith, lt, all.1.count)) (forth i (omega (
+          arith,
+          lt,
+          all.1.count,
+        ))).0) in
+        ap (sum_by f) (sym is) ∙ all.1.total
+        ∙ ap (sum_by f) (take_all (length xs) xs (omega arith))

@@ -1,0 +1,79 @@
+-- The windows of a run, one after another.
+use Rattle.std.proofs.Common.{◌≡◌, ◌<◌, ◌≤◌, ◌+◌, ◌*◌, ◌∙◌, ℕ, List, ap, arith, length, min, sym}
+use Rattle.std.proofs.lemmas.Grind.{div_ceil_times}
+use Rattle.std.proofs.Math.Nat.{le-min, min-eq_left, min-eq_right, mul-le-mul_right}
+use Rattle.std.specs.Int.{div_ceil}
+use Rattle.bench_net.specs.Scan.{sources}
+use Rattle.patterns.specs.Tests.{IsTestList, TestList}
+use Rattle.block_sim.specs.Parts.{BelongTogether, Parts, with_tests}
+use Rattle.region_runs.specs.Part.{AreAllByRegion, ArePartOf}
+
+-- windows go on by some blocks
+pub some_step : (window step : ℕ) → 0 < window → step ≡ min window 1024 → 0 < step
+some_step window step some is =
+    let low : 1 ≤ min window 1024 = le-min (omega (arith, some)) (omega arith) in
+    omega (arith, low, is)
+
+-- a window that there is begins before the last block
+pub step_within : (blocks step number : ℕ) → 0 < step → number < div_ceil blocks step
+    → number * step < blocks
+step_within blocks step number some lt =
+    let up : (number + 1) * step ≤ div_ceil blocks step * step =
+    mul-le-mul_right step (omega (arith, lt)) in
+    let high = (div_ceil_times blocks step some).1 in
+    let next : (number + 1) * step ≡ number * step + step = omega arith in
+    omega (arith, up, high, next)
+
+-- after all windows no block is left
+pub step_all : (blocks step number : ℕ) → 0 < step → div_ceil blocks step ≤ number
+    → min (number * step) blocks ≡ blocks
+step_all blocks step number some le =
+    let up : div_ceil blocks step * step ≤ number * step = mul-le-mul_right step le in
+    let low = (div_ceil_times blocks step some).0 in
+    min-eq_right (omega (arith, up, low))
+
+-- a window begins where those before it end
+pub step_first : (blocks step number : ℕ) → number * step < blocks
+    → min (number * step) blocks ≡ number * step
+step_first blocks step number lt = min-eq_left (omega (arith, lt))
+
+-- parts with other tests belong together if these fit
+pub together_with : (job : Parts) (tests : TestList) → BelongTogether job → IsTestList tests
+    → tests.width ≡ length (sources job.circuit) → BelongTogether (with_tests job tests)
+together_with job tests b list wide = record {
+  circuit = b.circuit;
+  list = b.list;
+  classes = b.classes;
+  tests = list;
+  width = wide;
+}
+
+-- the order of classes doesn't depend on the tests
+pub all_with : (job : Parts) (tests : TestList) (classes : List ℕ) → AreAllByRegion job classes
+    → AreAllByRegion (with_tests job tests) classes
+all_with job tests classes are = record {
+  visits = are.visits;
+  each = are.each;
+  all = are.all;
+  ordered = are.ordered;
+  few = are.few;
+}
+
+pub part_with : (job : Parts) (tests : TestList) (parts part : ℕ) (classes : List ℕ)
+    → ArePartOf job parts part classes → ArePartOf (with_tests job tests) parts part classes
+part_with job tests parts part classes are = record {
+  visits = are.visits;
+  each = are.each;
+  all = are.all;
+  ordered = are.ordered;
+  few = are.few;
+}
+
+-- parts that are as they were have their own tests
+pub tests_kept : (next job : Parts) → next ≡ job → next ≡ with_tests job next.tests
+tests_kept next job is = is ∙ ap (λ (j : Parts). with_tests job j.tests) (sym is)
+
+-- so have parts that took other tests
+pub tests_set : (next job : Parts) (tests : TestList) → next ≡ with_tests job tests
+    → next ≡ with_tests job next.tests
+tests_set next job tests is = is ∙ ap (λ (j : Parts). with_tests job j.tests) (sym is)

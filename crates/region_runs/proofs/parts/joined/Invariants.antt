@@ -1,0 +1,11 @@
+use Rattle.std.proofs.Common.{◌≡◌, ◌+◌, ◌*◌, ◌++◌, length}
+use Rattle.std.specs.Vec.Iter.{into_iter_items, into_iter_len}
+use Rattle.region_runs.proofs.PartsOfClasses.{FirstsUpTo}
+use Rattle.region_runs.proofs.parts.joined.Given as goal
+
+abbrev pub invariant-loop-place : goal.invariant-loop-place
+invariant-loop-place l = record {
+  order : l.yielded ++ into_iter_items l.place-iterator ≡ l.fn.table.items;
+  left : length l.yielded + into_iter_len l.place-iterator ≡ l.cut.parts;
+  found : FirstsUpTo l.job l.cut.classes.items (length l.yielded * l.cut.size) l.firsts.items;
+}

@@ -1,0 +1,55 @@
+use Rattle.std.proofs.Common.{◌≡◌, ◌∙◌, ap, arith, inl, inr, subst, sym}
+use Rattle.std.specs.Prelude.{None, Some, slice_get}
+use Rattle.std.proofs.lemmas.Bool.{cases_eq, cases_lt, false≢true}
+use Rattle.block_sim.specs.declared.origin.ListedClass.{ListedClass}
+use Rattle.region_runs.proofs.stretch_run.ask_block.Goals as goal
+
+pub loop-place-init : goal.loop-place-init
+loop-place-init g c = record {
+  within = omega arith;
+  asked = λ k row lt idle must. omega (arith, lt);
+}
+
+pub next_open-place-requires : goal.next_open-place-requires
+next_open-place-requires g c =
+    let next = c.requires.next.count in
+    let firsts = c.requires.firsts in
+    omega (arith, next, firsts, c.loop-place-test.true)
+
+pub loop-place-smaller : goal.loop-place-smaller
+loop-place-smaller g c =
+    let up = c.requires.next.following c.loop-place.place c.next_open-place.result
+    c.next_open-place.ensures in
+    omega (arith, up, c.loop-place-test.true)
+
+pub loop-place-preserved : goal.loop-place-preserved
+loop-place-preserved g c =
+    let place = c.loop-place.place in
+    let to = c.next_open-place.result in
+    let step = c.next_open-place.ensures in
+    let end = c.requires.next.within place to step in
+    let firsts = c.requires.firsts in
+    let one = c.row_at.result in
+    record {
+      within = omega (arith, end, firsts);
+      asked = λ k row lt idle must. (elim (cases_lt k place) [
+        | inl x ↦ c.loop-place.invariant.asked k row x idle must
+        | inr x ↦ elim (cases_eq k place) [
+          | inl same ↦ (let both : Some row ≡ Some one =
+              sym idle.row_is ∙ (ap (slice_get c.args.rows.now) same ∙ c.row_at.ensures) in
+              let rows : row ≡ one = cc in
+              let off = c.pass.ensures.shut (subst (λ (r : ListedClass).
+              (g.G.Gate.stops c.args.gate.now).must c.args.worker r.class c.args.block) rows
+              must) in
+              false≢true (sym off ∙ c.pass.ensures.passing c.requires.passing))
+          | inr ne ↦ (let known = c.requires.next.between place to step k
+              (omega (arith, x, ne)) lt in
+              let bad : Some None ≡ Some (Some known.0) = sym idle.unknown ∙ known.1 in
+              absurd (cc))
+        ]
+      ]);
+    }
+
+pub returns : goal.returns
+returns g c = λ k row lt.
+    c.loop-place.invariant.asked k row (omega (arith, lt, c.loop-place-test.false))

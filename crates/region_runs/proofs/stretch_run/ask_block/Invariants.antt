@@ -1,0 +1,12 @@
+use Rattle.std.proofs.Common.{◌-◌, ◌≤◌, length}
+use Rattle.region_runs.specs.BlockSweeps.{AreNotStopped}
+use Rattle.region_runs.proofs.stretch_run.ask_block.Given as goal
+
+abbrev pub invariant-loop-place : goal.invariant-loop-place
+invariant-loop-place g l = record {
+  within : l.place ≤ length l.rows;
+  asked : AreNotStopped l.rows l.firsts l.worker (g.G.Gate.stops l.gate) l.block l.place;
+}
+
+abbrev pub decreases-loop-place : goal.decreases-loop-place
+decreases-loop-place g l = length l.rows - l.place

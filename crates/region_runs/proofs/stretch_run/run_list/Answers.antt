@@ -1,0 +1,61 @@
+use Rattle.std.proofs.Common.{◌≡◌, ◌++◌, ◌∙◌, All, ap, arith, length, subst, sym}
+use Rattle.patterns.specs.Tests.{TestList, blocks}
+use Rattle.block_sim.specs.OpenPlaces.{AreNextOpen}
+use Rattle.block_sim.specs.Origins.{IsListed}
+use Rattle.region_runs.specs.BlockSweeps.{AreDeadFrom, classes_of}
+use Rattle.region_runs.specs.StretchRuns.{AreFoundUpTo, HasEnded}
+use Rattle.region_runs.proofs.DeadClasses.{has_ended, live_next, live_none}
+use Rattle.region_runs.proofs.stretch_run.run_list.Goals as goal
+
+pub run_rows-stop-requires-clause-none : goal.run_rows-stop-requires-clause-none
+run_rows-stop-requires-clause-none g c =
+    let job = c.args.job.now in
+    let live = c.split_at.result.0.now in
+    let dead = c.split_at.result.1.now in
+    live_none job c.tests.ensures.together live dead c.split_at_mut-found.result.0.now
+    c.split_at_mut-found.result.1.now c.split_at_mut-found.ensures.front_len
+    (subst (AreFoundUpTo job (classes_of (live ++ dead)) 0 0) c.split_at_mut-found.ensures.value
+    (subst (λ l. AreFoundUpTo job (classes_of l) 0 0 c.args.firsts.now)
+    c.split_at.ensures.by_index.0 c.requires.none))
+
+pub run_rows-stop-requires-clause-next : goal.run_rows-stop-requires-clause-next
+run_rows-stop-requires-clause-next g c =
+    let job = c.args.job.now in
+    let live = c.split_at.result.0.now in
+    let dead = c.split_at.result.1.now in
+    live_next job c.tests.ensures.together live dead c.split_at_mut-found.result.0.now
+    c.split_at_mut-found.result.1.now c.split_at_mut-found.ensures.front_len
+    (subst (AreFoundUpTo job (classes_of (live ++ dead)) 0 0) c.split_at_mut-found.ensures.value
+    (subst (λ l. AreFoundUpTo job (classes_of l) 0 0 c.args.firsts.now)
+    c.split_at.ensures.by_index.0 c.requires.none))
+    c.split_at_mut-open.result.0.now c.split_at_mut-open.result.1.now
+    c.split_at_mut-open.ensures.front_len
+    (subst (AreNextOpen (c.split_at_mut-found.result.0.now ++ c.split_at_mut-found.result.1.now))
+    c.split_at_mut-open.ensures.value
+    (subst (λ l. AreNextOpen l c.args.next.now) c.split_at_mut-found.ensures.value
+    c.requires.next))
+
+pub returns-clause-ended : goal.returns-clause-ended
+returns-clause-ended g c =
+    let job = c.args.job.now in
+    let rows = c.args.rows.now in
+    let live = c.split_at.result.0.now in
+    let dead = c.split_at.result.1.now in
+    let is : rows ≡ live ++ dead = c.split_at.ensures.by_index.0 in
+    let found = c.run_rows-stop.new.firsts in
+    let rest = c.split_at_mut-found.result.1.now in
+    let count = c.blocks-blocks.ensures
+    ∙ ap (λ (t : TestList). blocks (length t.tests)) c.tests.ensures.part in
+    subst (λ l. HasEnded job (classes_of l) c.args.worker (g.G.Gate.stops c.args.gate.now)
+    c.run_rows-stop.result (found ++ rest)) (sym is)
+    (has_ended job c.tests.ensures.together live dead
+    (subst (All (IsListed job)) is c.requires.rows)
+    (subst (λ l. AreDeadFrom job l (length live)) is
+    (subst (AreDeadFrom job rows) (sym c.split_at.ensures.front_len) c.live_end.ensures.dead))
+    c.split_at_mut-found.result.0.now rest c.split_at_mut-found.ensures.front_len
+    (subst (AreFoundUpTo job (classes_of (live ++ dead)) 0 0) c.split_at_mut-found.ensures.value
+    (subst (λ l. AreFoundUpTo job (classes_of l) 0 0 c.args.firsts.now) is c.requires.none))
+    c.args.worker (g.G.Gate.stops c.args.gate.now) c.run_rows-stop.result found
+    (c.run_rows-stop.ensures.passing (c.lets_all_pass.ensures c.if-not-lets_all_pass.false))
+    c.run_rows-stop.ensures.ended
+    (λ block lt. c.ask_dead.ensures block (omega (arith, lt, count))))

@@ -1,0 +1,42 @@
+use Rattle.std.proofs.Common.{◌≡◌, ◌∙◌, ◌<◌, All, ap, arith, length, subst, sym}
+use Rattle.block_sim.specs.Origins.{IsListed}
+use Rattle.region_runs.specs.StretchRuns.{AreFoundUpTo}
+use Rattle.block_sim.specs.OpenPlaces.{AreNextOpen}
+use Rattle.region_runs.specs.BlockSweeps.{classes_of}
+use Rattle.region_runs.proofs.PartsOfClasses.{stretch_within}
+use Rattle.region_runs.proofs.ClaimedStretches.{none_found}
+use Rattle.region_runs.proofs.stretch_workers.run_alone.Goals as goal
+
+pub rows_of-requires : goal.rows_of-requires
+rows_of-requires g c =
+    subst (All (λ class. class < length c.args.job.now.classes.representative))
+    (sym c.stretch-own.ensures)
+    (stretch_within c.args.job.now c.args.cut.now.size c.args.part c.args.cut.now.classes.items
+    c.requires.cut.within)
+
+pub run_list-stop-requires-clause-rows : goal.run_list-stop-requires-clause-rows
+run_list-stop-requires-clause-rows g c =
+    subst (All (IsListed c.args.job.now)) (sym c.as_slice-listed.ensures.value)
+    c.in_ok-rows.ensures.each
+
+pub run_list-stop-requires-clause-none : goal.run_list-stop-requires-clause-none
+run_list-stop-requires-clause-none g c =
+    let sized = c.in_ok-firsts.firsts.ok.0 in
+    let own = c.stretch-own.result.now in
+    let same : classes_of c.as_slice-listed.result.now ≡ own =
+    ap classes_of c.as_slice-listed.ensures.value ∙ c.in_ok-rows.ensures.same in
+    subst (λ l. AreFoundUpTo c.args.job.now l 0 0 c.as_mut_slice-found.result.now) (sym same)
+    (subst (AreFoundUpTo c.args.job.now own 0 0) (sym c.as_mut_slice-found.ensures.value)
+    (none_found c.args.job.now own c.in_ok-firsts.firsts.items (omega (
+      arith,
+      sized,
+      c.in_ok-firsts.ensures.count,
+    )) c.in_ok-firsts.ensures.none))
+
+pub run_list-stop-requires-clause-next : goal.run_list-stop-requires-clause-next
+run_list-stop-requires-clause-next g c =
+    subst (λ l. AreNextOpen l c.as_mut_slice-next.result.now)
+    (sym c.as_mut_slice-found.ensures.value)
+    (subst (AreNextOpen c.in_ok-firsts.firsts.items) (sym c.as_mut_slice-next.ensures.value)
+    (subst (λ l. AreNextOpen l c.in_ok-open.open.items) c.as_slice.ensures.value
+    c.in_ok-open.ensures))

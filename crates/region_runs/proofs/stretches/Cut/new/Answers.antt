@@ -1,0 +1,13 @@
+use Rattle.std.proofs.Common.{◌∙◌, List, ℕ, ap, length}
+use Rattle.std.specs.Int.{div_ceil}
+use Rattle.region_runs.proofs.stretches.Cut.new.Goals as goal
+
+pub returns-clause-cut : goal.returns-clause-cut
+returns-clause-cut c =
+    let count = c.count_in.ensures.count ∙ ap (λ (l : List ℕ). length l) c.as_slice.ensures.value in
+    record {
+      some = c.requires.parts;
+      size_is = c.div_ceil-size.ensures ∙ ap (λ n. div_ceil n c.args.parts) count;
+      few = c.requires.few;
+      within = c.requires.within;
+    }

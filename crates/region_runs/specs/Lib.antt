@@ -1,0 +1,11 @@
+pub mod Part
+pub mod SortedPlaces
+pub mod ClassOrder
+pub mod FaultFirsts
+pub mod StretchRuns
+pub mod Refused
+pub mod BlockSweeps
+pub mod Stretches
+pub mod ListRunners
+pub mod Windows
+pub mod WindowLedgers

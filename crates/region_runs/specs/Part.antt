@@ -1,0 +1,116 @@
+-- The parts of the classes, and the verdicts of a run over a part on each fault.
+use Rattle.std.specs.Prelude.{◌≡◌, ◌≢◌, ◌⊎◌, ◌<◌, ◌≤◌, ⊤, ℕ, ◌%◌, ◌*◌, max, List, length, take}
+use Rattle.std.specs.Prelude.{drop}
+use Rattle.std.specs.Prelude.{slice_get, Option, Some, None, slice_index_or, min, nat_lt}
+use Rattle.std.specs.Prelude.{if◌then◌else◌}
+use Rattle.std.specs.Int.{div_ceil}
+use Rattle.fault_model.specs.Fault.{Fault, faults}
+use Rattle.block_sim.specs.First.{IsFirst}
+use Rattle.block_sim.specs.Parts.{Parts}
+use Rattle.block_sim.specs.Regions.{IsStemOfClass}
+use Rattle.region_runs.specs.declared.parts.PartVerdict.{PartVerdict}
+use Rattle.region_runs.specs.declared.parts.PartVerdict.TheVariants.{First, OtherPart}
+
+-- the class is in this part, for this number of parts: the number of its region's stem modulo the
+-- number of parts is the part
+abbrev pub IsOfPart : Parts → ℕ → ℕ → ℕ → Type 0
+IsOfPart job parts part class = (stem : ℕ)
+    × IsStemOfClass job.list.model job.circuit class stem × (part ≡ stem % parts)
+
+-- each class is in exactly one part
+abbrev pub IsInOnePart : Parts → ℕ → ℕ → Type 0
+IsInOnePart job parts class = (part : ℕ) × (part < parts) × IsOfPart job parts part class
+    × ((other : ℕ) → IsOfPart job parts other class → other ≡ part)
+
+-- one class comes before another: by the visits to the stems of their regions, then by the numbers
+-- of these, and in a region by its own number
+abbrev pub ComesBefore : Parts → List ℕ → ℕ → ℕ → Type 0
+ComesBefore job visits first second = (r q : ℕ)
+    → IsStemOfClass job.list.model job.circuit first r
+    → IsStemOfClass job.list.model job.circuit second q
+    → (slice_index_or visits r 0 < slice_index_or visits q 0)
+    ⊎ ((slice_index_or visits r 0 ≡ slice_index_or visits q 0)
+    × ((r < q) ⊎ ((r ≡ q) × (first < second))))
+
+-- The classes of a job with a property, region by region. Each of the list has it, and each class
+-- that has it is in the list. Each comes before the later ones by some visits to the stems, so it
+-- stands there once, and the classes of one region are adjacent. So they are no more than the
+-- job's.
+pub record AreByRegion (job : Parts) (Holds : ℕ → Type 0) (classes : List ℕ) : Type 0 where
+  pub visits : List ℕ
+  pub each : (k class : ℕ) → slice_get classes k ≡ Some class
+      → (class < length job.classes.representative) × Holds class
+  pub all : (class : ℕ) → class < length job.classes.representative
+      → Holds class → (k : ℕ) × (slice_get classes k ≡ Some class)
+  pub ordered : (i k first second : ℕ) → i < k → slice_get classes i ≡ Some first
+      → slice_get classes k ≡ Some second → ComesBefore job visits first second
+  pub few : length classes ≤ length job.classes.representative
+
+-- the classes of a part, for this number of parts
+abbrev pub ArePartOf : Parts → ℕ → ℕ → List ℕ → Type 0
+ArePartOf job parts part classes = AreByRegion job (IsOfPart job parts part) classes
+
+-- all classes
+abbrev pub AreAllByRegion : Parts → List ℕ → Type 0
+AreAllByRegion job classes = AreByRegion job (λ class. ⊤) classes
+
+-- The number of classes of a stretch, if `count` classes are cut into stretches of one size, as
+-- small as possible. The last stretches have fewer, or none.
+abbrev pub stretch_size : ℕ → ℕ → ℕ
+stretch_size count parts = div_ceil count parts
+
+-- The number of stretches in which workers run classes. One worker runs one stretch. Several run
+-- four for each of up to 64 workers, but no more than there are classes and at least one.
+abbrev pub stretches_for : ℕ → ℕ → ℕ
+stretches_for classes workers =
+    if nat_lt workers 2 then 1 else max (min (4 * min workers 64) classes) 1
+
+-- the number of parts in which workers run a job if none is given
+abbrev pub parts_for : Parts → ℕ → ℕ
+parts_for job workers = stretches_for (length job.classes.representative) workers
+
+-- the classes of a stretch, counted from 0, of a list that is cut into stretches of this size
+abbrev pub stretch : ℕ → List ℕ → ℕ → List ℕ
+stretch size classes k = take size (drop (k * size) classes)
+
+-- the number of stretches of this size that have a class, the first ones
+abbrev pub stretch_count : ℕ → List ℕ → ℕ
+stretch_count size classes = div_ceil (length classes) (max size 1)
+
+-- The verdict on a class by the first tests of the classes of a list, up to some place: the class's
+-- first test, or another part if the class is not in the list.
+abbrev pub IsClassVerdict : List ℕ → List (Option ℕ) → ℕ → ℕ → Option PartVerdict → Type 0
+IsClassVerdict classes firsts n class verdict =
+    ((k : ℕ) × (first : Option ℕ) × (k < n) × (slice_get classes k ≡ Some class)
+    × (slice_get firsts k ≡ Some first) × (verdict ≡ Some (First first)))
+    ⊎ (((k : ℕ) → k < n → slice_get classes k ≢ Some class) × (verdict ≡ Some OtherPart))
+
+-- the verdicts on the first `count` classes
+pub record AreClassVerdicts (count : ℕ) (classes : List ℕ) (firsts : List (Option ℕ)) (n : ℕ)
+    (verdicts : List PartVerdict) : Type 0 where
+  pub long : length verdicts ≡ count
+  pub each : (class : ℕ) → class < count
+      → IsClassVerdict classes firsts n class (slice_get verdicts class)
+
+-- the first test in a verdict, none in one of another part
+abbrev pub first_in : PartVerdict → Option ℕ
+first_in (First first) = first
+first_in OtherPart = None
+
+-- the verdict on a fault of a class: its first test if the class is in the part
+abbrev pub IsPartVerdict : Parts → ℕ → ℕ → ℕ → Fault → PartVerdict → Type 0
+IsPartVerdict job parts part class f (First first) =
+    IsOfPart job parts part class × IsFirst job.circuit job.tests.tests f first
+IsPartVerdict job parts part class f OtherPart = ¬ IsOfPart job parts part class
+
+-- The verdicts of a run over a part on all faults of the uncollapsed list. A fault of one of its
+-- classes has the first test that detects it, or none if no test does. Each other fault is in
+-- another part.
+pub record ArePartVerdicts (job : Parts) (parts part : ℕ)
+    (verdicts : List PartVerdict) : Type 0 where
+  pub count : length verdicts ≡ length (faults job.list.model job.circuit)
+  pub each : (i class : ℕ) (f : Fault) (verdict : PartVerdict)
+      → slice_get (faults job.list.model job.circuit) i ≡ Some f
+      → slice_get job.classes.class_of i ≡ Some class
+      → slice_get verdicts i ≡ Some verdict
+      → IsPartVerdict job parts part class f verdict

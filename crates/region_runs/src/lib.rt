@@ -1,0 +1,33 @@
+//! Runs of a job region by region, and their verdicts.
+//!
+//! The classes of a job are listed region by region and cut into stretches. One worker simulates a
+//! stretch by itself, block after block, and skips a class that an earlier block detects. Workers
+//! claim the stretches at a ledger of the crate `fault_ledger`. The verdicts are the first tests,
+//! as in a run by pieces ([`workers::run`]). They depend neither on the stretches nor on the order
+//! of the workers.
+//!
+//! [`run_in_parts`] runs all classes in some number of stretches, and [`run_open`] in a number that
+//! suits the workers. [`run_part`] runs the classes of one part of a run that several machines
+//! share. [`run_in_windows`] and [`run_part_in_windows`] do so on some blocks at a time. A
+//! [`ListRunner`] runs lists of classes in its caller's thread.
+#![tactic(auto)]
+
+mod class_order;
+mod counting_sort;
+mod fault_firsts;
+mod list_runner;
+mod open_classes;
+mod open_run;
+mod parts;
+mod stretch_run;
+mod stretch_workers;
+mod stretches;
+mod windows;
+
+pub use list_runner::ListRunner;
+pub use open_run::run_open;
+pub use parts::{
+    LedgerRun, PartVerdict, in_one_part, part_of, run_in_parts, run_over_ledger, run_part,
+};
+pub use stretches::parts_for;
+pub use windows::{run_in_windows, run_part_in_windows, window_blocks, without_first};

@@ -1,0 +1,536 @@
+//! Runs over a part of the classes, and over all parts.
+
+ghost use Rattle.std.specs.Prelude.{◌≡◌, ◌⊎◌, ◌<◌, ◌≤◌, ◌^◌, ℕ, All, IfErr, IfOk, List};
+ghost use Rattle.std.specs.Prelude.{OnOk, Some, length, map, slice_index_or, vec_len};
+ghost use Rattle.patterns.specs.Tests.{blocks, max_pieces};
+ghost use Rattle.block_sim.specs.Parts.{BelongTogether, Parts};
+ghost use Rattle.fault_ledger.specs.Seats.{ClosedFace, Closes, Sitter, newcomers};
+ghost use Rattle.workers.specs.Verdict.{AreAfterHits, AreClassFirsts, AreFirsts};
+ghost use Rattle.workers.specs.Verdict.{blocks_after, pieces_after};
+ghost use Rattle.region_runs.specs.StretchRuns.{AreAllFound, AreAllLowest, AreGivenBack, ArePut};
+ghost use Rattle.region_runs.specs.StretchRuns.{IsLowest, IsLowestAt, IsLowestIn, WaitsIn, run_at};
+ghost use Rattle.region_runs.specs.StretchRuns.{runs_from};
+ghost use Rattle.region_runs.specs.Part.{AreClassVerdicts, ArePartVerdicts, IsInOnePart};
+ghost use Rattle.region_runs.specs.Part.{IsOfPart, first_in, stretch, stretch_count};
+ghost use Rattle.region_runs.specs.ClassOrder.{IsCutOf};
+ghost use Rattle.region_runs.specs.Refused.{ArePartsWithin, IsPartFault, IsPartsFault};
+ghost use Rattle.region_runs.specs.Refused.{IsPartWithin};
+ghost use Rattle.region_runs.specs.Refused.{IsStretchesFault};
+ghost use Rattle.region_runs.specs.Stretches.{AreApart, AreOfStretches, AreShared};
+ghost use Rattle.region_runs.specs.Stretches.{IsOfStretches, IsPartOfStretches, crew_of};
+ghost use Rattle.region_runs.specs.Stretches.{shape_of_stretches};
+
+use crate::class_order::{ClassOrder, class_order, part_classes};
+use crate::fault_firsts::{OrderedFirsts, verdicts_in};
+use crate::stretch_run::{Waiting, lower_of};
+use crate::stretch_workers::{Done, Served, empty_table, not_begun, take_parts};
+use crate::stretches::{Cut, filled, stretches_for};
+use block_sim::Job;
+use fault_ledger::{Closed, Finish, Seat, SharedLedger};
+use patterns::BLOCK_SIZE;
+use std::alloc::{AllocError, Global};
+use std::sync::Wait;
+use std::thread::Threads;
+use workers::{Gate, RunFault, Verdicts, check_pieces, check_workers, count_in};
+
+/// The verdict of a run over a part of the classes for a fault.
+#[derive(Clone, Copy, Debug, PartialEq, Eq)]
+pub enum PartVerdict {
+    /// The first test that detects the fault, counted from 0, or none if no test does.
+    First(Option<u32>),
+    /// The fault is in another part.
+    OtherPart,
+}
+
+/// Returns the part of a class, counted from 0, for this number of parts: the number of its
+/// region's stem ([`Job::stem_of_class`]) modulo the number of parts. So the classes of one region
+/// are in one part.
+pub fn part_of(job: &Job, class: u32, parts: u32) -> u32
+    requires class { class < length job.now.classes.representative }
+    requires parts { 0 < parts }
+    ensures part { IsOfPart job.now parts result class }
+    ensures within { result < parts }
+{
+    job.stem_of_class(class) % parts
+}
+
+/// States the law of the parts: each class is in exactly one.
+pub fn in_one_part()
+    ensures { (job : Parts) (parts class : ℕ) → BelongTogether job → 0 < parts
+        → class < length job.classes.representative → IsInOnePart job parts class }
+{}
+
+/// Returns the verdict of each class, by its number, from the first tests of the classes of a list.
+pub(crate) fn by_class(
+    alloc: Global,
+    count: u32,
+    classes: &[u32],
+    firsts: &[Option<u32>],
+) -> Result<Vec<PartVerdict>, AllocError>
+    requires within { All (λ class. class < count) classes.now }
+    requires same { length firsts.now ≡ length classes.now }
+    ensures { IfOk result (λ verdicts. AreClassVerdicts count classes.now firsts.now
+        (length classes.now) verdicts.items) }
+{
+    let mut verdicts = vec![in alloc; PartVerdict::OtherPart; count as usize]?;
+    for place in 0..classes.len() {
+        verdicts[classes[place] as usize] = PartVerdict::First(firsts[place]);
+    }
+    Ok(verdicts)
+}
+
+/// Returns the verdict of each fault, which is the verdict of its class.
+pub(crate) fn of_faults(
+    alloc: Global,
+    job: &Job,
+    by_class: &[PartVerdict],
+) -> Result<Vec<PartVerdict>, AllocError>
+    requires { length by_class.now ≡ length job.now.classes.representative }
+    ensures { IfOk result (λ verdicts. verdicts.items
+        ≡ map (λ class. slice_index_or by_class.now class PartVerdict.OtherPart)
+        job.now.classes.class_of) }
+{
+    let classes = job.classes();
+    let mut verdicts = Vec::with_capacity(alloc, job.faults().count() as usize)?;
+    for fault in 0..job.faults().count() {
+        verdicts.push(verdict_on(by_class, classes.class_of(fault)))?;
+    }
+    Ok(verdicts)
+}
+
+/// Returns the verdict of a class, from the verdicts of all classes.
+pub(crate) fn verdict_on(by_class: &[PartVerdict], class: u32) -> PartVerdict
+    ensures { result ≡ slice_index_or by_class.now class PartVerdict.OtherPart }
+{
+    match by_class.get(class as usize) {
+        Some(verdict) => *verdict,
+        None => PartVerdict::OtherPart,
+    }
+}
+
+/// Returns the first test of each fault, which is the first test of its class.
+pub(crate) fn firsts_of_faults(
+    alloc: Global,
+    job: &Job,
+    by_class: &[PartVerdict],
+) -> Result<Vec<Option<u32>>, AllocError>
+    ensures firsts { IfOk result (λ firsts. firsts.items
+        ≡ map (λ class. first_in (slice_index_or by_class.now class PartVerdict.OtherPart))
+        job.now.classes.class_of) }
+    ensures few { IfOk result (λ firsts. length firsts.items < 2 ^ 32) }
+{
+    let classes = job.classes();
+    let mut firsts = Vec::with_capacity(alloc, job.faults().count() as usize)?;
+    for fault in 0..job.faults().count() {
+        firsts.push(first_in(verdict_on(by_class, classes.class_of(fault))))?;
+    }
+    Ok(firsts)
+}
+
+/// Returns the first test in a verdict; none if the fault is in another part.
+pub(crate) fn first_in(verdict: PartVerdict) -> Option<u32>
+    ensures { result ≡ first_in verdict }
+{
+    match verdict {
+        PartVerdict::First(first) => first,
+        PartVerdict::OtherPart => None,
+    }
+}
+
+/// Runs the classes of a part, counted from 0, of this number of parts, as [`run_in_parts`] runs
+/// all: in a number of stretches that suits the workers. Returns for each fault of the uncollapsed
+/// list the first test that detects it, or none, if its class is in the part. Any other fault is in
+/// another part.
+///
+/// # Errors
+///
+/// The errors of [`run_in_parts`], but the limit of [`patterns::MAX_PIECES`] pieces applies to the
+/// part, and not to its stretches.
+pub fn run_part<G: Gate + Sync, R: Threads + Wait>(
+    rt: &R,
+    alloc: Global,
+    job: &Job,
+    part: u32,
+    parts: u32,
+    workers: u32,
+    gate: &G,
+) -> Result<Vec<PartVerdict>, RunFault>
+    requires { part < parts }
+    ensures verdicts { IfOk result (λ verdicts.
+        ArePartVerdicts job.now parts part verdicts.items) }
+    ensures workers { OnOk result ((0 < workers) × (workers ≤ 64)) }
+    ensures within { OnOk result (IsPartWithin job.now parts part) }
+    ensures stretches { IfOk result (λ verdicts. (ledger : ClosedFace)
+        × IsPartOfStretches job.now parts part workers verdicts.items ledger) }
+    ensures refused { IfErr result (IsPartFault job.now parts part workers
+        (G.passing gate.now) (G.stops gate.now)) }
+{
+    check_workers(workers)?;
+    let own = part_classes(alloc, job, part, parts)?;
+    let few = count_in(job, own.as_slice());
+    check_pieces(job, few)?;
+    let cut = Cut::new(job, own, stretches_for(few, workers));
+    let gathered = gather(rt, alloc, job, &cut, workers, gate)?;
+    let count = job.classes().count();
+    let found = gathered.firsts.as_slice();
+    let table = by_class(alloc, count, cut.classes.as_slice(), found)?;
+    let verdicts = of_faults(alloc, job, table.as_slice())?;
+    Ok(verdicts)
+}
+
+/// Runs all classes of a job in parts, by workers in threads of their own, numbered from 0, at most
+/// one for each part. A worker claims a part at a ledger that all share, which has a piece for each
+/// part with a class. It simulates the part by itself, reports it, and goes on to the next. It
+/// simulates the part's classes block after block, and skips a class that an earlier block detects.
+/// The verdicts are the first tests, for every number of parts and of workers, in whatever order
+/// the workers run. The skipped pieces are the pieces after the first hits.
+///
+/// A part is here a stretch of the list of all classes, region by region in the order of the
+/// visits. So the data that a worker reads for one region are near to the data for the next. With n
+/// classes a stretch has n divided by the number of parts, rounded up; the last ones have fewer, or
+/// none. The parts of [`run_part`] instead depend on the stems, by a rule that a part file names,
+/// so that other machines make the same parts.
+///
+/// # Errors
+///
+/// [`RunFault::NoWorkers`]; [`RunFault::TooManyWorkers`] above 64 workers;
+/// [`RunFault::TooManyPieces`] if a stretch has more than [`patterns::MAX_PIECES`] pieces.
+/// [`RunFault::Memory`] or [`RunFault::Threads`] if memory runs out or a thread doesn't start,
+/// after the started threads are joined.
+///
+/// A worker that the gate stops ends, and if it stops all of them, some parts may never begin. If
+/// not all classes are settled, the error is [`RunFault::Unfinished`]. It names the lowest
+/// unsettled class, by the job's number, and the block that it waits for.
+pub fn run_in_parts<G: Gate + Sync, R: Threads + Wait>(
+    rt: &R,
+    alloc: Global,
+    job: &Job,
+    parts: u32,
+    workers: u32,
+    gate: &G,
+) -> Result<Verdicts, RunFault>
+    requires { 0 < parts }
+    ensures firsts { IfOk result (λ v.
+        AreFirsts job.now.list.model job.now.circuit job.now.tests.tests v.firsts) }
+    ensures skipped { IfOk result (λ v. AreAfterHits job.now v.skipped) }
+    ensures workers { OnOk result ((0 < workers) × (workers ≤ 64)) }
+    ensures within { OnOk result (ArePartsWithin job.now parts) }
+    ensures stretches { IfOk result (λ v. (ledger : ClosedFace)
+        × IsOfStretches job.now parts workers v ledger) }
+    ensures refused { IfErr result (IsPartsFault job.now parts workers (G.passing gate.now)
+        (G.stops gate.now)) }
+{
+    let run = run_over_ledger(rt, alloc, job, parts, workers, gate)?;
+    let LedgerRun {
+        verdicts,
+        ledger: _ledger,
+    } = run;
+    Ok(verdicts)
+}
+
+/// The result of a run in parts: the verdicts, and the closed ledger that handed out the parts.
+#[derive(Drop)]
+pub struct LedgerRun {
+    /// The verdicts.
+    pub verdicts: Verdicts,
+    /// The ledger, whose classes are the parts that have a class of the job, each with one block. A
+    /// part is Clear in it once all its classes are settled.
+    pub ledger: Closed,
+}
+
+/// Runs all classes of a job as [`run_in_parts`] does, and returns the closed ledger of the parts
+/// beside the verdicts. The ledger shows a finished history, in which each report stands for a part
+/// whose classes have these first tests.
+///
+/// # Errors
+///
+/// The errors of [`run_in_parts`].
+pub fn run_over_ledger<G: Gate + Sync, R: Threads + Wait>(
+    rt: &R,
+    alloc: Global,
+    job: &Job,
+    parts: u32,
+    workers: u32,
+    gate: &G,
+) -> Result<LedgerRun, RunFault>
+    requires { 0 < parts }
+    ensures firsts { IfOk result (λ run.
+        AreFirsts job.now.list.model job.now.circuit job.now.tests.tests run.verdicts.firsts) }
+    ensures skipped { IfOk result (λ run. AreAfterHits job.now run.verdicts.skipped) }
+    ensures workers { OnOk result ((0 < workers) × (workers ≤ 64)) }
+    ensures within { OnOk result (ArePartsWithin job.now parts) }
+    ensures stretches { IfOk result (λ run.
+        IsOfStretches job.now parts workers run.verdicts run.ledger) }
+    ensures refused { IfErr result (IsPartsFault job.now parts workers (G.passing gate.now)
+        (G.stops gate.now)) }
+{
+    check_workers(workers)?;
+    let count = job.classes().count();
+    check_pieces(job, count.div_ceil(parts))?;
+    let order = class_order(alloc, job)?;
+    let ClassOrder { classes, positions } = order;
+    let cut = Cut::new(job, classes, parts);
+    let gathered = gather(rt, alloc, job, &cut, workers, gate)?;
+    let Gathered { firsts, ledger } = gathered;
+    let ordered = OrderedFirsts { positions, firsts };
+    let verdicts = verdicts_in(rt, alloc, job, &ordered, workers)?;
+    Ok(LedgerRun { verdicts, ledger })
+}
+
+/// Returns the number of pieces after the first hits of all classes.
+pub(crate) fn skipped_after(by_class: &[PartVerdict], blocks: u32) -> u64
+    requires { length by_class.now < 2 ^ 32 }
+    ensures { result ≡ pieces_after blocks (map first_in by_class.now) }
+{
+    let mut skipped = 0;
+    for verdict in by_class {
+        let more = blocks_after(*verdict, blocks);
+        skipped += u64::from(more);
+    }
+    skipped
+}
+
+/// Returns the number of blocks after the block of a first hit, none if no test detects.
+fn blocks_after(verdict: PartVerdict, blocks: u32) -> u32
+    ensures { result ≡ blocks_after blocks (first_in verdict) }
+{
+    match verdict {
+        PartVerdict::First(Some(test)) => blocks.saturating_sub(test / 64 + 1),
+        PartVerdict::First(None) | PartVerdict::OtherPart => 0,
+    }
+}
+
+/// Puts the results of a worker at the places of its parts.
+fn put_by_part(table: Vec<Option<Done>>, dones: Vec<Done>) -> Vec<Option<Done>>
+    ensures { ArePut table.items dones.items result.items }
+{
+    let mut table = table;
+    for done in dones {
+        let part = done.part as usize;
+        if part < table.len() {
+            table[part] = Some(done);
+        }
+    }
+    table
+}
+
+/// Returns the results of all workers, by part.
+fn table_of(
+    alloc: Global,
+    parts: u32,
+    back: Vec<Vec<Done>>,
+) -> Result<Vec<Option<Done>>, AllocError>
+    ensures { IfOk result (λ table. AreGivenBack parts back.items table.items) }
+{
+    let mut table = empty_table(alloc, parts)?;
+    for dones in back {
+        table = put_by_part(table, dones);
+    }
+    Ok(table)
+}
+
+/// Joins the first tests of the classes of all stretches.
+fn joined(
+    alloc: Global,
+    job: &Job,
+    cut: &Cut,
+    table: Vec<Option<Done>>,
+) -> Result<Vec<Option<u32>>, AllocError>
+    requires cut { IsCutOf job.now cut.now.parts cut.now.size cut.now.classes.items }
+    requires count { vec_len table ≡ cut.now.parts }
+    requires found { AreAllFound job.now cut.now.size cut.now.classes.items table.items }
+    ensures { IfOk result (λ found. AreClassFirsts job.now.list.model job.now.circuit
+        job.now.tests.tests cut.now.classes.items found.items) }
+{
+    let mut firsts = Vec::with_capacity(alloc, cut.classes.len())?;
+    for place in table {
+        match place {
+            Some(done) => firsts.extend_from_slice(done.firsts.as_slice())?,
+            None => {}
+        }
+    }
+    Ok(firsts)
+}
+
+/// Returns the lowest unsettled class of a stretch, from its entry in the table. An empty entry is
+/// a stretch that no worker began.
+fn waiting_in(
+    alloc: Global,
+    job: &Job,
+    cut: &Cut,
+    part: u32,
+    place: Option<Done>,
+) -> Result<Option<Waiting>, AllocError>
+    requires { IsLowestAt job.now (stretch cut.now.size cut.now.classes.items part) place }
+    ensures { IfOk result (IsLowestIn job.now
+        (run_at (stretch cut.now.size cut.now.classes.items part) place)) }
+{
+    match place {
+        Some(done) => Ok(done.waiting),
+        None => not_begun(alloc, job, cut, part),
+    }
+}
+
+/// Returns the lowest unsettled class of all stretches.
+fn lowest_waiting(
+    alloc: Global,
+    job: &Job,
+    cut: &Cut,
+    table: Vec<Option<Done>>,
+) -> Result<Option<Waiting>, AllocError>
+    requires count { vec_len table ≡ cut.now.parts }
+    requires lowest { AreAllLowest job.now cut.now.size cut.now.classes.items table.items }
+    ensures { IfOk result (IsLowest (WaitsIn job.now
+        (runs_from cut.now.size cut.now.classes.items 0 table.items))) }
+{
+    let mut lowest = None;
+    let mut part = 0;
+    for place in table {
+        let waiting = waiting_in(alloc, job, cut, part, place)?;
+        lowest = lower_of(lowest, waiting);
+        part += 1;
+    }
+    Ok(lowest)
+}
+
+/// The seats of workers and the results of each.
+#[derive(Drop)]
+struct Returned {
+    seats: Vec<Seat>,
+    dones: Vec<Vec<Done>>,
+}
+
+/// Separates the seats that came back from the results of their workers.
+fn set_apart(alloc: Global, back: Vec<Result<Served, AllocError>>) -> Result<Returned, AllocError>
+    ensures { IfOk result (λ returned.
+        AreApart back.items returned.seats.items returned.dones.items) }
+{
+    let mut seats = Vec::with_capacity(alloc, back.len())?;
+    let mut dones = Vec::with_capacity(alloc, back.len())?;
+    for one in back {
+        let served = one?;
+        seats.push(served.seat)?;
+        dones.push(served.dones)?;
+    }
+    Ok(Returned { seats, dones })
+}
+
+/// A closed ledger of stretches, and the results of each of its workers.
+#[derive(Drop)]
+struct Handed {
+    ledger: Closed,
+    dones: Vec<Vec<Done>>,
+}
+
+/// Closes a ledger with the results of its workers.
+fn close_over(
+    alloc: Global,
+    ledger: SharedLedger,
+    back: Vec<Result<Served, AllocError>>,
+) -> Result<Handed, RunFault>
+    requires some { 0 < length back.items }
+    requires places { All (λ one. IfOk one (λ served. served.seat.place ≡ ledger)) back.items }
+    ensures closed { IfOk result (λ handed. (seats : List Sitter)
+        × AreApart back.items seats handed.dones.items
+        × Closes ledger.shape seats handed.ledger) }
+    ensures refused { IfErr result (λ fault. fault ≡ RunFault.Memory) }
+{
+    let returned = set_apart(alloc, back)?;
+    let Returned { seats, dones } = returned;
+    match ledger.close(alloc, seats) {
+        Ok(ledger) => Ok(Handed { ledger, dones }),
+        Err(_) => Err(RunFault::Memory),
+    }
+}
+
+/// Makes a shared ledger of this number of stretches, and the seats of its workers. A job has no
+/// more classes than a ledger may have pieces, so only memory can make it fail.
+fn ledger_of(
+    alloc: Global,
+    stretches: u32,
+    workers: u32,
+) -> Result<(SharedLedger, Vec<Seat>), RunFault>
+    requires workers { (0 < workers) × (workers ≤ 64) }
+    requires few { stretches ≤ max_pieces }
+    ensures ledger { IfOk result (λ made.
+        made.0.shape ≡ shape_of_stretches stretches workers) }
+    ensures seats { IfOk result (λ made. made.1.items ≡ newcomers made.0) }
+    ensures refused { IfErr result (λ fault. fault ≡ RunFault.Memory) }
+{
+    match SharedLedger::new(alloc, stretches, BLOCK_SIZE, workers) {
+        Ok(made) => Ok(made),
+        Err(_) => Err(RunFault::Memory),
+    }
+}
+
+/// Lets workers claim stretches at a shared ledger and simulate them, in threads of their own.
+/// Returns the closed ledger and the results of each worker.
+fn hand_out<G: Gate + Sync, R: Threads + Wait>(
+    rt: &R,
+    alloc: Global,
+    job: &Job,
+    cut: &Cut,
+    workers: u32,
+    gate: &G,
+) -> Result<Handed, RunFault>
+    requires cut { IsCutOf job.now cut.now.parts cut.now.size cut.now.classes.items }
+    requires workers { (0 < workers) × (workers ≤ 64) }
+    ensures shared { IfOk result (λ handed.
+        let stretches = stretch_count cut.now.size cut.now.classes.items in
+        AreShared job.now cut.now.size cut.now.classes.items
+        (shape_of_stretches stretches (crew_of workers stretches)) (G.passing gate.now)
+        (G.stops gate.now) handed.dones.items handed.ledger) }
+    ensures refused { IfErr result (λ fault.
+        (fault ≡ RunFault.Memory) ⊎ (fault ≡ RunFault.Threads)) }
+{
+    let stretches = filled(job, cut);
+    let crew = workers.min(stretches).max(1);
+    let (ledger, seats) = ledger_of(alloc, stretches, crew)?;
+    let back = take_parts(rt, alloc, job, cut, &ledger, gate, seats)?;
+    let handed = close_over(alloc, ledger, back)?;
+    Ok(handed)
+}
+
+/// The first tests of classes that ran in stretches, and the closed ledger of these.
+#[derive(Drop)]
+pub(crate) struct Gathered {
+    pub(crate) firsts: Vec<Option<u32>>,
+    pub(crate) ledger: Closed,
+}
+
+/// Runs all stretches, each by one worker. The closed ledger shows whether all classes are settled.
+pub(crate) fn gather<G: Gate + Sync, R: Threads + Wait>(
+    rt: &R,
+    alloc: Global,
+    job: &Job,
+    cut: &Cut,
+    workers: u32,
+    gate: &G,
+) -> Result<Gathered, RunFault>
+    requires cut { IsCutOf job.now cut.now.parts cut.now.size cut.now.classes.items }
+    requires workers { (0 < workers) × (workers ≤ 64) }
+    ensures gathered { IfOk result (λ gathered. AreClassFirsts job.now.list.model job.now.circuit
+        job.now.tests.tests cut.now.classes.items gathered.firsts.items) }
+    ensures stretches { IfOk result (λ gathered. AreOfStretches job.now cut.now.size
+        cut.now.classes.items workers gathered.firsts.items gathered.ledger) }
+    ensures refused { IfErr result (IsStretchesFault job.now cut.now.size cut.now.classes.items
+        cut.now.parts workers (G.passing gate.now) (G.stops gate.now)) }
+{
+    let _tests = job.tests();
+    let handed = hand_out(rt, alloc, job, cut, workers, gate)?;
+    let Handed { ledger, dones } = handed;
+    let table = table_of(alloc, cut.parts, dones)?;
+    match ledger.finished() {
+        Finish::Finished => {
+            let firsts = joined(alloc, job, cut, table)?;
+            Ok(Gathered { firsts, ledger })
+        }
+        Finish::Waiting {
+            class: _stretch,
+            block: _block,
+        } => match lowest_waiting(alloc, job, cut, table)? {
+            Some(Waiting { class, block }) => Err(RunFault::Unfinished { class, block }),
+            None => unreachable!(),
+        },
+    }
+}

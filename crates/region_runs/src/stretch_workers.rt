@@ -1,0 +1,352 @@
+//! Parts that workers claim, each of which one worker simulates by itself.
+
+ghost use Rattle.std.specs.Prelude.{◌≡◌, ◌⊎◌, ◌<◌, ℕ, All, IfErr, IfNone, IfOk, IfSome, None, Some};
+ghost use Rattle.std.specs.Prelude.{length, vec_len};
+ghost use Rattle.patterns.specs.Tests.{blocks};
+ghost use Rattle.block_sim.specs.RegionHits.{ServesRegions};
+ghost use Rattle.fault_ledger.specs.declared.Event.{Event};
+ghost use Rattle.fault_ledger.specs.declared.Reply.TheVariants as reply;
+ghost use Rattle.fault_ledger.specs.History.{held_by};
+ghost use Rattle.fault_ledger.specs.Seats.{Makes, newcomer, newcomers};
+ghost use Rattle.region_runs.specs.StretchRuns.{IsDone, IsLowestIn, unbegun_run};
+ghost use Rattle.region_runs.specs.Part.{stretch};
+ghost use Rattle.region_runs.specs.ClassOrder.{IsCutOf};
+ghost use Rattle.region_runs.specs.Stretches.{AfterRun, AreServed, ClaimsStretch, HasServed};
+ghost use Rattle.region_runs.specs.Stretches.{SeesAllClaimed};
+
+use crate::open_classes::all_open;
+use crate::stretch_run::{Stop, Waiting, lowest_open, rows_of, run_list};
+use crate::stretches::Cut;
+use block_sim::{Job, RegionSimulation};
+use fault_ledger::{Claim, Seat, SharedLedger};
+use patterns::Outcome;
+use std::alloc::{AllocError, Global};
+use std::snapshot::Snapshot;
+use std::sync::Wait;
+use std::thread;
+use std::thread::{Promise, Threads};
+use workers::{Gate, RunFault};
+
+/// The result of a worker for a part.
+#[derive(Drop)]
+pub(crate) struct Done {
+    /// The part, counted from 0.
+    pub(crate) part: u32,
+    /// The worker that ran it, counted from 0.
+    pub(crate) worker: u32,
+    /// The first test of each class of the part, or none, as far as the worker got.
+    pub(crate) firsts: Vec<Option<u32>>,
+    /// The point at which the gate stopped the worker, if it did.
+    pub(crate) stop: Option<Stop>,
+    /// The lowest unsettled class, if the gate stopped the worker.
+    pub(crate) waiting: Option<Waiting>,
+}
+
+/// A worker by its number, with room of its own.
+#[derive(Drop)]
+pub(crate) struct Member {
+    number: u32,
+    simulation: RegionSimulation,
+}
+
+impl Member {
+    /// Makes the worker of a number.
+    pub(crate) fn new(alloc: Global, job: &Job, number: u32) -> Result<Member, AllocError>
+        ensures number { IfOk result (λ member. member.number ≡ number) }
+        ensures serves { IfOk result (λ member. ServesRegions member.simulation job.now) }
+    {
+        let simulation = RegionSimulation::new(alloc, job)?;
+        Ok(Member { number, simulation })
+    }
+}
+
+/// Lets a worker simulate a part by itself.
+pub(crate) fn run_alone<G: Gate>(
+    alloc: Global,
+    job: &Job,
+    cut: &Cut,
+    part: u32,
+    member: &mut Member,
+    gate: &G,
+) -> Result<Done, AllocError>
+    requires cut { IsCutOf job.now cut.now.parts cut.now.size cut.now.classes.items }
+    requires serves { ServesRegions member.old.simulation job.now }
+    ensures done { IfOk result (IsDone job.now cut.now.size cut.now.classes.items
+        member.old.number (G.passing gate.now) (G.stops gate.now)) }
+    ensures part { IfOk result (λ done. done.part ≡ part) }
+    ensures member { member.new.number ≡ member.old.number }
+    ensures serves { ServesRegions member.new.simulation job.now }
+{
+    let own = cut.stretch(part);
+    let rows = rows_of(alloc, job, own)?;
+    let mut firsts = no_firsts(alloc, own.len())?;
+    let mut open = all_open(alloc, firsts.as_slice())?;
+    let worker = member.number;
+    let simulation = &mut member.simulation;
+    let listed = rows.as_slice();
+    let next = open.as_mut_slice();
+    let found = firsts.as_mut_slice();
+    let stop = run_list(job, listed, worker, simulation, gate, next, found);
+    let waiting = match stop {
+        Some(stop) => lowest_open(job, own, stop, firsts.as_slice()),
+        None => None,
+    };
+    Ok(Done {
+        part,
+        worker,
+        firsts,
+        stop,
+        waiting,
+    })
+}
+
+/// Returns no first test for each of this number of classes.
+pub(crate) fn no_firsts(alloc: Global, count: usize) -> Result<Vec<Option<u32>>, AllocError>
+    ensures count { IfOk result (λ firsts. vec_len firsts ≡ count) }
+    ensures none { IfOk result (λ firsts. All (λ first. first ≡ None) firsts.items) }
+{
+    let mut firsts = Vec::with_capacity(alloc, count)?;
+    for _place in 0..count {
+        firsts.push(None)?;
+    }
+    Ok(firsts)
+}
+
+/// Returns the lowest class of a stretch that no worker began, which waits for block 0; none if the
+/// stretch has no class.
+pub(crate) fn not_begun(
+    alloc: Global,
+    job: &Job,
+    cut: &Cut,
+    part: u32,
+) -> Result<Option<Waiting>, AllocError>
+    requires block { 0 < length (stretch cut.now.size cut.now.classes.items part)
+        → 0 < blocks (length job.now.tests.tests) }
+    ensures { IfOk result (IsLowestIn job.now (unbegun_run
+        (stretch cut.now.size cut.now.classes.items part))) }
+{
+    let own = cut.stretch(part);
+    if own.is_empty() {
+        return Ok(None);
+    }
+    let firsts = no_firsts(alloc, own.len())?;
+    let stop = Stop { place: 0, block: 0 };
+    Ok(lowest_open(job, own, stop, firsts.as_slice()))
+}
+
+/// The result of a worker: its seat, and its results for the stretches that it claimed.
+#[derive(Drop)]
+pub(crate) struct Served {
+    pub(crate) seat: Seat,
+    pub(crate) dones: Vec<Done>,
+}
+
+/// Claims the next stretch for a seat that holds none; none if all are claimed.
+fn claim_next(ledger: &SharedLedger, seat: &mut Seat) -> Option<u32>
+    requires place { seat.old.place ≡ ledger.now }
+    requires stretches { ledger.now.shape.tests ≡ 64 }
+    requires free { held_by seat.old.worker seat.old.seen ≡ None }
+    ensures claimed { IfSome result (λ part. ClaimsStretch seat.old part seat.new) }
+    ensures exhausted { IfNone result (SeesAllClaimed seat.old seat.new) }
+{
+    let _sitter = seat.worker();
+    match ledger.claim(seat) {
+        Ok(
+            Claim::Piece {
+                class,
+                block: _block,
+            },
+        ) => Some(class),
+        Ok(Claim::Exhausted) => {
+            let _sitter = seat.worker();
+            None
+        }
+        Err(_) => unreachable!(),
+    }
+}
+
+/// Reports the stretch that a seat holds as done.
+fn report_done(ledger: &SharedLedger, seat: &mut Seat)
+    requires place { seat.old.place ≡ ledger.now }
+    requires holding { (part : ℕ) × (held_by seat.old.worker seat.old.seen ≡ Some part) }
+    ensures { Makes seat.old (Event.Report seat.old.worker Outcome.Clear) reply.Done seat.new }
+{
+    let _sitter = seat.worker();
+    let Ok(()) = ledger.report(seat, Outcome::Clear) else {
+        unreachable!()
+    };
+}
+
+/// Lets a worker simulate the stretch that its seat holds, and report it unless the gate stopped
+/// it.
+fn run_held<G: Gate>(
+    alloc: Global,
+    job: &Job,
+    cut: &Cut,
+    ledger: &SharedLedger,
+    part: u32,
+    member: &mut Member,
+    seat: &mut Seat,
+    gate: &G,
+) -> Result<Done, AllocError>
+    requires cut { IsCutOf job.now cut.now.parts cut.now.size cut.now.classes.items }
+    requires place { seat.old.place ≡ ledger.now }
+    requires holding { held_by seat.old.worker seat.old.seen ≡ Some part }
+    requires serves { ServesRegions member.old.simulation job.now }
+    ensures done { IfOk result (IsDone job.now cut.now.size cut.now.classes.items
+        member.old.number (G.passing gate.now) (G.stops gate.now)) }
+    ensures part { IfOk result (λ done. done.part ≡ part) }
+    ensures after { IfOk result (λ done. AfterRun seat.old done.waiting seat.new) }
+    ensures member { member.new.number ≡ member.old.number }
+    ensures serves { ServesRegions member.new.simulation job.now }
+{
+    let done = run_alone(alloc, job, cut, part, member, gate)?;
+    if done.waiting.is_none() {
+        report_done(ledger, seat);
+    }
+    Ok(done)
+}
+
+/// Lets a worker claim and simulate stretches, until all are claimed or the gate stops it.
+fn serve_seat<G: Gate>(
+    alloc: Global,
+    job: &Job,
+    cut: &Cut,
+    ledger: &SharedLedger,
+    gate: &G,
+    seat: &mut Seat,
+) -> Result<Vec<Done>, AllocError>
+    requires cut { IsCutOf job.now cut.now.parts cut.now.size cut.now.classes.items }
+    requires stretches { ledger.now.shape.tests ≡ 64 }
+    requires new { seat.old ≡ newcomer ledger.now seat.old.worker }
+    ensures { IfOk result (λ dones. HasServed job.now cut.now.size cut.now.classes.items
+        ledger.now seat.old.worker (G.passing gate.now) (G.stops gate.now) seat.new dones.items) }
+{
+    let mut member = Member::new(alloc, job, seat.worker())?;
+    let mut dones = Vec::new(alloc);
+    'claims: loop {
+        let part = match claim_next(ledger, seat) {
+            Some(part) => part,
+            None => return Ok(dones),
+        };
+        let done = run_held(alloc, job, cut, ledger, part, &mut member, seat, gate)?;
+        let stopped = done.waiting.is_some();
+        dones.push(done)?;
+        if stopped {
+            return Ok(dones);
+        }
+    }
+}
+
+/// Does the work of one thread.
+fn serve<G: Gate>(
+    alloc: Global,
+    job: &Job,
+    cut: &Cut,
+    ledger: &SharedLedger,
+    gate: &G,
+    seat: Seat,
+) -> Result<Served, AllocError>
+    requires cut { IsCutOf job.now cut.now.parts cut.now.size cut.now.classes.items }
+    requires stretches { ledger.now.shape.tests ≡ 64 }
+    requires new { seat ≡ newcomer ledger.now seat.worker }
+    ensures { IfOk result (λ served. HasServed job.now cut.now.size cut.now.classes.items
+        ledger.now seat.worker (G.passing gate.now) (G.stops gate.now) served.seat
+        served.dones.items) }
+{
+    let mut seat = seat;
+    let dones = serve_seat(alloc, job, cut, ledger, gate, &mut seat)?;
+    Ok(Served { seat, dones })
+}
+
+/// The data that the thread of a worker borrows. It returns its worker's seat, and its results for
+/// each stretch that it claimed.
+#[derive(Drop)]
+struct Taker<G> {
+    job: Snapshot<Job>,
+    cut: Snapshot<Cut>,
+    ledger: Snapshot<SharedLedger>,
+    gate: Snapshot<G>,
+    worker: u32,
+}
+
+impl<G: Gate> Promise<Result<Served, AllocError>> for Taker<G> {
+    ghost use Rattle.std.specs.Prelude.{IfOk};
+    ghost use Rattle.region_runs.specs.Stretches.{HasServed};
+
+    ghost kept_by = { λ p r. IfOk r (λ served.
+        HasServed p.job.value p.cut.value.size p.cut.value.classes.items p.ledger.value p.worker
+        (G.passing p.gate.value) (G.stops p.gate.value) served.seat served.dones.items) };
+}
+
+/// Lets each seat's worker claim stretches in a thread of its own.
+pub(crate) fn take_parts<G: Gate + Sync, R: Threads + Wait>(
+    rt: &R,
+    alloc: Global,
+    job: &Job,
+    cut: &Cut,
+    ledger: &SharedLedger,
+    gate: &G,
+    seats: Vec<Seat>,
+) -> Result<Vec<Result<Served, AllocError>>, RunFault>
+    requires cut { IsCutOf job.now cut.now.parts cut.now.size cut.now.classes.items }
+    requires stretches { ledger.now.shape.tests ≡ 64 }
+    requires new { seats.items ≡ newcomers ledger.now }
+    ensures served { IfOk result (λ back.
+        AreServed job.now cut.now.size cut.now.classes.items ledger.now (G.passing gate.now)
+        (G.stops gate.now) back.items) }
+    ensures refused { IfErr result (λ fault.
+        (fault ≡ RunFault.Memory) ⊎ (fault ≡ RunFault.Threads)) }
+{
+    thread::scope(
+        thread::scope_env(),
+        rt,
+        |scope| -> Result<Vec<Result<Served, AllocError>>, RunFault>
+            requires cut { IsCutOf job.now cut.now.parts cut.now.size cut.now.classes.items }
+            requires stretches { ledger.now.shape.tests ≡ 64 }
+            requires new { seats.items ≡ newcomers ledger.now }
+            ensures served { IfOk result (λ back.
+                AreServed job.entry.now cut.entry.now.size cut.entry.now.classes.items
+                ledger.entry.now (G.passing gate.entry.now) (G.stops gate.entry.now) back.items) }
+            ensures refused { IfErr result (λ fault.
+                (fault ≡ RunFault.Memory) ⊎ (fault ≡ RunFault.Threads)) }
+        {
+            let count = seats.len();
+            let mut handles = Vec::with_capacity(alloc, count)?;
+            for seat in seats {
+                let kept = Taker {
+                    job: Snapshot::of(job),
+                    cut: Snapshot::of(cut),
+                    ledger: Snapshot::of(ledger),
+                    gate: Snapshot::of(gate),
+                    worker: seat.worker(),
+                };
+                let Ok(handle) = scope.spawn_with(
+                    kept,
+                    move || serve(alloc, job, cut, ledger, gate, seat),
+                ) else {
+                    break;
+                };
+                handles.push(handle)?;
+            }
+            let refused = handles.len() < count;
+            let back = thread::join_promised(rt, handles)?;
+            if refused {
+                return Err(RunFault::Threads);
+            }
+            Ok(back)
+        },
+    )
+}
+
+/// Returns an empty place for each part.
+pub(crate) fn empty_table(alloc: Global, parts: u32) -> Result<Vec<Option<Done>>, AllocError>
+    ensures count { IfOk result (λ table. vec_len table ≡ parts) }
+    ensures none { IfOk result (λ table. All (λ at. IfSome at (λ _. ⊥)) table.items) }
+{
+    let mut table = Vec::with_capacity(alloc, parts as usize)?;
+    for _part in 0..parts {
+        table.push(None)?;
+    }
+    Ok(table)
+}

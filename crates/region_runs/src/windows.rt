@@ -1,0 +1,469 @@
+//! Runs over a long list of tests, window by window.
+//!
+//! The fault-free words of all tests take 16 bytes for each signal and 128 tests. A run in windows
+//! has only those of some blocks at a time: it runs all classes on the blocks of the first window,
+//! then those that no test detects yet on the next, and so on.
+
+ghost use Rattle.std.specs.Prelude.{◌≡◌, ◌⊎◌, ◌<◌, ◌≤◌, ◌+◌, ◌*◌, ◌^◌, All, IfErr, IfOk};
+ghost use Rattle.std.specs.Prelude.{[], List, OnOk, Option};
+ghost use Rattle.std.specs.Prelude.{⊤, ℕ, length, map, min, slice_index_or, zip};
+ghost use Rattle.bench_net.specs.Scan.{sources};
+ghost use Rattle.patterns.specs.Tests.{IsTestList, TestList, blocks};
+ghost use Rattle.block_sim.specs.Parts.{with_tests};
+ghost use Rattle.fault_ledger.specs.Seats.{ClosedFace};
+ghost use Rattle.workers.specs.Stops.{no_stop};
+ghost use Rattle.workers.specs.Verdict.{AreAfterHits, AreClassFirsts, AreFirsts};
+ghost use Rattle.region_runs.specs.Part.{AreClassVerdicts, ArePartVerdicts};
+ghost use Rattle.region_runs.specs.Refused.{ArePartsWithin, IsPartFault, IsPartsFault};
+ghost use Rattle.region_runs.specs.Refused.{IsPartWithin};
+ghost use Rattle.region_runs.specs.WindowLedgers.{AreFoundByLedger, AreOfWindows};
+ghost use Rattle.region_runs.specs.WindowLedgers.{IsOfWindows, IsPartOfWindows, open_classes};
+ghost use Rattle.region_runs.specs.Windows.{AreFirstsBelow, AreWordsFrom, GoesOnFrom};
+ghost use Rattle.region_runs.specs.Windows.{IsWindowOf, advanced, moved};
+
+use crate::class_order::{all_classes, part_classes};
+use crate::parts::{
+    PartVerdict, by_class, first_in, firsts_of_faults, gather, of_faults, skipped_after, verdict_on,
+};
+use crate::stretch_workers::no_firsts;
+use crate::stretches::{Cut, stretches_for};
+use block_sim::Job;
+use patterns::{BLOCK_SIZE, MAX_TESTS, Tests};
+use std::alloc::{AllocError, Global};
+use std::sync::Wait;
+use std::thread::Threads;
+use workers::{Gate, RunFault, Verdicts, check_pieces_of, check_workers, count_in};
+
+/// The most memory for the fault-free words of a window, in bytes: 256 MB.
+const MOST_BYTES: u32 = 1 << 28;
+
+/// The most groups of two blocks in a window. A window reuses the pages of the one before it. A run
+/// of 16,384 tests has one window.
+const MOST_GROUPS: u32 = 160;
+
+/// Returns the number of blocks that a window goes on by, for this number of signals: as many as
+/// [`MOST_BYTES`] have words for, and those of [`MOST_GROUPS`] at most, less the block before. It
+/// is odd, so that the blocks of a window with the block before are whole groups of two.
+pub fn window_blocks(signals: u32) -> u32
+    ensures some { 0 < result }
+    ensures few { result ≤ 319 }
+    ensures fit { (result ≡ 1) ⊎ (8 * signals * (result + 1) ≤ 2 ^ 28) }
+{
+    let groups = MOST_BYTES / 16 / signals.max(1);
+    2 * groups.clamp(1, MOST_GROUPS) - 1
+}
+
+/// The blocks of a window.
+#[derive(Clone, Copy, Debug, PartialEq, Eq)]
+struct Window {
+    /// The block with which it begins: the one before its first, if there is one.
+    from: u32,
+    /// The first block that no window before has.
+    first: u32,
+    /// The block after its last.
+    end: u32,
+}
+
+impl Window {
+    /// Returns the window of a number, counted from 0, if windows go on by `step` blocks.
+    fn new(number: u32, step: u32, blocks: u32) -> Window
+        requires step { (0 < step) × (step ≤ 2047) }
+        requires few { blocks ≤ 1024 }
+        requires within { number * step < blocks }
+        ensures window { GoesOnFrom blocks (number * step) result }
+        ensures end { result.end ≡ min (number * step + step) blocks }
+    {
+        let first = number * step;
+        Window {
+            from: first.saturating_sub(1),
+            first,
+            end: (first + step).min(blocks),
+        }
+    }
+}
+
+/// Adds the words of a block of tests, one a source.
+fn add_block(words: Vec<u64>, tests: &Tests, block: u32) -> Result<Vec<u64>, AllocError>
+    requires { block < blocks (length tests.now.tests) }
+    ensures { (from count : ℕ) → AreWordsFrom tests.now from count words.items
+        → block ≡ from + count
+        → IfOk result (λ more. AreWordsFrom tests.now from (count + 1) more.items) }
+{
+    let mut words = words;
+    for source in 0..tests.width() {
+        words.push(tests.word(block, source))?;
+    }
+    Ok(words)
+}
+
+/// Returns the tests of a window.
+fn tests_of(alloc: Global, tests: &Tests, window: Window) -> Result<Tests, RunFault>
+    requires list { IsTestList tests.now }
+    requires window { (first : ℕ) × GoesOnFrom (blocks (length tests.now.tests)) first window }
+    ensures tests { IfOk result (λ some.
+        IsWindowOf tests.now.tests (64 * window.from) (64 * window.end) some.tests) }
+    ensures list { IfOk result (λ some. IsTestList some) }
+    ensures width { IfOk result (λ some. some.width ≡ tests.now.width) }
+    ensures refused { IfErr result (λ fault. fault ≡ RunFault.Memory) }
+{
+    let mut words = Vec::new(alloc);
+    for block in window.from..window.end {
+        words = add_block(words, tests, block)?;
+    }
+    let before = BLOCK_SIZE * window.from;
+    let count = tests.count().min(BLOCK_SIZE * window.end) - before;
+    match Tests::from_words(alloc, tests.width(), count, words.as_slice()) {
+        Ok(some) => Ok(some),
+        // The words are those of tests, so they fit.
+        Err(_) => Err(RunFault::Memory),
+    }
+}
+
+/// Returns the classes of a list that have no first test beside them.
+pub fn without_first(
+    alloc: Global,
+    classes: &[u32],
+    firsts: &[Option<u32>],
+) -> Result<Vec<u32>, AllocError>
+    ensures { IfOk result (λ left. left.items ≡ open_classes classes.now firsts.now) }
+{
+    classes
+        .iter()
+        .zip(firsts)
+        .filter(|(_class, first)| first.is_none())
+        .map(|(class, _first)| *class)
+        .collect(alloc)
+}
+
+/// Returns a test of a window by its number in the whole list, if the window begins with this test.
+fn moved(first: Option<u32>, from: u32) -> Option<u32>
+    ensures { result ≡ moved from first }
+{
+    match first {
+        Some(test) => test.checked_add(from),
+        None => None,
+    }
+}
+
+/// Returns the first test of a class after a window, from its verdict there.
+fn advanced(first: Option<u32>, verdict: PartVerdict, from: u32) -> Option<u32>
+    ensures { result ≡ advanced from first verdict }
+{
+    match first {
+        Some(test) => Some(test),
+        None => moved(first_in(verdict), from),
+    }
+}
+
+/// Returns the first tests of the classes of a list after a window, from the verdicts of the window
+/// by class.
+fn advanced_firsts(
+    alloc: Global,
+    classes: &[u32],
+    firsts: &[Option<u32>],
+    verdicts: &[PartVerdict],
+    from: u32,
+) -> Result<Vec<Option<u32>>, AllocError>
+    ensures { IfOk result (λ next. next.items ≡ map (λ at.
+        advanced from at.1 (slice_index_or verdicts.now at.0 PartVerdict.OtherPart))
+        (zip classes.now firsts.now)) }
+{
+    classes
+        .iter()
+        .zip(firsts)
+        .map(|(class, first)| advanced(*first, verdict_on(verdicts, *class), from))
+        .collect(alloc)
+}
+
+/// A gate as a run on a window asks it: with the numbers of blocks of the whole list.
+#[derive(Drop)]
+struct Shifted<'g, G> {
+    gate: &'g G,
+    /// The block with which the window begins.
+    from: u32,
+}
+
+impl<G: Gate> Gate for Shifted<'_, G> {
+    ghost passing = { λ s. G.passing s.gate.now };
+
+    ghost stops = { λ s. record {
+      may = λ worker class block. ⊤;
+      must = λ worker class block. ⊥;
+    } };
+
+    fn pass(&self, worker: u32, class: u32, block: u32) -> bool {
+        self.gate
+            .pass(worker, class, block.saturating_add(self.from))
+    }
+
+    fn lets_all_pass(&self) -> bool {
+        self.gate.lets_all_pass()
+    }
+}
+
+/// Runs classes on all tests of a job. Returns the verdict of each class of the job.
+fn run_classes_left<G: Gate + Sync, R: Threads + Wait>(
+    rt: &R,
+    alloc: Global,
+    job: &Job,
+    classes: Vec<u32>,
+    workers: u32,
+    gate: &G,
+) -> Result<Vec<PartVerdict>, RunFault>
+    requires passing { G.passing gate.now }
+    requires workers { (0 < workers) × (workers ≤ 64) }
+    requires few { length classes.items ≤ length job.now.classes.representative }
+    requires within { All (λ class. class < length job.now.classes.representative)
+        classes.items }
+    ensures found { IfOk result (λ table. (firsts : List (Option ℕ))
+        × AreClassFirsts job.now.list.model job.now.circuit job.now.tests.tests classes.items firsts
+        × AreClassVerdicts (length job.now.classes.representative) classes.items firsts
+        (length classes.items) table.items × ((ledger : ClosedFace)
+        × AreFoundByLedger job.now workers classes.items firsts ledger)) }
+    ensures refused { IfErr result (λ fault.
+        (fault ≡ RunFault.Memory) ⊎ (fault ≡ RunFault.Threads)) }
+{
+    let stretches = stretches_for(count_in(job, classes.as_slice()), workers);
+    let cut = Cut::new(job, classes, stretches);
+    let gathered = gather(rt, alloc, job, &cut, workers, gate)?;
+    let firsts = gathered.firsts.as_slice();
+    let count = job.classes().count();
+    let table = by_class(alloc, count, cut.classes.as_slice(), firsts)?;
+    Ok(table)
+}
+
+/// Gives a job no tests, so that its fault-free words take no memory.
+fn forget_tests(alloc: Global, job: &mut Job) -> Result<(), AllocError>
+    ensures none { OnOk result (job.new.tests.tests ≡ []) }
+    ensures kept { job.new ≡ with_tests job.old job.new.tests }
+{
+    let none = Tests::new(alloc, job.circuit().sources());
+    job.set_tests_of_any_size(alloc, none)?;
+    Ok(())
+}
+
+/// Gives a job the tests of a window. It forgets those of the window before first, so that the job
+/// has the fault-free words of one window at a time.
+fn take_window<R: Threads + Wait>(
+    rt: &R,
+    alloc: Global,
+    job: &mut Job,
+    tests: &Tests,
+    window: Window,
+    workers: u32,
+) -> Result<(), RunFault>
+    requires list { IsTestList tests.now }
+    requires width { tests.now.width ≡ length (sources job.old.circuit) }
+    requires window { (first : ℕ) × GoesOnFrom (blocks (length tests.now.tests)) first window }
+    ensures tests { OnOk result (IsWindowOf tests.now.tests (64 * window.from)
+        (64 * window.end) job.new.tests.tests) }
+    ensures refused { IfErr result (λ fault. fault ≡ RunFault.Memory) }
+    ensures kept { job.new ≡ with_tests job.old job.new.tests }
+{
+    forget_tests(alloc, job)?;
+    let some = tests_of(alloc, tests, window)?;
+    job.set_tests_of_any_size_in_threads(rt, alloc, some, workers)?;
+    Ok(())
+}
+
+/// Runs the classes of a list that have no first test yet on a window. Returns the first tests of
+/// all of them after it. The job has the tests of the window then.
+fn run_window<G: Gate + Sync, R: Threads + Wait>(
+    rt: &R,
+    alloc: Global,
+    job: &mut Job,
+    tests: &Tests,
+    window: Window,
+    classes: &[u32],
+    firsts: Vec<Option<u32>>,
+    workers: u32,
+    gate: &G,
+) -> Result<Vec<Option<u32>>, RunFault>
+    requires passing { G.passing gate.now }
+    requires list { IsTestList tests.now }
+    requires width { tests.now.width ≡ length (sources job.old.circuit) }
+    requires workers { (0 < workers) × (workers ≤ 64) }
+    requires few { length classes.now ≤ length job.old.classes.representative }
+    requires within { All (λ class. class < length job.old.classes.representative) classes.now }
+    requires window { GoesOnFrom (blocks (length tests.now.tests)) window.first window }
+    requires firsts { AreFirstsBelow job.old.list.model job.old.circuit tests.now.tests
+        (64 * window.first) classes.now firsts.items }
+    ensures firsts { IfOk result (λ next. AreFirstsBelow job.old.list.model job.old.circuit
+        tests.now.tests (64 * window.end) classes.now next.items) }
+    ensures ledgers { AreOfWindows (with_tests job.old tests.now) workers classes.now window.first
+        firsts.items → IfOk result (λ next. AreOfWindows (with_tests job.old tests.now) workers
+        classes.now window.end next.items) }
+    ensures refused { IfErr result (λ fault.
+        (fault ≡ RunFault.Memory) ⊎ (fault ≡ RunFault.Threads)) }
+    ensures kept { (some : TestList) × (job.new ≡ with_tests job.old some) }
+{
+    let left = without_first(alloc, classes, firsts.as_slice())?;
+    if left.is_empty() {
+        return Ok(firsts);
+    }
+    take_window(rt, alloc, job, tests, window, workers)?;
+    gate.opens(window.first, window.end);
+    let shifted = Shifted {
+        gate,
+        from: window.from,
+    };
+    let table = run_classes_left(rt, alloc, job, left, workers, &shifted)?;
+    let from = BLOCK_SIZE * window.from;
+    let next = advanced_firsts(alloc, classes, firsts.as_slice(), table.as_slice(), from)?;
+    Ok(next)
+}
+
+/// Runs classes on a list of tests, window by window. Returns for each the first test that detects
+/// its faults, or none.
+fn run_windows<G: Gate + Sync, R: Threads + Wait>(
+    rt: &R,
+    alloc: Global,
+    job: &mut Job,
+    tests: &Tests,
+    blocks_of_window: u32,
+    classes: &[u32],
+    workers: u32,
+    gate: &G,
+) -> Result<Vec<Option<u32>>, RunFault>
+    requires passing { G.passing gate.now }
+    requires list { IsTestList tests.now }
+    requires width { tests.now.width ≡ length (sources job.old.circuit) }
+    requires window { 0 < blocks_of_window }
+    requires workers { (0 < workers) × (workers ≤ 64) }
+    requires few { length classes.now ≤ length job.old.classes.representative }
+    requires within { All (λ class. class < length job.old.classes.representative) classes.now }
+    ensures firsts { IfOk result (λ firsts. AreClassFirsts job.old.list.model job.old.circuit
+        tests.now.tests classes.now firsts.items) }
+    ensures ledgers { IfOk result (λ firsts. AreOfWindows (with_tests job.old tests.now) workers
+        classes.now (blocks (length tests.now.tests)) firsts.items) }
+    ensures none { OnOk result (job.new.tests.tests ≡ []) }
+    ensures refused { IfErr result (λ fault.
+        (fault ≡ RunFault.Memory) ⊎ (fault ≡ RunFault.Threads)) }
+    ensures kept { (some : TestList) × (job.new ≡ with_tests job.old some) }
+{
+    let step = blocks_of_window.min(MAX_TESTS / BLOCK_SIZE);
+    let blocks = tests.blocks();
+    let mut firsts = no_firsts(alloc, classes.len())?;
+    for number in 0..blocks.div_ceil(step) {
+        let window = Window::new(number, step, blocks);
+        firsts = run_window(
+            rt, alloc, job, tests, window, classes, firsts, workers, gate,
+        )?;
+    }
+    forget_tests(alloc, job)?;
+    Ok(firsts)
+}
+
+/// Runs all classes of a job on a list of tests that is not its own, window by window: on this
+/// number of blocks at a time ([`window_blocks`] suits), with the fault-free words of these and of
+/// the block before. The verdicts are those that [`crate::run_in_parts`] returns for a job with
+/// these tests. The job has none then, so that no fault-free words take memory. After an error it
+/// has its own tests, those of some window, or none.
+///
+/// The workers run the open classes of each window in a number of stretches that suits them. The
+/// limit on pieces is that of [`crate::run_in_parts`] for this number of parts.
+///
+/// # Errors
+///
+/// The errors of [`crate::run_in_parts`]. No run ends unfinished, since the gate lets each piece
+/// pass.
+pub fn run_in_windows<G: Gate + Sync, R: Threads + Wait>(
+    rt: &R,
+    alloc: Global,
+    job: &mut Job,
+    tests: &Tests,
+    blocks_of_window: u32,
+    parts: u32,
+    workers: u32,
+    gate: &G,
+) -> Result<Verdicts, RunFault>
+    requires passing { G.passing gate.now }
+    requires window { 0 < blocks_of_window }
+    requires parts { 0 < parts }
+    requires list { IsTestList tests.now }
+    requires width { tests.now.width ≡ length (sources job.old.circuit) }
+    ensures firsts { IfOk result (λ v.
+        AreFirsts job.old.list.model job.old.circuit tests.now.tests v.firsts) }
+    ensures skipped { IfOk result (λ v.
+        AreAfterHits (with_tests job.old tests.now) v.skipped) }
+    ensures workers { OnOk result ((0 < workers) × (workers ≤ 64)) }
+    ensures within { OnOk result (ArePartsWithin (with_tests job.old tests.now) parts) }
+    ensures ledgers { IfOk result (IsOfWindows (with_tests job.old tests.now) workers) }
+    ensures none { OnOk result (job.new.tests.tests ≡ []) }
+    ensures refused { IfErr result
+        (IsPartsFault (with_tests job.old tests.now) parts workers ⊤ no_stop) }
+    ensures kept { (some : TestList) × (job.new ≡ with_tests job.old some) }
+{
+    check_workers(workers)?;
+    let count = job.classes().count();
+    let blocks = tests.blocks();
+    check_pieces_of(count.div_ceil(parts), blocks)?;
+    let all = all_classes(alloc, job)?;
+    let firsts = run_windows(
+        rt,
+        alloc,
+        job,
+        tests,
+        blocks_of_window,
+        all.as_slice(),
+        workers,
+        gate,
+    )?;
+    let table = by_class(alloc, count, all.as_slice(), firsts.as_slice())?;
+    let skipped = skipped_after(table.as_slice(), blocks);
+    let found = firsts_of_faults(alloc, job, table.as_slice())?;
+    Ok(Verdicts::of(found, skipped))
+}
+
+/// Runs the classes of a part, counted from 0, of this number of parts, on a list of tests that is
+/// not the job's own, window by window as [`run_in_windows`] does. Returns what
+/// [`crate::run_part`] returns for a job with these tests.
+///
+/// # Errors
+///
+/// The errors of [`crate::run_part`]. No run ends unfinished.
+pub fn run_part_in_windows<G: Gate + Sync, R: Threads + Wait>(
+    rt: &R,
+    alloc: Global,
+    job: &mut Job,
+    tests: &Tests,
+    blocks_of_window: u32,
+    part: u32,
+    parts: u32,
+    workers: u32,
+    gate: &G,
+) -> Result<Vec<PartVerdict>, RunFault>
+    requires passing { G.passing gate.now }
+    requires window { 0 < blocks_of_window }
+    requires part { part < parts }
+    requires list { IsTestList tests.now }
+    requires width { tests.now.width ≡ length (sources job.old.circuit) }
+    ensures verdicts { IfOk result (λ verdicts.
+        ArePartVerdicts (with_tests job.old tests.now) parts part verdicts.items) }
+    ensures workers { OnOk result ((0 < workers) × (workers ≤ 64)) }
+    ensures within { OnOk result (IsPartWithin (with_tests job.old tests.now) parts part) }
+    ensures ledgers { IfOk result (λ verdicts. IsPartOfWindows (with_tests job.old tests.now) parts
+        part workers verdicts.items) }
+    ensures none { OnOk result (job.new.tests.tests ≡ []) }
+    ensures refused { IfErr result
+        (IsPartFault (with_tests job.old tests.now) parts part workers ⊤ no_stop) }
+    ensures kept { (some : TestList) × (job.new ≡ with_tests job.old some) }
+{
+    check_workers(workers)?;
+    let own = part_classes(alloc, job, part, parts)?;
+    check_pieces_of(count_in(job, own.as_slice()), tests.blocks())?;
+    let firsts = run_windows(
+        rt,
+        alloc,
+        job,
+        tests,
+        blocks_of_window,
+        own.as_slice(),
+        workers,
+        gate,
+    )?;
+    let count = job.classes().count();
+    let table = by_class(alloc, count, own.as_slice(), firsts.as_slice())?;
+    let verdicts = of_faults(alloc, job, table.as_slice())?;
+    Ok(verdicts)
+}

@@ -1,5 +1,0 @@
-use Rattle.workers.specs.ListRunners.{AreMarked}
-use Rattle.workers.proofs.list_runner.mark.Given as goal
-
-abbrev pub invariant-loop-class : goal.invariant-loop-class
-invariant-loop-class l = AreMarked l.classes l.count l.class-index l.marks.items

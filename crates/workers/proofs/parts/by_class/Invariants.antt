@@ -1,5 +1,0 @@
-use Rattle.workers.specs.Part.{AreClassVerdicts}
-use Rattle.workers.proofs.parts.by_class.Given as goal
-
-abbrev pub invariant-loop-place : goal.invariant-loop-place
-invariant-loop-place l = AreClassVerdicts l.count l.classes l.firsts l.place l.verdicts.items

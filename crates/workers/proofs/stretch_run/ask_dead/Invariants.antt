@@ -1,7 +1,0 @@
-use Rattle.std.proofs.Common.{◌<◌, ℕ, length}
-use Rattle.workers.specs.BlockSweeps.{AreAllNotStopped}
-use Rattle.workers.proofs.stretch_run.ask_dead.Given as goal
-
-abbrev pub invariant-loop-block : goal.invariant-loop-block
-invariant-loop-block g l = (b : ℕ) → b < l.block
-    → AreAllNotStopped l.rows l.worker (g.G.Gate.stops l.gate) b (length l.rows)

@@ -1,6 +1,0 @@
-use Rattle.workers.specs.BlockSweeps.{AreAllNotStopped}
-use Rattle.workers.proofs.stretch_run.ask_rows.Given as goal
-
-abbrev pub invariant-loop-row : goal.invariant-loop-row
-invariant-loop-row g l =
-    AreAllNotStopped l.rows l.worker (g.G.Gate.stops l.gate) l.block l.row-index

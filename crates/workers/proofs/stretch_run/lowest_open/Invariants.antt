@@ -1,5 +1,0 @@
-use Rattle.workers.specs.StretchRuns.{IsLowest, IsOpenBelow}
-use Rattle.workers.proofs.stretch_run.lowest_open.Given as goal
-
-abbrev pub invariant-loop-place : goal.invariant-loop-place
-invariant-loop-place l = IsLowest (IsOpenBelow l.job l.classes l.stop l.place) l.lowest
