@@ -56,7 +56,7 @@ PHASES = {
 }
 BEGIN = "start"
 # The functions of a thread that simulates.
-SIMULATION = r"block_sim::(region_simulation|pack|unit_\w+|sensitized|known_\w+)::|region_runs::stretch_run::"
+SIMULATION = r"region_sim::(region_simulation|pack|unit_\w+|sensitized|known_\w+)::|region_runs::stretch_run::"
 # Threads read both files at the same time, so until the next phase each has the phase of its own functions.
 READING = ("read bench", "read tests")
 

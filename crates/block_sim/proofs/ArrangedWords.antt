@@ -12,22 +12,21 @@ use Rattle.fault_model.specs.Detection.{name_on}
 use Rattle.fault_model.specs.Fault.{Fault, faults}
 use Rattle.fault_model.specs.Solution.{Solves, Test, shows}
 use Rattle.fault_model.specs.Reordered.{moved_fault, moved_line, place}
-use Rattle.fault_model.proofs.Public.{carries, circuit_reordered, detected_same}
+use Rattle.fault_model.proofs.Public.{carries, circuit_reordered}
 use Rattle.fault_model.proofs.Public.{detected_same_at, looks_back_same, same_sinks, solved_same}
 use Rattle.list_lemmas.proofs.Members.{Among}
-use Rattle.block_sim.specs.declared.region.Reach.TheVariants.{Observed}
 use Rattle.block_sim.specs.declared.origin.Origin.{Origin}
 use Rattle.block_sim.specs.declared.words.Stuck.{Stuck}
 use Rattle.block_sim.specs.Arranged.{IsArranged}
 use Rattle.block_sim.specs.Origins.{IsStuckOf, Starts}
 use Rattle.block_sim.specs.Stuck.{stuck_fault}
-use Rattle.block_sim.specs.Regions.{AreLanesFor, IsReached}
+use Rattle.block_sim.specs.Regions.{AreLanesFor}
 use Rattle.block_sim.specs.First.{AreDetectingLanes}
 use Rattle.block_sim.specs.BlockSpans.{group_of}
 use Rattle.block_sim.specs.declared.block_span.BlockSpan.{BlockSpan}
 use Rattle.block_sim.specs.Propagation.{AreShown}
 use Rattle.block_sim.specs.Responses.{AreResponses}
-use Rattle.block_sim.specs.Words.{AreWords, IsFaultFreeWord, test_of}
+use Rattle.block_sim.specs.Words.{AreWords, IsFaultFreeWord}
 use Rattle.block_sim.proofs.EndOfPropagation.{told_of_shown}
 use Rattle.block_sim.proofs.ResponseRows.{observed_named}
 use Rattle.block_sim.proofs.ArrangedSignals.{reordered, signals_there, well_there}
@@ -107,16 +106,6 @@ module _ (c d : List Statement) (well : IsWellFormed c) (arranged : IsArranged c
     each = λ t test v at solves. h.each t test v at (solved test v solves)
         ∙ ap (λ os. Some (map (shows None v) os)) observers_there;
   }
-
-  -- the same tests of a group detect a fault
-  pub reached_there : (tests : List Test) (group : ℕ) (f : Fault) (mask word : ℕ)
-      → IsReached d tests group (moved_fault c d f) mask (Observed word)
-      → IsReached c tests group f mask (Observed word)
-  reached_there tests group f mask word h k lt =
-      let same = detected_same c d well (reordered c d well arranged) (test_of tests group k) f in (
-        λ e. (((h k lt).0 e).0, same.1 ((h k lt).0 e).1),
-        λ e. (h k lt).1 (e.0, same.0 e.1),
-      )
 
   -- the lanes in which the moved fault is shown have the first tests for the fault
   pub told_there : (tests : List Test) (span : BlockSpan) (f : Fault) (good : List ℕ)

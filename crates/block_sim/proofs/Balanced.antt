@@ -16,8 +16,8 @@ use Rattle.block_sim.specs.Events.{bits_of, HasEquation, Reads, IsElsewhere, IsL
 use Rattle.block_sim.specs.Propagation.{IsBalanced}
 use Rattle.block_sim.proofs.WordsToSolutions.{lane_same}
 use Rattle.block_sim.proofs.SignalEquations.{each_equation, all_equations, equation_same}
-use Rattle.block_sim.proofs.SignalEquations.{equation_elsewhere, equation_kept}
-use Rattle.block_sim.proofs.SignalEquations.{equation_here, word_other}
+use Rattle.block_sim.proofs.SignalEquations.{equation_elsewhere, equation_kept, equation_here}
+use Rattle.block_sim.proofs.SignalEquations.{word_other}
 
 module _ (c : List Statement) (counts : ℕ → Type 0) (tests : List Test) (group : ℕ) (f : ℕ
     → Fault) (good : List ℕ) (mask : ℕ) where

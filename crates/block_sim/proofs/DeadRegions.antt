@@ -19,7 +19,7 @@ use Rattle.block_sim.specs.Arranged.{IsArranged}
 use Rattle.block_sim.specs.Events.{IsLive}
 use Rattle.block_sim.specs.Origins.{IsListed}
 use Rattle.block_sim.specs.Parts.{BelongTogether, Parts}
-use Rattle.block_sim.specs.RegionHits.{IsFirstOn}
+use Rattle.block_sim.specs.First.{IsFirstOn}
 use Rattle.block_sim.specs.Regions.{DetectsFlip, IsStemOfLine, RunsTo, start_of, way_from}
 use Rattle.block_sim.proofs.ArrangedSignals.{reordered}
 use Rattle.block_sim.proofs.ArrangedWords.{circuit_there}

@@ -10,7 +10,7 @@ use Rattle.wide_words.specs.Layouts.{both_layout, one_of}
 use Rattle.block_sim.specs.BlockSpans.{groups}
 use Rattle.block_sim.specs.GateForms.{inverted_if}
 use Rattle.block_sim.specs.GroupRows.{AreRowsFrom}
-use Rattle.block_sim.specs.Pack.{copied_bit}
+use Rattle.block_sim.specs.SlotWords.{copied_bit}
 use Rattle.block_sim.specs.Words.{AreWords, lane}
 use Rattle.block_sim.proofs.GateLanes.{turned_lane}
 
@@ -78,3 +78,13 @@ module _ (c : List Statement) (tests : List Test) (group : ℕ) (first second th
       go (suc (suc (suc zero))) row is = one 3 row (omega arith) is
       go (suc (suc (suc (suc k)))) row is =
           let bad : None ≡ Some row = is in absurd (cc)
+
+-- a fact of each of four slots
+pub of_four : {X : Type 0} (P : ℕ → X → Type 0) (a b c d : X) → P 0 a → P 1 b → P 2 c → P 3 d
+    → (slot : ℕ) → slot < 4 → P slot (one_of a b c d slot)
+of_four P a b c d first second third fourth zero lt = first
+of_four P a b c d first second third fourth (suc zero) lt = second
+of_four P a b c d first second third fourth (suc (suc zero)) lt = third
+of_four P a b c d first second third fourth (suc (suc (suc zero))) lt = fourth
+of_four P a b c d first second third fourth (suc (suc (suc (suc slot)))) lt =
+    absurd (omega (arith, lt))

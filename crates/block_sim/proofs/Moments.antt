@@ -26,8 +26,7 @@ use Rattle.block_sim.proofs.FirstChange.{spreading_first, count_first}
 use Rattle.block_sim.proofs.SignalEquations.{gate_named}
 use Rattle.block_sim.proofs.Readers.{no_loop, reader_within}
 use Rattle.block_sim.proofs.SeenLanes.{seen_changed, seen_first, seen_like, seen_narrower}
-use Rattle.block_sim.proofs.SeenLanes.{from_none}
-use Rattle.block_sim.proofs.SeenLanes.{with_none}
+use Rattle.block_sim.proofs.SeenLanes.{from_none, with_none}
 use Rattle.block_sim.proofs.PropagationSteps.{pending_changed, pending_same, evaluated_changed}
 use Rattle.block_sim.proofs.PropagationSteps.{evaluated_same, level_done, spreading_cleared}
 use Rattle.block_sim.proofs.PropagationSteps.{spreading_narrower}

@@ -12,8 +12,7 @@ use Rattle.list_lemmas.proofs.Members.{among}
 use Rattle.fault_model.specs.Fault.{Fault}
 use Rattle.fault_model.specs.Solution.{Test, value}
 use Rattle.block_sim.specs.Words.{lane, pin_bits, test_of}
-use Rattle.block_sim.specs.Events.{bits_of, HasEquation, Reads, IsElsewhere, IsLive}
-use Rattle.block_sim.specs.Events.{AreScheduled}
+use Rattle.block_sim.specs.Events.{bits_of, HasEquation, Reads, IsElsewhere, IsLive, AreScheduled}
 use Rattle.block_sim.specs.Propagation.{IsPropagating, IsBalanced, Counts, IsRightIn, HasTouched}
 use Rattle.block_sim.specs.Propagation.{pending_gates}
 use Rattle.block_sim.proofs.Balanced.{balanced_same, balanced_changed}

@@ -17,8 +17,8 @@ use Rattle.fault_model.specs.Reordered.{HasSameSinks}
 use Rattle.fault_model.proofs.Public.{same_signals, same_sinks, stands_there, stands_back, carries}
 use Rattle.fault_model.proofs.Public.{defined_among, observes}
 use Rattle.block_sim.specs.Events.{Reads, IsObserved, IsLive, observed, through}
-use Rattle.block_sim.specs.Regions.{lone_reader, IsStem, IsStemOf, IsStemOfLine, LeadsTo}
-use Rattle.block_sim.specs.Regions.{here, onward, way_from}
+use Rattle.block_sim.specs.Regions.{lone_reader, IsStem, IsStemOf, IsStemOfLine, LeadsTo, here}
+use Rattle.block_sim.specs.Regions.{onward, way_from}
 use Rattle.block_sim.specs.Ways.{steps, IsWay, IsWayOfLine}
 use Rattle.block_sim.specs.Reordered.{HasSameReaders, HasSameStems}
 

@@ -22,8 +22,6 @@ use Rattle.block_sim.specs.First.{TellsFirst}
 use Rattle.block_sim.specs.BlockSpans.{IsInSpan, group_of}
 use Rattle.block_sim.specs.Words.{lane, test_of}
 use Rattle.block_sim.specs.declared.block_span.BlockSpan.{BlockSpan}
-use Rattle.block_sim.specs.declared.region.Reach.{Reach}
-use Rattle.block_sim.specs.declared.region.Reach.TheVariants.{Observed, Stem}
 
 -- only one gate reads the signal, by one or more pins, and no observer observes it
 pub record IsReadBy (c : List Statement) (g s : ℕ) : Type 0 where
@@ -213,13 +211,6 @@ LanesLaw c = (tests : List Test) (span : BlockSpan) (f : Fault) (s lanes arrived
     → AreLanesFor tests span c f lanes → HasCome c tests (group_of span) f lanes s arrived
     → TellsFirstFlips c tests (group_of span) (bit_and lanes arrived) s seen
     → TellsFirst c tests span f (bit_and (bit_and lanes arrived) seen)
-
--- The end of following a fault on a group: an observer, with the lanes in which the fault is
--- detected there; or a signal, with the lanes in which the fault has reached it.
-abbrev pub IsReached : List Statement → List Test → ℕ → Fault → ℕ → Reach → Type 0
-IsReached c tests group f mask (Observed word) = (k : ℕ) → k < 128
-    → Decides (lane word k) ((lane mask k ≡ true) × Detects c (test_of tests group k) f)
-IsReached c tests group f mask (Stem at) = HasCome c tests group f mask at.signal at.lanes
 
 -- the faults that complement a signal, in each lane from the bit that the signal has there
 abbrev pub flips : List ℕ → ℕ → ℕ → Fault

@@ -1,8 +1,7 @@
 -- The bound on the gates that a call of a simulation evaluates: the gates on the way of each
 -- followed class to the stem of its region, and the gates that the complemented stem makes active.
-use Rattle.std.specs.Prelude.{◌≡◌, ℕ, ◌+◌, ◌<◌, ◌&&◌, nat_lt, Bool, false, List, Contains}
-use Rattle.std.specs.Prelude.{Some, length, slice_get, if◌then◌else◌}
-use Rattle.std.specs.List.{enumerate_from, sum_by}
+use Rattle.std.specs.Prelude.{◌≡◌, ℕ, ◌+◌, ◌<◌, Bool, List, Contains}
+use Rattle.std.specs.Prelude.{Some, length, slice_get}
 use Rattle.bench_net.specs.Statement.{Statement}
 use Rattle.fault_model.specs.declared.Line.{Line}
 use Rattle.fault_model.specs.declared.Line.TheVariants as line
@@ -11,9 +10,6 @@ use Rattle.fault_model.specs.Fault.{Fault}
 use Rattle.fault_model.specs.Solution.{Test}
 use Rattle.fault_model.specs.Collapse.{representatives}
 use Rattle.fault_model.specs.Detection.{HasBit}
-use Rattle.block_sim.specs.declared.simulation.Memo.{Memo}
-use Rattle.block_sim.specs.declared.simulation.Memo.TheVariants.{Nothing, Pending, Clear, Hit}
-use Rattle.block_sim.specs.Parts.{Parts}
 use Rattle.block_sim.specs.Regions.{Chain, IsStemOf, flip, here, onward}
 use Rattle.block_sim.specs.declared.block_span.BlockSpan.{BlockSpan}
 use Rattle.block_sim.specs.BlockSpans.{IsInSpan}
@@ -48,27 +44,6 @@ SomeWayLaw m c = (class : ℕ) → class < length (representatives m c)
 
 abbrev pub OneWayLaw : Model → List Statement → Type 0
 OneWayLaw m c = (class n k : ℕ) → IsWayOfClass m c class n → IsWayOfClass m c class k → n ≡ k
-
--- the function has this number for each class of a job
-abbrev pub AreWays : Parts → (ℕ → ℕ) → Type 0
-AreWays job way = (class : ℕ) → class < length job.classes.representative
-    → IsWayOfClass job.list.model job.circuit class (way class)
-
--- the block is one of the blocks from a first to a last
-abbrev pub is_between : ℕ → ℕ → ℕ → Bool
-is_between first last block = nat_lt first (block + 1) && nat_lt block (last + 1)
-
--- the memo of a class has an outcome on this block
-abbrev pub is_on : ℕ → Memo → Bool
-is_on block Nothing = false
-is_on block (Pending span) = is_between span.first span.last block
-is_on block (Clear span) = is_between span.first span.last block
-is_on block (Hit first at test) = is_between first at block
-
--- the sum of the numbers of gates over all classes that have a memo on a block
-abbrev pub known_ways : (ℕ → ℕ) → ℕ → List Memo → ℕ
-known_ways way block memos =
-    sum_by (λ at. if is_on block at.1 then way at.0 else 0) (enumerate_from 0 memos)
 
 -- some test of the span makes the gate active if the signal is complemented
 abbrev pub IsActiveByFlip : List Statement → List Test → BlockSpan → ℕ → ℕ → Type 0

@@ -13,11 +13,11 @@ ghost use Rattle.wide_words.specs.Wide.{number};
 ghost use Rattle.block_sim.specs.BlockSpans.{groups};
 ghost use Rattle.block_sim.specs.Flat.{HasEnds};
 ghost use Rattle.block_sim.specs.GateForms.{IsFormOf, inverted_if};
-ghost use Rattle.block_sim.specs.Pack.{AreWithin, copied_bit};
+ghost use Rattle.block_sim.specs.SlotWords.{AreWithin, copied_bit};
 ghost use Rattle.block_sim.specs.Words.{AreWords, IsGroupWord, IsSignalWord, lane};
 
 use crate::flat::{FlatCircuit, FlatGate};
-use crate::pack::in_each_wide_lane;
+use crate::wide_lanes::in_each_wide_lane;
 use crate::words::source_word;
 use patterns::Tests;
 use wide_words::{Copies, Four, Wide};

@@ -9,7 +9,7 @@ ghost use Rattle.block_sim.specs.Job.{AreFaultFree};
 ghost use Rattle.block_sim.specs.Arranged.{ArePlaces, IsArranged};
 ghost use Rattle.block_sim.specs.Origins.{IsListed, IsRepresentativeOf};
 ghost use Rattle.block_sim.specs.JobParts.{AreClassLists, AreFlatRows, IsJobUnder};
-ghost use Rattle.block_sim.specs.RegionHits.{IsFirstOn};
+ghost use Rattle.block_sim.specs.First.{IsFirstOn};
 ghost use Rattle.block_sim.specs.Parts.{BelongTogether, Parts, piece_count, with_tests};
 ghost use Rattle.block_sim.specs.Regions.{IsStemOfClass};
 ghost use Rattle.block_sim.specs.BlockSpans.{IsTogether, groups, unit_of};
@@ -456,7 +456,7 @@ impl Job {
     }
 
     /// Returns the circuit in flat arrays, with the fault-free words of its signals.
-    pub(crate) fn words(&self) -> GroupWords<'_>
+    pub fn words(&self) -> GroupWords<'_>
         ensures part { result.circuit.now.statements ≡ self.now.circuit }
         ensures arranged { IsArranged self.now.circuit result.circuit.now.arranged }
         ensures together { BelongTogether self.now }
@@ -509,7 +509,7 @@ impl Job {
     }
 
     /// Returns the representative of a class.
-    pub(crate) fn representative(&self, class: u32) -> Stuck
+    pub fn representative(&self, class: u32) -> Stuck
         requires { class < length self.now.classes.representative }
         ensures { IsRepresentativeOf self.now class result }
     {
@@ -570,7 +570,7 @@ impl Job {
     }
 
     /// Returns the class after this one in the circle of its region.
-    pub(crate) fn next_in_region(&self, class: u32) -> u32
+    pub fn next_in_region(&self, class: u32) -> u32
         requires { class < length self.now.classes.representative }
         ensures { result < length self.now.classes.representative }
     {

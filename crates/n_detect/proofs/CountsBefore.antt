@@ -9,7 +9,7 @@ use Rattle.fault_model.specs.Fault.{Fault}
 use Rattle.fault_model.specs.Collapse.{representatives}
 use Rattle.fault_model.specs.Detection.{DetectsAt}
 use Rattle.patterns.specs.Least.{below}
-use Rattle.block_sim.specs.GroupLanes.{AreGroupLanes}
+use Rattle.region_sim.specs.GroupLanes.{AreGroupLanes}
 use Rattle.block_sim.specs.Parts.{BelongTogether, Parts}
 use Rattle.block_sim.specs.Words.{lane}
 use Rattle.block_sim.proofs.Public.{representative_at, which_detect}

@@ -2,14 +2,15 @@
 
 ghost use Rattle.std.specs.Prelude.{◌≡◌, ◌+◌, ◌*◌, ◌<◌, ◌≤◌, All, IfOk, length};
 ghost use Rattle.block_sim.specs.BlockSpans.{groups};
-ghost use Rattle.block_sim.specs.GroupLanes.{HaveGroupLanes};
+ghost use Rattle.region_sim.specs.GroupLanes.{HaveGroupLanes};
 ghost use Rattle.block_sim.specs.Origins.{IsListed};
 ghost use Rattle.block_sim.specs.Parts.{HasRoom};
 ghost use Rattle.n_detect.specs.Share.{AreOwners, AreTallied, HasAllClasses, HasCounted};
 ghost use Rattle.n_detect.specs.Share.{HasRowsOf, IsShareFor};
 
 use crate::tally::tally;
-use block_sim::{Job, ListedClass, RegionDetection};
+use block_sim::{Job, ListedClass};
+use region_sim::RegionDetection;
 use std::alloc::{AllocError, Global};
 
 /// The classes of one worker, with the counts of all classes by number. The rows are the classes

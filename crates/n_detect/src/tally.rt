@@ -2,7 +2,7 @@
 
 ghost use Rattle.std.specs.Prelude.{◌≡◌, ◌+◌, ◌*◌, ◌<◌, ◌≤◌, ℕ, All, List, Some, length};
 ghost use Rattle.std.specs.Prelude.{slice_get, take};
-ghost use Rattle.block_sim.specs.GroupLanes.{HaveGroupLanes};
+ghost use Rattle.region_sim.specs.GroupLanes.{HaveGroupLanes};
 ghost use Rattle.block_sim.specs.Parts.{Parts};
 ghost use Rattle.n_detect.specs.Share.{AreTallied};
 

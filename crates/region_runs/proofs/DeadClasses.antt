@@ -13,10 +13,10 @@ use Rattle.patterns.specs.Least.{least}
 use Rattle.patterns.specs.Tests.{blocks}
 use Rattle.block_sim.specs.declared.block_span.BlockSpan.{BlockSpan}
 use Rattle.block_sim.specs.declared.origin.ListedClass.{ListedClass}
-use Rattle.block_sim.specs.OpenPlaces.{AreNextOpen}
+use Rattle.region_sim.specs.OpenPlaces.{AreNextOpen}
 use Rattle.block_sim.specs.Origins.{IsListed}
 use Rattle.block_sim.specs.Parts.{BelongTogether, Parts}
-use Rattle.block_sim.specs.RegionHits.{IsFirstOn}
+use Rattle.block_sim.specs.First.{IsFirstOn}
 use Rattle.block_sim.proofs.Public.{true_table}
 use Rattle.workers.specs.Stops.{Stops}
 use Rattle.region_runs.specs.declared.stretch_run.Stop.{Stop}

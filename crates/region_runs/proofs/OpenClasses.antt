@@ -7,10 +7,10 @@ use Rattle.std.proofs.lemmas.List.{get_or-set_same, get_or-set_other, length-set
 use Rattle.std.proofs.lemmas.Option.{get_or_from_slice_get, slice_get-get_or, slice_get_within}
 use Rattle.block_sim.specs.declared.origin.ListedClass.{ListedClass}
 use Rattle.block_sim.specs.Parts.{BelongTogether, Parts}
-use Rattle.block_sim.specs.RegionHits.{HasFirst}
+use Rattle.region_sim.specs.RegionHits.{HasFirst}
 use Rattle.region_runs.specs.declared.stretch_run.BlockSweep.{BlockSweep}
 use Rattle.region_runs.specs.StretchRuns.{AreFoundUpTo, ArePassed}
-use Rattle.block_sim.specs.OpenPlaces.{AreNextOpen, AreSettled}
+use Rattle.region_sim.specs.OpenPlaces.{AreNextOpen, AreSettled}
 use Rattle.workers.specs.Stops.{Stops}
 use Rattle.region_runs.specs.BlockSweeps.{HaveFirstsFrom, HaveFirstsAfter, between}
 use Rattle.region_runs.proofs.StretchRuns.{found_known}

@@ -14,7 +14,7 @@ use Rattle.patterns.specs.declared.Outcome.TheVariants.{Clear, Hit}
 use Rattle.block_sim.specs.declared.origin.ListedClass.{ListedClass}
 use Rattle.block_sim.specs.First.{IsTrueOutcome}
 use Rattle.block_sim.specs.Parts.{BelongTogether, Parts}
-use Rattle.block_sim.specs.OpenPlaces.{AreSettled}
+use Rattle.region_sim.specs.OpenPlaces.{AreSettled}
 use Rattle.block_sim.proofs.Public.{true_table}
 use Rattle.workers.specs.Schedule.{IsTableOf}
 use Rattle.workers.specs.Stops.{Stops}

@@ -7,7 +7,8 @@ use Rattle.block_sim.specs.declared.origin.ListedClass.{ListedClass}
 use Rattle.block_sim.specs.declared.block_span.BlockSpan.{BlockSpan}
 use Rattle.block_sim.specs.Origins.{IsListed}
 use Rattle.block_sim.specs.Parts.{Parts}
-use Rattle.block_sim.specs.RegionHits.{HasFirst, IsFirstOn, IsOpenAt}
+use Rattle.region_sim.specs.RegionHits.{HasFirst, IsOpenAt}
+use Rattle.block_sim.specs.First.{IsFirstOn}
 use Rattle.block_sim.specs.BlockSpans.{unit_of}
 use Rattle.workers.specs.Stops.{Stops}
 use Rattle.region_runs.specs.declared.stretch_run.BlockSweep.{BlockSweep}

@@ -1,7 +1,7 @@
 -- The runs of one thread over any lists of classes.
 use Rattle.std.specs.Prelude.{◌≡◌, ◌<◌, ℕ, Bool, List, Some, length, slice_get, true}
 use Rattle.block_sim.specs.Parts.{Parts}
-use Rattle.block_sim.specs.RegionHits.{RegionsSimulated, ServesRegions}
+use Rattle.region_sim.specs.RegionHits.{RegionsSimulated, ServesRegions}
 use Rattle.region_runs.specs.Part.{AreAllByRegion}
 
 -- a runner as contracts see it: the simulation of the regions, and the classes in an order

@@ -2,7 +2,7 @@
 
 ghost use Rattle.std.specs.Prelude.{◌≡◌, ◌<◌, ◌≤◌, All, IfOk, false, filter, length, map};
 ghost use Rattle.std.specs.Prelude.{slice_index_or};
-ghost use Rattle.block_sim.specs.RegionHits.{ServesRegions};
+ghost use Rattle.region_sim.specs.RegionHits.{ServesRegions};
 ghost use Rattle.workers.specs.Verdict.{AreAfterHits, AreClassFirsts, AreFirsts};
 ghost use Rattle.region_runs.specs.ListRunners.{AreMarked, ServesLists};
 ghost use Rattle.region_runs.specs.Part.{first_in};
@@ -12,7 +12,8 @@ use crate::open_classes::all_open;
 use crate::parts::{PartVerdict, by_class, first_in, firsts_of_faults, skipped_after, verdict_on};
 use crate::stretch_run::{rows_of, run_list};
 use crate::stretch_workers::no_firsts;
-use block_sim::{Job, RegionSimulation};
+use block_sim::Job;
+use region_sim::RegionSimulation;
 use std::alloc::{AllocError, Global};
 use std::marker::Model;
 use workers::{OpenGate, Verdicts};

@@ -2,7 +2,7 @@
 
 ghost use Rattle.std.specs.Prelude.{◌≡◌, ◌+◌, ◌<◌, ℕ, All, IfOk, None, Some, length, slice_get};
 ghost use Rattle.std.specs.Prelude.{slice_set};
-ghost use Rattle.block_sim.specs.OpenPlaces.{AreNextOpen};
+ghost use Rattle.region_sim.specs.OpenPlaces.{AreNextOpen};
 
 use std::alloc::{AllocError, Global};
 

@@ -5,23 +5,24 @@ ghost use Rattle.std.specs.Prelude.{Some};
 ghost use Rattle.std.specs.Prelude.{false, length, slice_get, true};
 ghost use Rattle.patterns.specs.Least.{Table, least};
 ghost use Rattle.patterns.specs.Tests.{blocks};
-ghost use Rattle.block_sim.specs.First.{IsTrueOutcome};
+ghost use Rattle.block_sim.specs.First.{IsTrueOutcome, IsFirstOn};
 ghost use Rattle.block_sim.specs.Origins.{IsListed};
 ghost use Rattle.block_sim.specs.Parts.{BelongTogether, Parts};
-ghost use Rattle.block_sim.specs.RegionHits.{IsFirstOn, ServesRegions};
+ghost use Rattle.region_sim.specs.RegionHits.{ServesRegions};
 ghost use Rattle.workers.specs.Schedule.{IsTableOf};
 ghost use Rattle.region_runs.specs.StretchRuns.{AreEarlier, AreFoundUpTo, ArePassed, HasEnded};
 ghost use Rattle.region_runs.specs.StretchRuns.{IsLowerOf, IsLowest, IsOpenIn, IsStopAt};
 ghost use Rattle.region_runs.specs.StretchRuns.{IsUndetected};
-ghost use Rattle.block_sim.specs.OpenPlaces.{AreNextOpen};
+ghost use Rattle.region_sim.specs.OpenPlaces.{AreNextOpen};
 ghost use Rattle.region_runs.specs.BlockSweeps.{HaveFirstsFrom, HaveFirstsAfter, AreRowsOf};
 ghost use Rattle.region_runs.specs.BlockSweeps.{AreAllNotStopped, AreNotStopped, AreDeadFrom};
 ghost use Rattle.region_runs.specs.BlockSweeps.{IsBlockSweep};
 ghost use Rattle.region_runs.specs.BlockSweeps.{IsWhole, between, classes_of};
 
 use crate::open_classes::{leave_out, next_open};
-use block_sim::{Job, ListedClass, RegionSimulation};
+use block_sim::{Job, ListedClass};
 use patterns::Outcome;
+use region_sim::RegionSimulation;
 use std::alloc::{AllocError, Global};
 use workers::Gate;
 

@@ -3,7 +3,7 @@ use Rattle.std.proofs.Common.{◌≡◌, ◌<◌, ◌⊎◌, inl, inr, ℕ, zero
 use Rattle.std.proofs.Common.{get_or, All, refl, sym, ap, ◌∙◌, subst, arith}
 use Rattle.std.proofs.lemmas.List.{length-map}
 use Rattle.block_sim.specs.Parts.{Parts}
-use Rattle.block_sim.specs.Simulation.{Serves}
+use Rattle.region_sim.specs.Simulation.{Serves}
 use Rattle.fault_ledger.specs.History.{class_of, block_of}
 use Rattle.fault_ledger.specs.Seats.{Place, Sitter, newcomer, newcomers}
 use Rattle.patterns.proofs.Public.{length-map-below, get_or-map-below}

@@ -4,10 +4,11 @@ ghost use Rattle.std.specs.Prelude.{◌≡◌, ◌<◌, ◌≤◌, length};
 ghost use Rattle.patterns.specs.Tests.{blocks};
 ghost use Rattle.block_sim.specs.First.{IsTrueOutcome};
 ghost use Rattle.block_sim.specs.Parts.{HasRoom};
-ghost use Rattle.block_sim.specs.Simulation.{Serves};
+ghost use Rattle.region_sim.specs.Simulation.{Serves};
 
-use block_sim::{Job, Simulation, Workspace, first_hit};
+use block_sim::{Job, Workspace, first_hit};
 use patterns::Outcome;
+use region_sim::Simulation;
 
 /// A simulator, which returns the true outcome of each piece of a job that it serves.
 pub(crate) trait Simulator {

@@ -6,7 +6,7 @@ ghost use Rattle.std.specs.Option.{option_map_or};
 ghost use Rattle.patterns.specs.Least.{Table, below};
 ghost use Rattle.patterns.specs.Tests.{max_pieces};
 ghost use Rattle.block_sim.specs.Parts.{piece_count as job_pieces};
-ghost use Rattle.block_sim.specs.Simulation.{Serves};
+ghost use Rattle.region_sim.specs.Simulation.{Serves};
 ghost use Rattle.fault_ledger.specs.declared.Shape.{Shape};
 ghost use Rattle.fault_ledger.specs.Answer.{IsLegal};
 ghost use Rattle.fault_ledger.specs.Face.{HasHistory, face};
@@ -18,8 +18,9 @@ ghost use Rattle.workers.specs.Verdict.{AreFirsts};
 
 use crate::verdicts::verdicts_of;
 use crate::{RunFault, Verdicts, check_job, check_workers};
-use block_sim::{Job, Simulation};
+use block_sim::Job;
 use fault_ledger::{Claim, Event, Ledger};
+use region_sim::Simulation;
 use std::alloc::{AllocError, Global};
 
 /// Makes a move of a worker: it claims if it holds nothing, else it drops its piece if it can, else

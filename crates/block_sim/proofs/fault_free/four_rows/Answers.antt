@@ -5,8 +5,7 @@ use Rattle.std.proofs.lemmas.List.{with_items_is}
 use Rattle.bench_net.specs.Scan.{names}
 use Rattle.block_sim.specs.GroupRows.{AreRowsFrom}
 use Rattle.block_sim.proofs.ArrangedSignals.{sources_there}
-use Rattle.block_sim.proofs.FourWords.{four_from, pushed_row}
-use Rattle.block_sim.proofs.UnitApproaches.{of_four}
+use Rattle.block_sim.proofs.FourWords.{four_from, pushed_row, of_four}
 use Rattle.block_sim.proofs.fault_free.four_rows.Goals as goal
 
 pub evaluate_four-requires-clause-width : goal.evaluate_four-requires-clause-width

@@ -5,8 +5,8 @@ use Rattle.fault_model.specs.Detection.{name_on}
 use Rattle.block_sim.specs.PropagationState.{IsAsLarge}
 use Rattle.block_sim.specs.Propagation.{IsSettled}
 use Rattle.block_sim.specs.Stuck.{stuck_fault}
-use Rattle.block_sim.proofs.FaultStart.{shown_none, shown_at_observer, turned_is}
-use Rattle.block_sim.proofs.FaultStart.{output_observed, data_observed}
+use Rattle.block_sim.proofs.FaultStart.{shown_none, shown_at_observer, turned_is, output_observed}
+use Rattle.block_sim.proofs.FaultStart.{data_observed}
 use Rattle.block_sim.proofs.Lanes.{lane_zero}
 use Rattle.block_sim.proofs.LineStarts.{is_carried, is_on_name, pin_counted, starts_on_pin}
 use Rattle.block_sim.proofs.LineStarts.{starts_on_stem}

@@ -7,8 +7,7 @@ use Rattle.patterns.proofs.Public.{length-below}
 use Rattle.wide_words.specs.Layouts.{one_of}
 use Rattle.block_sim.proofs.ArrangedSignals.{natural_order}
 use Rattle.block_sim.proofs.FlowPass.{ArePassed, natural_more, passed_all}
-use Rattle.block_sim.proofs.FourWords.{set_each}
-use Rattle.block_sim.proofs.UnitApproaches.{of_four}
+use Rattle.block_sim.proofs.FourWords.{set_each, of_four}
 use Rattle.block_sim.proofs.four_words.evaluate_four.Goals as goal
 
 pub loop-signal-preserved : goal.loop-signal-preserved

@@ -4,9 +4,8 @@ use Rattle.bench_net.specs.Scan.{names}
 use Rattle.fault_model.specs.Solution.{value}
 use Rattle.wide_words.specs.Layouts.{one_of}
 use Rattle.block_sim.proofs.Equations.{gate_equation, pins_within, pins_some, source_equation}
-use Rattle.block_sim.proofs.FourWords.{slot_bits}
+use Rattle.block_sim.proofs.FourWords.{slot_bits, of_four}
 use Rattle.block_sim.proofs.GateLanes.{plain_pins}
-use Rattle.block_sim.proofs.UnitApproaches.{of_four}
 use Rattle.block_sim.proofs.four_words.signal_words.Goals as goal
 
 pub wide_gate_word-requires-clause-some : goal.wide_gate_word-requires-clause-some

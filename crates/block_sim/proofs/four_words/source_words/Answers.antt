@@ -1,6 +1,6 @@
 use Rattle.std.proofs.Common.{◌≡◌, ◌+◌, ℕ, arith, subst}
 use Rattle.block_sim.specs.Words.{IsGroupWord}
-use Rattle.block_sim.proofs.UnitApproaches.{of_four}
+use Rattle.block_sim.proofs.FourWords.{of_four}
 use Rattle.block_sim.proofs.four_words.source_words.Goals as goal
 
 pub returns : goal.returns

@@ -2,12 +2,12 @@ use Rattle.std.proofs.Common.{◌≡◌, ◌<◌, ◌-◌, ◌+◌, ◌∙◌, a
 use Rattle.std.specs.Prelude.{slice_index_or}
 use Rattle.wide_words.specs.Wide.{number}
 use Rattle.block_sim.specs.GateForms.{inverted_if}
-use Rattle.block_sim.specs.Pack.{copied_bit}
+use Rattle.block_sim.specs.SlotWords.{copied_bit}
 use Rattle.block_sim.specs.Words.{lane}
 use Rattle.block_sim.proofs.FourWords.{turned_bit_of}
 use Rattle.block_sim.proofs.GateLanes.{at_last}
 use Rattle.block_sim.proofs.Lanes.{lane_and}
-use Rattle.block_sim.proofs.PackGates.{all_first, all_last, all_more}
+use Rattle.block_sim.proofs.PinFolds.{all_first, all_last, all_more}
 use Rattle.block_sim.proofs.four_words.wide_all_of.Goals as goal
 
 pub loop-place-init : goal.loop-place-init

@@ -2,7 +2,7 @@ use Rattle.std.proofs.Common.{◌≡◌, ◌<◌, ◌≤◌, ℕ, length, map, t
 use Rattle.std.specs.List.{list_all}
 use Rattle.wide_words.specs.Wide.{number}
 use Rattle.block_sim.specs.GateForms.{inverted_if}
-use Rattle.block_sim.specs.Pack.{copied_bit}
+use Rattle.block_sim.specs.SlotWords.{copied_bit}
 use Rattle.block_sim.specs.Words.{lane}
 use Rattle.block_sim.proofs.four_words.wide_all_of.Given as goal
 

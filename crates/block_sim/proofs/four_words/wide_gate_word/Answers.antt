@@ -1,6 +1,6 @@
 use Rattle.std.proofs.Common.{◌∙◌, ap, inl, inr, map}
 use Rattle.wide_words.specs.Wide.{number}
-use Rattle.block_sim.specs.Pack.{copied_bit}
+use Rattle.block_sim.specs.SlotWords.{copied_bit}
 use Rattle.block_sim.specs.Words.{lane}
 use Rattle.block_sim.proofs.GateLanes.{chosen_lane}
 use Rattle.block_sim.proofs.four_words.wide_gate_word.Goals as goal

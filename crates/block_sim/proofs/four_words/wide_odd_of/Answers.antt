@@ -1,9 +1,9 @@
 use Rattle.std.proofs.Common.{◌≡◌, ◌<◌, ◌-◌, ◌+◌, ◌∙◌, ap, arith, length, ◌≤◌}
 use Rattle.wide_words.specs.Wide.{number}
-use Rattle.block_sim.specs.Pack.{copied_bit}
+use Rattle.block_sim.specs.SlotWords.{copied_bit}
 use Rattle.block_sim.specs.Words.{lane}
 use Rattle.block_sim.proofs.Lanes.{lane_xor}
-use Rattle.block_sim.proofs.PackGates.{odd_last, odd_more}
+use Rattle.block_sim.proofs.PinFolds.{odd_last, odd_more}
 use Rattle.block_sim.proofs.four_words.wide_odd_of.Goals as goal
 
 pub loop-place-preserved : goal.loop-place-preserved

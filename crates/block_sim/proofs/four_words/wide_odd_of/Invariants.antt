@@ -1,7 +1,7 @@
 use Rattle.std.proofs.Common.{◌≡◌, ◌<◌, ◌≤◌, ℕ, length, map, take}
 use Rattle.fault_model.specs.Solution.{is_odd}
 use Rattle.wide_words.specs.Wide.{number}
-use Rattle.block_sim.specs.Pack.{copied_bit}
+use Rattle.block_sim.specs.SlotWords.{copied_bit}
 use Rattle.block_sim.specs.Words.{lane}
 use Rattle.block_sim.proofs.four_words.wide_odd_of.Given as goal
 

@@ -9,10 +9,8 @@ use Rattle.block_sim.specs.Moments.{Case, Spreads, moment}
 use Rattle.block_sim.specs.Propagation.{IsFirstChange, IsSettled}
 use Rattle.block_sim.proofs.EndOfPropagation.{shown_unchanged}
 use Rattle.block_sim.proofs.PendingGates.{count_at_most}
-use Rattle.block_sim.proofs.Moments.{large_none, leads_none, leads_on}
-use Rattle.block_sim.proofs.Moments.{leads_cleared, leads_higher, leads_taken, place_within}
-use Rattle.block_sim.proofs.Moments.{taken_behind}
-use Rattle.block_sim.proofs.Moments.{taken_now}
+use Rattle.block_sim.proofs.Moments.{large_none, leads_none, leads_on, leads_cleared, leads_higher}
+use Rattle.block_sim.proofs.Moments.{leads_taken, place_within, taken_behind, taken_now}
 use Rattle.block_sim.proofs.WholePropagations.{HasEnded, begins, has_ended}
 use Rattle.block_sim.proofs.propagation.propagate.Goals as goal
 use Rattle.block_sim.proofs.propagation.propagate.Goals.{In-Some, After-clear-2}

@@ -2,8 +2,8 @@ use Rattle.std.proofs.Common.{◌<◌, ◌∙◌, ap, arith, length, refl, sym, 
 use Rattle.std.specs.Prelude.{slice_index_or}
 use Rattle.std.proofs.lemmas.List.{length-set}
 use Rattle.block_sim.proofs.Readers.{reader_within}
-use Rattle.block_sim.proofs.ScheduledGates.{HasScheduled, scheduled_none}
-use Rattle.block_sim.proofs.ScheduledGates.{scheduled_added, scheduled_all}
+use Rattle.block_sim.proofs.ScheduledGates.{HasScheduled, scheduled_none, scheduled_added}
+use Rattle.block_sim.proofs.ScheduledGates.{scheduled_all}
 use Rattle.block_sim.proofs.propagation.schedule_fanout.Goals as goal
 
 pub loop-reader-init : goal.loop-reader-init

@@ -4,7 +4,7 @@ use Rattle.block_sim.specs.GateForms.{inverted_if}
 use Rattle.block_sim.specs.Words.{lane}
 use Rattle.block_sim.proofs.GateLanes.{at_last, turned_lane}
 use Rattle.block_sim.proofs.Lanes.{lane_and}
-use Rattle.block_sim.proofs.PackGates.{all_first, all_last, all_more}
+use Rattle.block_sim.proofs.PinFolds.{all_first, all_last, all_more}
 use Rattle.block_sim.proofs.words.all_of.Goals as goal
 
 pub loop-place-init : goal.loop-place-init

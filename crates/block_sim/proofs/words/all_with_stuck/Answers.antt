@@ -5,10 +5,9 @@ use Rattle.patterns.specs.Least.{below}
 use Rattle.patterns.proofs.Public.{get_or-below, length-below}
 use Rattle.block_sim.specs.GateForms.{inverted_if}
 use Rattle.block_sim.specs.Words.{lane}
-use Rattle.block_sim.proofs.GateLanes.{at_last, pin_bit, pin_seen, pins_by_place}
-use Rattle.block_sim.proofs.GateLanes.{turned_lane}
+use Rattle.block_sim.proofs.GateLanes.{at_last, pin_bit, pin_seen, pins_by_place, turned_lane}
 use Rattle.block_sim.proofs.Lanes.{lane_and}
-use Rattle.block_sim.proofs.PackGates.{all_first, all_last, all_more}
+use Rattle.block_sim.proofs.PinFolds.{all_first, all_last, all_more}
 use Rattle.block_sim.proofs.words.all_with_stuck.Goals as goal
 
 pub loop-place-init : goal.loop-place-init

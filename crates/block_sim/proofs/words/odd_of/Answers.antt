@@ -2,7 +2,7 @@ use Rattle.std.proofs.Common.{◌≡◌, ◌<◌, ◌-◌, ◌+◌, ◌∙◌, �
 use Rattle.std.specs.Prelude.{slice_index_or}
 use Rattle.block_sim.specs.Words.{lane}
 use Rattle.block_sim.proofs.Lanes.{lane_xor}
-use Rattle.block_sim.proofs.PackGates.{odd_first, odd_last, odd_more, odd_only}
+use Rattle.block_sim.proofs.PinFolds.{odd_first, odd_last, odd_more, odd_only}
 use Rattle.block_sim.proofs.words.odd_of.Goals as goal
 
 pub loop-place-init : goal.loop-place-init

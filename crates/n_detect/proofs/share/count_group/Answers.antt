@@ -1,6 +1,6 @@
 use Rattle.std.proofs.Common.{◌≡◌, ◌+◌, ◌*◌, ◌∙◌, ◌++◌, ℕ, List, ap, drop, length, subst, sym, take}
 use Rattle.std.proofs.Math.Seq.{take-append_seam}
-use Rattle.block_sim.specs.GroupLanes.{HaveGroupLanes}
+use Rattle.region_sim.specs.GroupLanes.{HaveGroupLanes}
 use Rattle.n_detect.specs.Share.{AreTallied}
 use Rattle.n_detect.proofs.share.count_group.Goals as goal
 

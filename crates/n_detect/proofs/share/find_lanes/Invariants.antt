@@ -1,5 +1,5 @@
 use Rattle.std.proofs.Common.{◌≡◌, ◌-◌, ◌≤◌, length}
-use Rattle.block_sim.specs.GroupLanes.{HaveGroupLanes}
+use Rattle.region_sim.specs.GroupLanes.{HaveGroupLanes}
 use Rattle.block_sim.specs.Parts.{HasRoom}
 use Rattle.n_detect.proofs.share.find_lanes.Given as goal
 

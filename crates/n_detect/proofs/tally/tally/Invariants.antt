@@ -1,6 +1,6 @@
 use Rattle.std.proofs.Common.{◌≡◌, ◌≤◌, ◌*◌, ℕ, List, length}
 use Rattle.std.specs.Prelude.{slice_get}
-use Rattle.block_sim.specs.GroupLanes.{HaveGroupLanes}
+use Rattle.region_sim.specs.GroupLanes.{HaveGroupLanes}
 use Rattle.block_sim.specs.Parts.{Parts}
 use Rattle.n_detect.specs.Share.{AreTallied}
 use Rattle.n_detect.proofs.Tallies.{IsTalliedTo}

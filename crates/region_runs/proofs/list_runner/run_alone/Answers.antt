@@ -1,7 +1,7 @@
 use Rattle.std.proofs.Common.{◌≡◌, ◌∙◌, ap, arith, length, subst, sym}
 use Rattle.std.proofs.lemmas.List.{with_items_is}
 use Rattle.region_runs.specs.StretchRuns.{AreFoundUpTo}
-use Rattle.block_sim.specs.OpenPlaces.{AreNextOpen}
+use Rattle.region_sim.specs.OpenPlaces.{AreNextOpen}
 use Rattle.workers.specs.Stops.{no_stop}
 use Rattle.workers.specs.Verdict.{AreClassFirsts}
 use Rattle.region_runs.specs.BlockSweeps.{classes_of}

@@ -1,5 +1,5 @@
 use Rattle.std.proofs.Common.{◌+◌, ◌≤◌}
-use Rattle.block_sim.specs.RegionHits.{IsFirstOn}
+use Rattle.block_sim.specs.First.{IsFirstOn}
 use Rattle.region_runs.specs.BlockSweeps.{between}
 use Rattle.region_runs.specs.StretchRuns.{IsUndetected}
 use Rattle.region_runs.proofs.stretch_run.first_through.Given as goal

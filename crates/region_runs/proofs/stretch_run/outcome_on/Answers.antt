@@ -1,5 +1,5 @@
 use Rattle.std.proofs.Common.{◌≡◌, ◌/◌, ◌∙◌, sym, subst, Some, None}
-use Rattle.block_sim.specs.RegionHits.{IsFirstOn}
+use Rattle.block_sim.specs.First.{IsFirstOn}
 use Rattle.region_runs.specs.BlockSweeps.{between}
 use Rattle.region_runs.proofs.BlockSweeps.{first_later, true_clear, true_hit}
 use Rattle.region_runs.proofs.stretch_run.outcome_on.Goals as goal

@@ -1,6 +1,6 @@
 use Rattle.std.proofs.Common.{◌≡◌, ◌++◌, ◌∙◌, All, ap, arith, length, subst, sym}
 use Rattle.patterns.specs.Tests.{TestList, blocks}
-use Rattle.block_sim.specs.OpenPlaces.{AreNextOpen}
+use Rattle.region_sim.specs.OpenPlaces.{AreNextOpen}
 use Rattle.block_sim.specs.Origins.{IsListed}
 use Rattle.region_runs.specs.BlockSweeps.{AreDeadFrom, classes_of}
 use Rattle.region_runs.specs.StretchRuns.{AreFoundUpTo, HasEnded}

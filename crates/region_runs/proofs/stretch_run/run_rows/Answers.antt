@@ -2,7 +2,7 @@ use Rattle.std.proofs.Common.{◌≡◌, ◌+◌, ◌-◌, ◌<◌, ◌≤◌, s
 use Rattle.std.proofs.lemmas.Option.{slice_get_within}
 use Rattle.patterns.specs.Tests.{blocks}
 use Rattle.std.specs.Prelude.{length}
-use Rattle.block_sim.specs.RegionHits.{HasFirst, IsOpenAt}
+use Rattle.region_sim.specs.RegionHits.{HasFirst, IsOpenAt}
 use Rattle.region_runs.specs.BlockSweeps.{between}
 use Rattle.region_runs.proofs.stretch_run.run_rows.Goals as goal
 

@@ -1,9 +1,9 @@
 use Rattle.std.proofs.Common.{◌<◌, ◌≤◌, ◌-◌, ℕ, length}
 use Rattle.patterns.specs.Tests.{blocks}
 use Rattle.block_sim.specs.declared.origin.ListedClass.{ListedClass}
-use Rattle.block_sim.specs.RegionHits.{HasFirst, IsOpenAt, ServesRegions}
+use Rattle.region_sim.specs.RegionHits.{HasFirst, IsOpenAt, ServesRegions}
 use Rattle.region_runs.specs.StretchRuns.{AreFoundUpTo, ArePassed}
-use Rattle.block_sim.specs.OpenPlaces.{AreNextOpen}
+use Rattle.region_sim.specs.OpenPlaces.{AreNextOpen}
 use Rattle.region_runs.specs.BlockSweeps.{between, classes_of}
 use Rattle.region_runs.proofs.stretch_run.run_rows.Given as goal
 

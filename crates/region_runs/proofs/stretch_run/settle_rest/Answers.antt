@@ -3,8 +3,8 @@ use Rattle.std.specs.Prelude.{None, Some}
 use Rattle.std.proofs.lemmas.List.{length-map}
 use Rattle.std.proofs.lemmas.Option.{slice_get_within}
 use Rattle.block_sim.specs.declared.origin.ListedClass.{ListedClass}
-use Rattle.block_sim.specs.OpenPlaces.{AreSettled}
-use Rattle.block_sim.specs.RegionHits.{IsFirstOn}
+use Rattle.region_sim.specs.OpenPlaces.{AreSettled}
+use Rattle.block_sim.specs.First.{IsFirstOn}
 use Rattle.region_runs.specs.BlockSweeps.{between, classes_of}
 use Rattle.region_runs.proofs.BlockSweeps.{class_there, row_listed}
 use Rattle.region_runs.proofs.OpenClasses.{open_still, settled_over, settled_still}

@@ -1,7 +1,7 @@
 use Rattle.std.proofs.Common.{◌≡◌, ◌∙◌, ◌<◌, All, ap, arith, length, subst, sym}
 use Rattle.block_sim.specs.Origins.{IsListed}
 use Rattle.region_runs.specs.StretchRuns.{AreFoundUpTo}
-use Rattle.block_sim.specs.OpenPlaces.{AreNextOpen}
+use Rattle.region_sim.specs.OpenPlaces.{AreNextOpen}
 use Rattle.region_runs.specs.BlockSweeps.{classes_of}
 use Rattle.region_runs.proofs.PartsOfClasses.{stretch_within}
 use Rattle.region_runs.proofs.ClaimedStretches.{none_found}

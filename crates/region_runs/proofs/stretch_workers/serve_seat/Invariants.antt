@@ -1,5 +1,5 @@
 use Rattle.std.proofs.Common.{◌≡◌, ◌-◌, None}
-use Rattle.block_sim.specs.RegionHits.{ServesRegions}
+use Rattle.region_sim.specs.RegionHits.{ServesRegions}
 use Rattle.fault_ledger.specs.History.{claims, held_by, piece_count}
 use Rattle.region_runs.proofs.StretchSeats.{Serving}
 use Rattle.region_runs.proofs.stretch_workers.serve_seat.Given as goal

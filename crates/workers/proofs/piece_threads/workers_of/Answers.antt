@@ -2,7 +2,7 @@ use Rattle.std.proofs.Common.{◌∙◌, ◌++◌, ◌∷◌, [], sym, ap, appen
 use Rattle.std.proofs.lemmas.List.{map-append}
 use Rattle.std.proofs.lemmas.List.Elements.{All-append, All-cons, All-nil}
 use Rattle.std.specs.Vec.Iter.{into_iter_items}
-use Rattle.block_sim.specs.Simulation.{Serves}
+use Rattle.region_sim.specs.Simulation.{Serves}
 use Rattle.workers.specs.declared.piece_threads.Worker.{Worker}
 use Rattle.workers.proofs.piece_threads.workers_of.Goals as goal
 

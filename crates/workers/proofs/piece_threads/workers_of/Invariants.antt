@@ -1,6 +1,6 @@
 use Rattle.std.proofs.Common.{◌≡◌, ◌++◌, map, All}
 use Rattle.std.specs.Vec.Iter.{into_iter_items}
-use Rattle.block_sim.specs.Simulation.{Serves}
+use Rattle.region_sim.specs.Simulation.{Serves}
 use Rattle.workers.proofs.piece_threads.workers_of.Given as goal
 
 abbrev pub invariant-loop-seat : goal.invariant-loop-seat

@@ -5,7 +5,7 @@ use Rattle.fault_ledger.specs.Answer.{IsLegal}
 use Rattle.fault_ledger.specs.Face.{face}
 use Rattle.workers.specs.Schedule.{IsTableOf}
 use Rattle.workers.proofs.MoveLists.{Done}
-use Rattle.block_sim.specs.Simulation.{Serves}
+use Rattle.region_sim.specs.Simulation.{Serves}
 use Rattle.workers.proofs.schedule.play.Given as goal
 
 abbrev pub invariant-loop-worker : goal.invariant-loop-worker

@@ -5,7 +5,7 @@ use Rattle.fault_ledger.specs.Answer.{IsLegal}
 use Rattle.fault_ledger.specs.Face.{face}
 use Rattle.workers.specs.Schedule.{IsTableOf}
 use Rattle.workers.proofs.MoveLists.{Turned, left_of}
-use Rattle.block_sim.specs.Simulation.{Serves}
+use Rattle.region_sim.specs.Simulation.{Serves}
 use Rattle.workers.proofs.schedule.take_turns.Given as goal
 
 abbrev pub invariant-turns : goal.invariant-turns

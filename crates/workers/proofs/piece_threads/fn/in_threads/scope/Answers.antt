@@ -3,7 +3,7 @@ use Rattle.std.proofs.Common.{sym, subst, ap, ◌∙◌, length, suc}
 use Rattle.std.specs.Vec.Iter.{into_iter_items, into_iter_len}
 use Rattle.std.proofs.lemmas.Option.{get_or_from_slice_get, slice_get_within}
 use Rattle.std.proofs.iter.Serving.{serving}
-use Rattle.block_sim.specs.Simulation.{Serves}
+use Rattle.region_sim.specs.Simulation.{Serves}
 use Rattle.fault_ledger.specs.Seats.{newcomer}
 use Rattle.workers.proofs.ThreadHandles.{workers_count, seat_at, serves_at, own_newcomer}
 use Rattle.workers.proofs.ThreadHandles.{returns_along}

@@ -1,7 +1,7 @@
 use Rattle.std.proofs.Common.{◌≡◌, ◌<◌, ◌+◌, ℕ, get_or, vec_items, vec_len}
 use Rattle.std.specs.Vec.Iter.{into_iter_items, into_iter_len}
 use Rattle.fault_ledger.specs.Seats.{newcomer}
-use Rattle.block_sim.specs.Simulation.{Serves}
+use Rattle.region_sim.specs.Simulation.{Serves}
 use Rattle.workers.proofs.piece_threads.fn.in_threads.scope.Given as goal
 
 -- the workers that are left are those from the number of the handles on, and each handle is

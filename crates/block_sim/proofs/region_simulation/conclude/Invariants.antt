@@ -1,5 +1,0 @@
-use Rattle.block_sim.proofs.RegionHits.{AreToldBelow}
-use Rattle.block_sim.proofs.region_simulation.conclude.Given as goal
-
-abbrev pub invariant-loop-one : goal.invariant-loop-one
-invariant-loop-one l = AreToldBelow l.span l.seen l.followed l.one-index l.fn.hits l.hits

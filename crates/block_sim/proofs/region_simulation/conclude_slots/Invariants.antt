@@ -1,8 +1,0 @@
-use Rattle.wide_words.specs.Wide.{number}
-use Rattle.block_sim.specs.RegionHits.{AreSlotsConcluded}
-use Rattle.block_sim.proofs.region_simulation.conclude_slots.Given as goal
-
-abbrev pub invariant-loop-slot : goal.invariant-loop-slot
-invariant-loop-slot g l =
-    AreSlotsConcluded g.C.Copies.layout l.span (number l.seen) l.followed l.stems l.slot l.fn.hits
-    l.hits

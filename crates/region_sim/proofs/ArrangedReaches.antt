@@ -1,0 +1,24 @@
+-- The end of following a fault, in words in another order, is true of the original circuit.
+use Rattle.std.proofs.Common.{ℕ, List}
+use Rattle.bench_net.specs.Statement.{Statement}
+use Rattle.bench_net.specs.Circuit.{IsWellFormed}
+use Rattle.fault_model.specs.Fault.{Fault}
+use Rattle.fault_model.specs.Solution.{Test}
+use Rattle.fault_model.specs.Reordered.{moved_fault}
+use Rattle.fault_model.proofs.Public.{detected_same}
+use Rattle.region_sim.specs.declared.region.Reach.TheVariants.{Observed}
+use Rattle.block_sim.specs.Arranged.{IsArranged}
+use Rattle.region_sim.specs.Reached.{IsReached}
+use Rattle.block_sim.specs.Words.{test_of}
+use Rattle.block_sim.proofs.Public.{reordered}
+
+module _ (c d : List Statement) (well : IsWellFormed c) (arranged : IsArranged c d) where
+  -- the same tests of a group detect a fault
+  pub reached_there : (tests : List Test) (group : ℕ) (f : Fault) (mask word : ℕ)
+      → IsReached d tests group (moved_fault c d f) mask (Observed word)
+      → IsReached c tests group f mask (Observed word)
+  reached_there tests group f mask word h k lt =
+      let same = detected_same c d well (reordered c d well arranged) (test_of tests group k) f in (
+        λ e. (((h k lt).0 e).0, same.1 ((h k lt).0 e).1),
+        λ e. (h k lt).1 (e.0, same.0 e.1),
+      )

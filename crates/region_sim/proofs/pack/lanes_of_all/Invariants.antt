@@ -1,0 +1,16 @@
+use Rattle.std.proofs.Common.{◌≡◌, ◌<◌, ◌≤◌, ℕ, length, map, take}
+use Rattle.std.specs.List.{list_all}
+use Rattle.wide_words.specs.Wide.{number}
+use Rattle.block_sim.specs.GateForms.{inverted_if}
+use Rattle.region_sim.specs.Pack.{wide_bit}
+use Rattle.block_sim.specs.Words.{lane}
+use Rattle.region_sim.proofs.pack.lanes_of_all.Given as goal
+
+abbrev pub invariant-loop-place : goal.invariant-loop-place
+invariant-loop-place g l = record {
+  all : (k : ℕ) → k < 512 → lane (number l.all) k
+      ≡ list_all (λ b. inverted_if l.gate.form.inverts_inputs b)
+      (take l.place (map (wide_bit g.C.Copies.layout (g.C.Copies.rows l.copies) l.deltas k)
+      l.gate.pins.now));
+  within : l.place ≤ length l.gate.pins.now;
+}

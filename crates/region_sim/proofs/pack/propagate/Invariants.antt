@@ -1,0 +1,48 @@
+use Rattle.std.proofs.Common.{◌≡◌, ◌<◌, ◌≤◌, ◌+◌, ◌-◌, ℕ, List, length, true, false}
+use Rattle.std.specs.Prelude.{count_by}
+use Rattle.bench_net.specs.Circuit.{IsWellFormed}
+use Rattle.bench_net.specs.Scan.{names}
+use Rattle.fault_model.specs.Solution.{Test}
+use Rattle.wide_words.specs.Wide.{number}
+use Rattle.block_sim.specs.Events.{IsRising}
+use Rattle.region_sim.specs.Pack.{AreHitIn, AreRows, HasActiveByPack}
+use Rattle.block_sim.specs.Propagation.{is_pending}
+use Rattle.block_sim.specs.Words.{lane}
+use Rattle.region_sim.proofs.OneLane.{self}
+use Rattle.region_sim.proofs.PackLanes.{ArePropagating}
+use Rattle.region_sim.proofs.PackStarts.{pack_moment, stem_lanes}
+use Rattle.region_sim.proofs.PackWords.{differs_in}
+use Rattle.region_sim.proofs.pack.propagate.Given as goal
+
+abbrev pub invariant-loop-gate : goal.invariant-loop-gate
+invariant-loop-gate g l = record {
+  deltas : length l.deltas ≡ length l.initial.deltas;
+  waiting : length l.waiting ≡ length l.initial.waiting;
+  within : l.from ≤ length (names l.circuit.arranged);
+  grown : l.initial.evaluations ≤ l.evaluations;
+  inside : (s k : ℕ) → k < 512 → differs_in l.deltas s k ≡ true
+      → lane (number l.initial.found.kept) k ≡ true;
+  narrow : (k : ℕ) → k < 512 → lane (number l.found.kept) k ≡ true
+      → lane (number l.initial.found.kept) k ≡ true;
+  settled : (k : ℕ) → k < 512 → lane (number l.initial.found.kept) k ≡ true
+      → lane (number l.found.kept) k ≡ false
+      → AreHitIn g.C.Copies.layout l.stems l.followed (number l.found.seen) k;
+  state : (tests : List Test) (group : ℕ → ℕ) (well : IsWellFormed l.circuit.arranged)
+      (rising : IsRising l.circuit.arranged)
+      (free : AreRows l.circuit.arranged tests g.C.Copies.layout group (g.C.Copies.rows l.copies))
+      → ArePropagating l.circuit.arranged 512
+      (stem_lanes g.C.Copies.layout g.C.Copies.sized l.circuit.arranged well rising tests group
+      (g.C.Copies.rows l.copies) free l.stems)
+      (pack_moment g.C.Copies.layout g.C.Copies.sized l.circuit.arranged well rising tests group
+      (g.C.Copies.rows l.copies) free l.stems l.deltas l.waiting l.from (number l.found.kept)
+      (number l.found.seen));
+  counted : (tests : List Test) (group : ℕ → ℕ) (gates : List ℕ)
+      → AreRows l.circuit.arranged tests g.C.Copies.layout group (g.C.Copies.rows l.copies)
+      → HasActiveByPack g.C.Copies.layout l.circuit.arranged tests group (g.C.Copies.rows l.copies)
+      l.stems l.followed
+      gates → l.evaluations + count_by (is_pending self l.waiting l.from) gates
+      ≤ l.initial.evaluations + length gates;
+}
+
+abbrev pub decreases-loop-gate : goal.decreases-loop-gate
+decreases-loop-gate g l = length (names l.circuit.arranged) - l.from

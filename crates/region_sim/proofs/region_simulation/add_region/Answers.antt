@@ -1,0 +1,149 @@
+use Rattle.std.proofs.Common.{◌≡◌, ◌⊎◌, ◌<◌, ◌∙◌, ap, arith, length}
+use Rattle.std.proofs.Common.{subst, sym}
+use Rattle.std.specs.Prelude.{Option, unwrap_or}
+use Rattle.bench_net.specs.Scan.{names}
+use Rattle.fault_model.specs.Fault.{Fault}
+use Rattle.fault_model.specs.Reordered.{place}
+use Rattle.block_sim.specs.Events.{IsObserved}
+use Rattle.block_sim.specs.Regions.{IsStem, IsStemOfLine}
+use Rattle.block_sim.proofs.Public.{count_there, reordered, circuit_there, same_stems}
+use Rattle.region_sim.proofs.PackedRegions.{gathered_more, gathered_over}
+use Rattle.region_sim.proofs.RegionHits.{listed_at, settled_from, ways_over}
+use Rattle.region_sim.proofs.region_simulation.add_region.Goals as goal
+
+pub returns-in-Some-clause-low : goal.returns-in-Some-clause-low
+returns-in-Some-clause-low c =
+    c.requires.next.following c.args.from c.next_open.result c.next_open.ensures
+
+pub returns-in-Some-clause-within : goal.returns-in-Some-clause-within
+returns-in-Some-clause-within c =
+    let end = c.requires.next.within c.args.from c.next_open.result c.next_open.ensures in
+    omega (arith, end, c.requires.firsts)
+
+pub returns-in-Some-clause-len : goal.returns-in-Some-clause-len
+returns-in-Some-clause-len c =
+    let up = c.requires.next.following c.args.from c.next_open.result c.next_open.ensures in
+    omega (arith, up, c.requires.len)
+
+pub returns-in-Some-clause-gathered : goal.returns-in-Some-clause-gathered
+returns-in-Some-clause-gathered c = λ first le before.
+    let q = c.next_open.result in
+    let next = c.next_open.ensures in
+    let up = c.requires.next.following c.args.from q next in
+    gathered_over c.args.job.now c.args.view.circuit.now.arranged c.args.span c.args.rows.now
+    c.args.firsts.now first c.args.from q (omega (arith, up)) c.args.stems.now.items
+    c.args.followed.now.items c.args.hits.now
+    (settled_from c.args.firsts.now c.args.from q c.in-Some._test c.in-Some.ensures
+    (c.requires.next.between c.args.from q next)) before
+
+pub returns-in-Some-clause-counted : goal.returns-in-Some-clause-counted
+returns-in-Some-clause-counted c = λ way first ways le.
+    let q = c.next_open.result in
+    let next = c.next_open.ensures in
+    let up = c.requires.next.following c.args.from q next in
+    let end = c.requires.next.within c.args.from q next in
+    let sum = ways_over way c.args.rows.now c.args.firsts.now first c.args.from q c.requires.firsts
+    le (omega (arith, up)) (omega (arith, end, c.requires.firsts))
+    (settled_from c.args.firsts.now c.args.from q c.in-Some._test c.in-Some.ensures
+    (c.requires.next.between c.args.from q next)) in
+    omega (arith, sum)
+
+pub place_of-stem-requires : goal.place_of-stem-requires
+place_of-stem-requires c =
+    let own = listed_at c.args.job.now c.args.rows.now c.args.from c.row_at-row.result
+    c.requires.rows c.row_at-row.ensures in
+    subst (λ x. c.row_at-row.result.stem < length (names x)) (sym c.requires.view.part) own.named
+
+pub begin-requires-clause-view : goal.begin-requires-clause-view
+begin-requires-clause-view c =
+    let view = c.requires.view in
+    record {
+      circuit = circuit_there c.args.job.now.circuit c.args.view.circuit.now.arranged
+          view.together.circuit view.arranged;
+      count = view.count;
+    }
+
+pub begin-requires-clause-room : goal.begin-requires-clause-room
+begin-requires-clause-room c =
+    let circuit = c.args.job.now.circuit in
+    let there = c.args.view.circuit.now.arranged in
+    let view = c.requires.view in
+    let own = c.requires.regions in
+    let same = count_there circuit there view.together.circuit.well_formed view.arranged in
+    record {
+      known = (let k = own.known in omega (arith, k, same));
+      path = (let k = own.path in omega (arith, k, same));
+    }
+
+pub begin-requires-clause-stem : goal.begin-requires-clause-stem
+begin-requires-clause-stem c =
+    let job = c.args.job.now in
+    let circuit = job.circuit in
+    let there = c.args.view.circuit.now.arranged in
+    let view = c.requires.view in
+    let well = view.together.circuit.well_formed in
+    let row = c.row_at-row.result in
+    let at = listed_at job c.args.rows.now c.args.from row c.requires.rows c.row_at-row.ensures in
+    let h = at.stem in
+    let o = at.stands in
+    let same : h.0 ≡ o.0 = ap (λ (x : Option Fault). unwrap_or x h.0) (sym h.1 ∙ o.1) in
+    let own = subst (λ f. IsStemOfLine circuit row.stem f.line) same h.2 in
+    let on = ((same_stems circuit there well (reordered circuit there well view.arranged)).of_line
+    o.0.model o.0 row.stem o.2.listed).0 own in
+    let place_is : c.place_of-stem.result ≡ place circuit there row.stem =
+    c.place_of-stem.ensures.place ∙ ap (λ x. place x there row.stem) view.part in
+    subst (IsStem there) (sym place_is) on.2.1
+
+pub follow_region-at-requires-clause-begun : goal.follow_region-at-requires-clause-begun
+follow_region-at-requires-clause-begun c =
+    let there = c.args.view.circuit.now.arranged in
+    let view = c.requires.view in
+    let row = c.row_at-row.result in (
+      row,
+      c.row_at-row.ensures,
+      record {
+        sensitized = c.begin.ensures.sensitized;
+        at = c.begin.ensures.stem ∙ (c.place_of-stem.ensures.place
+            ∙ ap (λ x. place x there row.stem) view.part);
+        lanes = c.begin.ensures.lanes;
+      },
+    )
+
+pub returns-clause-low : goal.returns-clause-low
+returns-clause-low c = c.follow_region-at.ensures.end.some
+
+pub returns-clause-within : goal.returns-clause-within
+returns-clause-within c = c.follow_region-at.ensures.end.within
+
+pub returns-clause-gathered : goal.returns-clause-gathered
+returns-clause-gathered c = λ first le before.
+    let job = c.args.job.now in
+    let there = c.args.view.circuit.now.arranged in
+    let row = c.row_at-row.result in
+    let stem = c.place_of-stem.result in
+    let step = c.follow_region-at.ensures in
+    let up = step.end.some in
+    let begin = ap length c.as_slice-begin.ensures.value in
+    let end = ap length c.as_slice-end.ensures.value in
+    gathered_more job there c.args.span c.args.rows.now c.args.firsts.now first c.args.from
+    c.follow_region-at.result (omega (arith, up)) c.args.stems.now.items c.add_slot.new.stems.items
+    c.args.followed.now.items c.follow_region-at.new.followed.items c.args.hits.now
+    c.follow_region-at.new.hits row
+    (record {
+      stem = stem;
+      begin = length c.as_slice-begin.result.now;
+      end = length c.as_slice-end.result.now;
+    }) le up
+    c.row_at-row.ensures c.in-None.ensures
+    (c.place_of-stem.ensures.place ∙ ap (λ x. place x there row.stem) c.requires.view.part)
+    c.place_of-stem.ensures.within begin end c.add_slot.ensures.some
+    c.add_slot.ensures.none (step.added row c.row_at-row.ensures)
+    (subst (λ s. (c.follow_region-at.new.followed.items ≡ c.args.followed.now.items)
+    ⊎ (IsObserved there s → ⊥)) c.begin.ensures.stem step.hidden)
+    (step.found first le before.found) (step.at first le before.at) (step.idle before.idle) before
+
+pub returns-clause-regions : goal.returns-clause-regions
+returns-clause-regions c = record {
+  known = c.follow_region-at.ensures.same.known ∙ c.begin.ensures.known;
+  path = c.follow_region-at.ensures.same.path ∙ c.begin.ensures.path;
+}

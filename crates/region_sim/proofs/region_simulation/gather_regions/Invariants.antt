@@ -1,0 +1,34 @@
+use Rattle.std.proofs.Common.{◌≡◌, ◌⊎◌, ◌+◌, ◌-◌, ◌<◌, ◌≤◌, ℕ, [], length}
+use Rattle.std.specs.Prelude.{Some, slice_get, vec_capacity, vec_len}
+use Rattle.std.specs.List.{sum_by}
+use Rattle.block_sim.specs.PropagationState.{IsAsLarge, IsClear}
+use Rattle.region_sim.specs.RegionHits.{AreGathered, HasSameRoom, open_between}
+use Rattle.region_sim.specs.KnownWays.{AreWays}
+use Rattle.region_sim.proofs.region_simulation.gather_regions.Given as goal
+
+abbrev pub invariant-loop-at : goal.invariant-loop-at
+invariant-loop-at l = record {
+  low : l.from ≤ l.at;
+  within : l.at ≤ length l.rows;
+  moved : (l.from < l.at) ⊎ (l.stems.items ≡ []);
+  few : length l.stems.items ≤ l.room;
+  len : vec_len l.followed ≤ l.at;
+  gathered : AreGathered l.job l.view.circuit.now.arranged l.span l.rows l.firsts l.from l.at
+      l.stems.items l.followed.items l.hits;
+  others : (place : ℕ) → (place < l.from) ⊎ (l.at ≤ place)
+      → slice_get l.hits place ≡ slice_get l.fn.hits place;
+  known : (place test : ℕ) → slice_get l.firsts place ≡ Some (Some test)
+      → slice_get l.hits place ≡ slice_get l.fn.hits place;
+  places : length l.hits ≡ length l.fn.hits;
+  classes : vec_capacity l.followed ≡ vec_capacity l.fn.followed;
+  slots : vec_capacity l.stems ≡ vec_capacity l.fn.stems;
+  counted : (way : ℕ → ℕ) → AreWays l.job way → l.changes.evaluations ≤ l.fn.changes.evaluations
+      + sum_by way (open_between l.rows l.firsts l.from l.at);
+  grown : l.fn.changes.evaluations ≤ l.changes.evaluations;
+  room : IsAsLarge l.fn.changes l.changes;
+  regions : HasSameRoom l.fn.region l.region;
+  clear : IsClear l.changes;
+}
+
+abbrev pub decreases-loop-at : goal.decreases-loop-at
+decreases-loop-at l = length l.rows - l.at

@@ -1,0 +1,79 @@
+use Rattle.std.proofs.Common.{ap, arith, subst, sym}
+use Rattle.std.specs.Prelude.{vec_capacity}
+use Rattle.wide_words.specs.Layouts.{both_layout}
+use Rattle.wide_words.specs.Wide.{number}
+use Rattle.region_sim.specs.Pack.{AreSlots, HasActiveByPack, TellsPack}
+use Rattle.region_sim.specs.Units.{group_in, unit_rows}
+use Rattle.block_sim.proofs.Public.{count_there, reordered, circuit_there}
+use Rattle.region_sim.proofs.UnitFlips.{found_in_unit, unit_active, unit_slots}
+use Rattle.region_sim.proofs.unit_simulation.flip_unit.Goals as goal
+
+pub propagate-seen-requires-clause-circuit : goal.propagate-seen-requires-clause-circuit
+propagate-seen-requires-clause-circuit c =
+    let view = c.requires.view in
+    circuit_there c.args.job.now.circuit c.args.view.circuit.now.arranged view.together.circuit
+    view.arranged
+
+pub propagate-seen-requires-clause-free : goal.propagate-seen-requires-clause-free
+propagate-seen-requires-clause-free c =
+    (c.args.job.now.tests.tests, group_in c.args.group, c.requires.view.fault_free)
+
+pub propagate-seen-requires-clause-room : goal.propagate-seen-requires-clause-room
+propagate-seen-requires-clause-room c =
+    let view = c.requires.view in
+    let same = count_there c.args.job.now.circuit c.args.view.circuit.now.arranged
+    view.together.circuit.well_formed view.arranged in
+    let deltas = c.requires.pack.deltas in
+    let waiting = c.requires.pack.waiting in
+    record {
+      deltas = omega (arith, same, deltas);
+      gates = omega (arith, same, waiting);
+    }
+
+pub propagate-seen-requires-clause-slots : goal.propagate-seen-requires-clause-slots
+propagate-seen-requires-clause-slots c =
+    let there = c.args.view.circuit.now.arranged in
+    subst (AreSlots both_layout there c.give_slots.new.slots.items) (sym c.as_slice.ensures.value)
+    (unit_slots c.args.stem c.args.came.now c.give_slots.new.slots.items
+    c.give_slots.new.followed.items c.give_slots.ensures.parted there c.requires.stem
+    c.requires.hidden)
+
+pub returns-clause-found : goal.returns-clause-found
+returns-clause-found c = λ signal rows firsts from to moved arrived at found.
+    let job = c.args.job.now in
+    let there = c.args.view.circuit.now.arranged in
+    let view = c.requires.view in
+    let well = view.together.circuit.well_formed in
+    found_in_unit c.args.stem c.args.came.now c.give_slots.new.slots.items
+    c.give_slots.new.followed.items c.give_slots.ensures.parted job there well
+    (reordered job.circuit there well view.arranged) c.args.group signal moved
+    (number c.propagate-seen.result)
+    (subst (λ l. TellsPack both_layout there job.tests.tests (group_in c.args.group)
+    c.give_slots.new.slots.items l (number c.propagate-seen.result)) c.as_slice.ensures.value
+    (c.propagate-seen.ensures.detected job.tests.tests (group_in c.args.group) view.fault_free))
+    rows firsts from to c.args.hits.now c.conclude_unit.new.hits
+    c.requires.full arrived at found c.conclude_unit.ensures.kept c.conclude_unit.ensures.concluded
+
+pub returns-clause-counted : goal.returns-clause-counted
+returns-clause-counted c = λ gates has.
+    let job = c.args.job.now in
+    let tests = job.tests.tests in
+    let there = c.args.view.circuit.now.arranged in
+    let view = c.requires.view in
+    let is = circuit_there job.circuit there view.together.circuit view.arranged in
+    let slots = c.give_slots.new.slots.items in
+    let good = unit_rows c.args.view in
+    c.propagate-seen.ensures.counted tests (group_in c.args.group) gates view.fault_free
+    (subst (λ l. HasActiveByPack both_layout there tests (group_in c.args.group) good slots l gates)
+    (sym c.as_slice.ensures.value)
+    (unit_active c.args.stem c.args.came.now slots c.give_slots.new.followed.items
+    c.give_slots.ensures.parted there is.well_formed tests c.args.group c.requires.full good
+    view.fault_free c.requires.stem gates has))
+
+pub returns-clause-room : goal.returns-clause-room
+returns-clause-room c = record {
+  deltas = c.propagate-seen.ensures.room.0;
+  waiting = c.propagate-seen.ensures.room.1;
+  slots = (let same = ap vec_capacity c.propagate-seen.ensures.slots in
+      let kept = c.give_slots.ensures.capacity.1 in omega (arith, same, kept));
+}

@@ -1,0 +1,190 @@
+use Rattle.std.proofs.Common.{◌≡◌, ◌<◌, ◌∙◌, ap, arith, inl, inr, length, map, subst, sym}
+use Rattle.std.specs.Prelude.{◌==◌, Contains, None, Some, slice_get}
+use Rattle.std.proofs.lemmas.Bool.{false≢true}
+use Rattle.std.proofs.lemmas.Bool.Decides.{Decides-eqb}
+use Rattle.std.proofs.lemmas.List.{length-map, nil_from_length}
+use Rattle.bench_net.specs.Scan.{names}
+use Rattle.fault_model.specs.Reordered.{place}
+use Rattle.wide_words.specs.Layouts.{both_layout}
+use Rattle.block_sim.specs.Events.{IsObserved}
+use Rattle.region_sim.specs.RegionHits.{IsOpenAt}
+use Rattle.region_sim.specs.UnitHits.{AreClassesAt, HaveArrivedInUnit, HaveFirstsBeside, IsClassAt}
+use Rattle.region_sim.specs.Units.{unit_rows, unit_span}
+use Rattle.block_sim.specs.Ways.{HasActiveByFlip}
+use Rattle.block_sim.proofs.Public.{count_there, reordered, circuit_there, same_active}
+use Rattle.region_sim.proofs.RegionHits.{listed_at, settled_from}
+use Rattle.region_sim.proofs.UnitFlips.{none_came, settled_firsts}
+use Rattle.region_sim.proofs.unit_simulation.simulate_unit.Goals as goal
+
+pub returns-in-Some-clause-low : goal.returns-in-Some-clause-low
+returns-in-Some-clause-low c =
+    c.requires.next.following c.args.from c.next_open.result c.next_open.ensures
+
+pub returns-in-Some-clause-within : goal.returns-in-Some-clause-within
+returns-in-Some-clause-within c =
+    let end = c.requires.next.within c.args.from c.next_open.result c.next_open.ensures in
+    omega (arith, end, c.requires.firsts)
+
+pub returns-in-Some-clause-found : goal.returns-in-Some-clause-found
+returns-in-Some-clause-found c =
+    let q = c.next_open.result in
+    settled_firsts c.args.job.now c.args.group c.args.rows.now c.args.firsts.now c.args.from q
+    c.args.hits.now
+    (settled_from c.args.firsts.now c.args.from q c.in-Some._test c.in-Some.ensures
+    (c.requires.next.between c.args.from q c.next_open.ensures))
+
+pub place_of-stem-requires : goal.place_of-stem-requires
+place_of-stem-requires c =
+    let own = listed_at c.args.job.now c.args.rows.now c.args.from c.row_at-number.result
+    c.requires.rows c.row_at-number.ensures in
+    subst (λ x. c.row_at-number.result.stem < length (names x)) (sym c.unit_view-view.ensures.part)
+    own.named
+
+pub begin-requires-clause-circuit : goal.begin-requires-clause-circuit
+begin-requires-clause-circuit c =
+    let view = c.unit_view-view.ensures in
+    circuit_there c.args.job.now.circuit c.unit_view-view.result.circuit.now.arranged
+    view.together.circuit view.arranged
+
+pub begin-requires-clause-room : goal.begin-requires-clause-room
+begin-requires-clause-room c =
+    let view = c.unit_view-view.ensures in
+    let same = count_there c.args.job.now.circuit c.unit_view-view.result.circuit.now.arranged
+    view.together.circuit.well_formed view.arranged in
+    let own = c.requires.region in
+    record {
+      known = (let k = own.known in omega (arith, k, same));
+      path = (let k = own.path in omega (arith, k, same));
+    }
+
+pub follow_unit-end-requires-clause-region : goal.follow_unit-end-requires-clause-region
+follow_unit-end-requires-clause-region c =
+    c.begin.ensures.region both_layout (unit_rows c.unit_view-view.result)
+
+pub follow_unit-end-requires-clause-at : goal.follow_unit-end-requires-clause-at
+follow_unit-end-requires-clause-at c =
+    let there = c.unit_view-view.result.circuit.now.arranged in
+    let row = c.row_at-number.result in (
+      row,
+      c.row_at-number.ensures,
+      c.begin.ensures.stem ∙ (c.place_of-stem.ensures.place
+          ∙ ap (λ x. place x there row.stem) c.unit_view-view.ensures.part),
+    )
+
+pub flip_unit-requires-clause-hidden : goal.flip_unit-requires-clause-hidden
+flip_unit-requires-clause-hidden c =
+    let there = c.unit_view-view.result.circuit.now.arranged in
+    elim c.follow_unit-end.ensures.hidden [
+      | inl none ↦
+          absurd (false≢true (sym c.if-is_empty.false ∙ c.is_empty.ensures
+          ∙ ap (λ n. n == 0) (ap length (c.as_slice-came.ensures.value ∙ none))))
+      | inr h ↦ subst (λ s. IsObserved there s → ⊥) c.begin.ensures.stem h
+    ]
+
+pub flip_unit-requires-clause-few : goal.flip_unit-requires-clause-few
+flip_unit-requires-clause-few c =
+    let few = c.follow_unit-end.ensures.few in
+    let same = ap length c.as_slice-came.ensures.value in
+    omega (arith, few, same)
+
+pub flip_unit-requires-clause-places : goal.flip_unit-requires-clause-places
+flip_unit-requires-clause-places c = λ one there.
+    let own = c.follow_unit-end.ensures.at one
+    (subst (λ l. Contains l one) c.as_slice-came.ensures.value there) in
+    let low = own.1 in
+    let within = c.follow_unit-end.ensures.within in
+    let room = c.requires.places in
+    let same = c.follow_unit-end.ensures.places in
+    omega (arith, low, within, room, same)
+
+pub returns-then-is_empty-clause-found : goal.returns-then-is_empty-clause-found
+returns-then-is_empty-clause-found c =
+    let came = c.as_slice-came.result.now in
+    let few : length came ≡ 0 =
+    (Decides-eqb (length came) 0).0 (sym c.is_empty.ensures ∙ c.if-is_empty.true) in
+    let none = nil_from_length c.follow_unit-end.new.classes.items
+    (ap length (sym c.as_slice-came.ensures.value) ∙ few) in
+    none_came c.args.job.now c.args.group c.args.rows.now c.args.firsts.now
+    c.follow_unit-end.new.classes.items c.args.from c.follow_unit-end.result
+    c.follow_unit-end.new.hits none c.follow_unit-end.ensures.found
+
+pub returns-clause-found : goal.returns-clause-found
+returns-clause-found c =
+    let job = c.args.job.now in
+    let there = c.unit_view-view.result.circuit.now.arranged in
+    let row = c.row_at-number.result in
+    let step = c.follow_unit-end.ensures in
+    let rows = c.args.rows.now in
+    let firsts = c.args.firsts.now in
+    let end = c.follow_unit-end.result in
+    let before = c.follow_unit-end.new.hits in
+    let came = sym c.as_slice-came.ensures.value in
+    c.flip_unit.ensures.found row.stem rows firsts c.args.from end
+    (c.place_of-stem.ensures.place ∙ ap (λ x. place x there row.stem)
+    c.unit_view-view.ensures.part)
+    (subst (HaveArrivedInUnit job c.args.group row.stem) came
+    (step.arrived row c.row_at-number.ensures))
+    (subst (AreClassesAt rows c.args.from end) came step.at)
+    (subst (λ l. HaveFirstsBeside job c.args.group rows firsts l c.args.from end before) came
+    step.found)
+
+pub returns-clause-others : goal.returns-clause-others
+returns-clause-others c = λ place outside.
+    let step = c.follow_unit-end.ensures in
+    let none : IsClassAt c.as_slice-came.result.now place → ⊥ = λ h.
+    let own = step.at h.0 (subst (λ l. Contains l h.0) c.as_slice-came.ensures.value h.1) in
+    let from = own.0 in
+    let to = own.1 in
+    let at = h.2 in
+    elim outside [
+      | inl x ↦ omega (arith, x, from, at)
+      | inr x ↦ omega (arith, x, to, at)
+    ] in
+    c.flip_unit.ensures.kept place none ∙ step.others place outside
+
+pub returns-clause-known : goal.returns-clause-known
+returns-clause-known c = λ place test e.
+    let step = c.follow_unit-end.ensures in
+    let none : IsClassAt c.as_slice-came.result.now place → ⊥ = λ h.
+    let idle = step.came_open h.0
+    (subst (λ l. Contains l h.0) c.as_slice-came.ensures.value h.1) in
+    let bad : Some None ≡ Some (Some test) =
+    sym idle ∙ (ap (slice_get c.args.firsts.now) h.2 ∙ e) in
+    cc in
+    c.flip_unit.ensures.kept place none ∙ step.known place test e
+
+pub returns-clause-counted : goal.returns-clause-counted
+returns-clause-counted c = λ way gates ways active.
+    let job = c.args.job.now in
+    let circuit = job.circuit in
+    let tests = job.tests.tests in
+    let span = unit_span c.args.group in
+    let there = c.unit_view-view.result.circuit.now.arranged in
+    let view = c.unit_view-view.ensures in
+    let well = view.together.circuit.well_formed in
+    let row = c.row_at-number.result in
+    let step = c.follow_unit-end.ensures in
+    let moved = map (place circuit there) gates in
+    let place_is : c.place_of-stem.result ≡ place circuit there row.stem =
+    c.place_of-stem.ensures.place ∙ ap (λ x. place x there row.stem) view.part in
+    let idle : IsOpenAt c.args.rows.now c.args.firsts.now c.args.from row = record {
+      row_is = c.row_at-number.ensures;
+      unknown = c.in-None.ensures;
+    } in
+    let turned = c.flip_unit.ensures.counted moved
+    (subst (λ s. HasActiveByFlip there tests span s moved) (sym place_is)
+    ((same_active circuit there well (reordered circuit there well view.arranged)).by_flip tests
+    span row.stem gates (active c.args.from row (omega arith) step.low idle))) in
+    let before = step.counted way ways in
+    let long = length-map gates (place circuit there) in
+    omega (arith, turned, before, long)
+
+pub returns-clause-unit : goal.returns-clause-unit
+returns-clause-unit c =
+    let same = c.follow_unit-end.ensures.same in
+    record {
+      known = same.known ∙ c.begin.ensures.known;
+      path = same.path ∙ c.begin.ensures.path;
+      classes = c.follow_unit-end.ensures.capacity ∙ c.clear.ensures.capacity;
+      followed = c.flip_unit.ensures.capacity;
+    }

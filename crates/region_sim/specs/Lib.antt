@@ -1,0 +1,12 @@
+pub mod Reached
+pub mod Simulation
+pub mod Units
+pub mod UnitHits
+pub mod KnownWays
+pub mod KnownWords
+pub mod KnownWide
+pub mod Sensitized
+pub mod OpenPlaces
+pub mod RegionHits
+pub mod Pack
+pub mod GroupLanes
