@@ -11,3 +11,4 @@ mod CutTests
 mod MadeTests
 mod WrittenTests
 pub mod Public
+mod Pieces

@@ -91,7 +91,7 @@ impl Plan {
 }
 
 /// Returns the place of the first line that begins with a digit `0` or `1`, or the end of the file.
-fn first_row(text: &[u8]) -> usize
+pub(crate) fn first_row(text: &[u8]) -> usize
     ensures { result ≤ length text.now }
 {
     let mut place = 0;
