@@ -14,7 +14,11 @@ use Rattle.block_sim.specs.Parts.{Parts}
 use Rattle.job_loading.specs.declared.fault.SimFault.{SimFault}
 use Rattle.job_loading.specs.declared.fault.SimFault.TheVariants as fault
 use Rattle.block_sim.specs.JobParts.{IsJobUnder}
-use Rattle.job_loading.specs.Jobs.{AreTestsFor, IsJobFault, IsJobOf, IsPiecesFault}
+use Rattle.job_loading.specs.declared.split.Split.{Split}
+use Rattle.job_loading.specs.declared.split.Split.TheVariants as split
+use Rattle.job_loading.specs.Jobs.{AreTestsFor, IsInputFault, IsJobFault, IsJobOf, IsPiecesFault}
+use Rattle.job_loading.specs.Jobs.{IsReadFault}
+use Rattle.job_loading.specs.Splits.{IsSplitFault, IsSplitFaultFor}
 
 -- the parts that are made for a circuit and tests are a job of them
 pub job_is : (m : Model) (c : List Statement) (list : FaultList) (classes : Collapsed)
@@ -67,3 +71,42 @@ pub job_refused : (J P : Type 0) (f : JobFault)
     → (f ≡ job_fault.Memory) ⊎ P
 job_refused J P job_fault.TooManyPieces h = inr (h.0 refl)
 job_refused J P job_fault.Memory h = inl refl
+
+-- ---- the errors of a run in parts
+
+pub split_fault : (m : Model) (bench text : List ℕ) (c : List Statement) (tests : TestList)
+    (parts : Split) → IsAccepted bench c → HasTests text (length (sources c)) tests
+    → (f : SimFault) → IsSplitFaultFor m c tests parts f → IsSplitFault m bench text parts f
+split_fault m bench text c tests split.Whole accepted has f h =
+    pieces_fault m bench text c tests accepted has f h
+split_fault m bench text c tests (split.Parts count) accepted has f h =
+    subst (IsReadFault bench text) (sym h) tt
+split_fault m bench text c tests split.Fitting accepted has f h =
+    subst (IsReadFault bench text) (sym h) tt
+
+-- an error of a file is an error of a job of it
+input_job_fault : (m : Model) (bench text : List ℕ) (f : SimFault) → IsInputFault bench text f
+    → IsJobFault m bench text f
+input_job_fault m bench text (fault.Bench f) h = h
+input_job_fault m bench text (fault.Tests f) h = h
+input_job_fault m bench text fault.Memory h = absurd h
+input_job_fault m bench text (fault.Job f) h = absurd h
+input_job_fault m bench text (fault.Order f) h = absurd h
+input_job_fault m bench text (fault.Run f) h = absurd h
+input_job_fault m bench text (fault.Report f) h = absurd h
+
+input_read_fault : (bench text : List ℕ) (f : SimFault) → IsInputFault bench text f
+    → IsReadFault bench text f
+input_read_fault bench text (fault.Bench f) h = h
+input_read_fault bench text (fault.Tests f) h = h
+input_read_fault bench text fault.Memory h = absurd h
+input_read_fault bench text (fault.Job f) h = absurd h
+input_read_fault bench text (fault.Order f) h = absurd h
+input_read_fault bench text (fault.Run f) h = absurd h
+input_read_fault bench text (fault.Report f) h = absurd h
+
+pub input_split_fault : (m : Model) (bench text : List ℕ) (parts : Split) (f : SimFault)
+    → IsInputFault bench text f → IsSplitFault m bench text parts f
+input_split_fault m bench text split.Whole f h = input_job_fault m bench text f h
+input_split_fault m bench text (split.Parts count) f h = input_read_fault bench text f h
+input_split_fault m bench text split.Fitting f h = input_read_fault bench text f h

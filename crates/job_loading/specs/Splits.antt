@@ -8,7 +8,10 @@ use Rattle.region_runs.specs.Refused.{ArePartsWithin}
 use Rattle.job_loading.specs.declared.fault.SimFault.{SimFault}
 use Rattle.job_loading.specs.declared.split.Split.{Split}
 use Rattle.job_loading.specs.declared.split.Split.TheVariants as split
-use Rattle.job_loading.specs.Jobs.{IsJobFault, IsReadFault}
+use Rattle.bench_net.specs.Statement.{Statement}
+use Rattle.patterns.specs.Tests.{TestList}
+use Rattle.job_loading.specs.declared.fault.SimFault.TheVariants as fault
+use Rattle.job_loading.specs.Jobs.{IsJobFault, IsPiecesFault, IsReadFault}
 
 -- a given number of parts isn't 0
 abbrev pub HasSomePart : Split → Type 0
@@ -35,3 +38,10 @@ abbrev pub IsSplitFault : Model → List ℕ → List ℕ → Split → SimFault
 IsSplitFault m bench text split.Whole f = IsJobFault m bench text f
 IsSplitFault m bench text (split.Parts count) f = IsReadFault bench text f
 IsSplitFault m bench text split.Fitting f = IsReadFault bench text f
+
+-- The error of such a run of a circuit and of tests: memory, or its number of pieces if it is run
+-- as a whole.
+abbrev pub IsSplitFaultFor : Model → List Statement → TestList → Split → SimFault → Type 0
+IsSplitFaultFor m c tests split.Whole f = IsPiecesFault m c tests f
+IsSplitFaultFor m c tests (split.Parts count) f = f ≡ fault.Memory
+IsSplitFaultFor m c tests split.Fitting f = f ≡ fault.Memory

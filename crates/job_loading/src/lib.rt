@@ -6,16 +6,20 @@
 #![tactic(auto)]
 
 mod fault;
+mod pieces;
 mod run_job;
 mod split;
 mod texts;
 mod watch;
 
 pub use fault::{ReportFault, SimFault};
+pub use pieces::read_inputs_in_pieces;
 pub use run_job::RunJob;
-pub use split::{Split, least_parts, split_job_of, split_run_of};
+pub use split::{
+    Split, least_parts, split_job_of, split_run_for, split_run_in_pieces, split_run_of,
+};
 pub use texts::{
     job_for, job_for_in_threads, job_of, job_of_any_size, job_of_any_size_in_threads,
-    job_of_in_threads, read_inputs, read_inputs_in_threads, run_of, run_of_any_size,
+    job_of_in_threads, read_inputs, read_inputs_in_threads, run_of_any_size,
 };
 pub use watch::{ReasonCounts, Watch, run_apart_watched, run_watched};

@@ -1,20 +1,26 @@
 //! How a run is split into parts.
 
-ghost use Rattle.std.specs.Prelude.{◌≡◌, ℕ, ◌*◌, ◌<◌, ◌≤◌, IfErr, IfOk, true};
+ghost use Rattle.std.specs.Prelude.{◌≡◌, ℕ, ◌*◌, ◌<◌, ◌≤◌, IfErr, IfOk, IfSome, true};
 ghost use Rattle.patterns.specs.Tests.{max_pieces};
 ghost use Rattle.region_runs.specs.Part.{stretch_size};
 ghost use Rattle.region_runs.specs.Refused.{ArePartsWithin};
-ghost use Rattle.job_loading.specs.Jobs.{IsJobOf};
-ghost use Rattle.job_loading.specs.Splits.{HasSomePart, IsLeastSplit, IsSplitFault, IsSplitOf};
+ghost use Rattle.block_sim.specs.JobParts.{IsJobUnder};
+ghost use Rattle.block_sim.specs.Parts.{BelongTogether};
+ghost use Rattle.job_loading.specs.Jobs.{AreTestsFor, IsJobOf};
+ghost use Rattle.job_loading.specs.Splits.{HasSomePart, IsLeastSplit, IsSplitFault};
+ghost use Rattle.job_loading.specs.Splits.{IsSplitFaultFor, IsSplitOf};
 
 use crate::fault::SimFault;
-use crate::run_job::RunJob;
-use crate::texts::{job_of_any_size_in_threads, job_of_in_threads, run_of, run_of_any_size};
+use crate::pieces::read_inputs_in_pieces;
+use crate::run_job::{RunJob, make_limited_run_in_threads, make_run_in_threads};
+use crate::texts::{job_of_any_size_in_threads, job_of_in_threads, read_inputs_in_threads};
+use bench_net::Circuit;
 use block_sim::Job;
 use fault_model::Model;
-use patterns::MAX_PIECES;
+use patterns::{MAX_PIECES, Tests};
 use region_runs::parts_for;
 use std::alloc::Global;
+use std::io::Read;
 use std::sync::Wait;
 use std::thread::Threads;
 
@@ -121,22 +127,81 @@ pub fn split_run_of<R: Threads + Wait>(
     ensures parts { IfOk result (λ made. IsSplitOf made.0.parts split workers made.1) }
     ensures refused { IfErr result (IsSplitFault model bench.now tests.now split) }
 {
+    let (circuit, tests) = read_inputs_in_threads(rt, alloc, bench, tests, workers)?;
+    split_run_for(rt, alloc, model, circuit, tests, split, apart, workers)
+}
+
+/// Makes the job of a circuit and of tests for it under a model, for a run of all its classes.
+/// Returns it with the number of parts, as [`split_run_of`] does. Only memory can make it fail, or
+/// the number of pieces with [`Split::Whole`].
+pub fn split_run_for<R: Threads + Wait>(
+    rt: &R,
+    alloc: Global,
+    model: Model,
+    circuit: Circuit,
+    tests: Tests,
+    split: Split,
+    apart: bool,
+    workers: u32,
+) -> Result<(RunJob, u32), SimFault>
+    requires tests { AreTestsFor circuit tests }
+    requires split { HasSomePart split }
+    ensures job { IfOk result (λ made. IsJobUnder model circuit tests made.0.parts) }
+    ensures apart { IfOk result (λ made. made.0.apart ≡ true → apart ≡ true) }
+    ensures parts { IfOk result (λ made. IsSplitOf made.0.parts split workers made.1) }
+    ensures refused { IfErr result (IsSplitFaultFor model circuit tests split) }
+{
     match split {
         Split::Whole => {
-            let run = run_of(rt, alloc, model, bench, tests, apart, workers)?;
+            let run = make_limited_run_in_threads(
+                rt, alloc, model, circuit, tests, apart, workers,
+            )?;
             let parts = parts_for(run.job(), workers);
             Ok((run, parts))
         }
         Split::Parts(count) => {
-            let run = run_of_any_size(rt, alloc, model, bench, tests, apart, workers)?;
+            let run = make_run_in_threads(rt, alloc, model, circuit, tests, apart, workers)?;
             Ok((run, count))
         }
         Split::Fitting => {
-            let run = run_of_any_size(rt, alloc, model, bench, tests, apart, workers)?;
+            let run = make_run_in_threads(rt, alloc, model, circuit, tests, apart, workers)?;
             let parts = fitting_parts_of(&run, workers);
             Ok((run, parts))
         }
     }
+}
+
+/// Makes the job of a bench file and of a test file that is read piece by piece, for a run of all
+/// its classes. Returns it with the number of parts, as [`split_run_of`] does for all bytes of the
+/// files, with the same errors.
+///
+/// It returns `None` if it can't read the files so, as [`read_inputs_in_pieces`] does.
+pub fn split_run_in_pieces<R: Threads + Wait, F: Read + Send>(
+    rt: &R,
+    alloc: Global,
+    model: Model,
+    bench: &[u8],
+    tests: F,
+    size: u64,
+    split: Split,
+    apart: bool,
+    workers: u32,
+) -> Option<Result<(RunJob, u32), SimFault>>
+where
+    F: Drop,
+    requires { HasSomePart split }
+    ensures job { IfSome (F.remaining tests) (λ text. IfSome result (λ read.
+        IfOk read (λ made. IsJobOf model bench.now text made.0.parts))) }
+    ensures together { IfSome result (λ read. IfOk read (λ made. BelongTogether made.0.parts)) }
+    ensures apart { IfSome result (λ read. IfOk read (λ made.
+        made.0.apart ≡ true → apart ≡ true)) }
+    ensures parts { IfSome result (λ read. IfOk read (λ made.
+        IsSplitOf made.0.parts split workers made.1)) }
+    ensures refused { IfSome (F.remaining tests) (λ text. IfSome result (λ read.
+        IfErr read (IsSplitFault model bench.now text split))) }
+{
+    let (circuit, tests) = read_inputs_in_pieces(rt, alloc, bench, tests, size, workers)?;
+    Some(split_run_for(rt, alloc, model, circuit, tests, split, apart, workers))
 }
 
 /// Returns the number of parts of [`fitting_parts`] for a job whose tests may stand apart.

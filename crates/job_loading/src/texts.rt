@@ -11,7 +11,7 @@ ghost use Rattle.job_loading.specs.Jobs.{AreTestsFor, IsInputFault, IsJobFault, 
 ghost use Rattle.job_loading.specs.Jobs.{IsGuessOf, IsPiecesFault, IsReadFault};
 
 use crate::fault::SimFault;
-use crate::run_job::{RunJob, make_limited_run_in_threads, make_run_in_threads};
+use crate::run_job::{RunJob, make_run_in_threads};
 use bench_net::{BenchFault, Circuit, read_bench, read_bench_in_threads};
 use block_sim::Job;
 use fault_model::{Model, collapse, list_faults_in};
@@ -27,14 +27,14 @@ use text_lines::Rows;
 const LONG_BENCH: usize = 1 << 16;
 
 /// The least number of workers with which one of them reads a bench file beside the others.
-const WORKERS_APART: u32 = 4;
+pub(crate) const WORKERS_APART: u32 = 4;
 
 /// A test file is very long if it has this number of times as many bytes as the bench file. Two
 /// threads then take about as long to read it as one thread takes to read the bench file.
-const TIMES_AS_LONG: usize = 32;
+const TIMES_AS_LONG: u64 = 32;
 
 /// The least number of bytes of the line that defines a source, as `INPUT(a)`.
-const BYTES_OF_A_SOURCE: usize = 8;
+pub(crate) const BYTES_OF_A_SOURCE: usize = 8;
 
 /// Reads the job of a bench file and a test file under a model.
 ///
@@ -118,26 +118,6 @@ pub fn run_of_any_size<R: Threads + Wait>(
     Ok(run)
 }
 
-/// Reads the job as [`job_of_in_threads`] does, with the same errors, for a run. Its tests may
-/// stand apart if `apart` is set.
-pub fn run_of<R: Threads + Wait>(
-    rt: &R,
-    alloc: Global,
-    model: Model,
-    bench: &[u8],
-    tests: &[u8],
-    apart: bool,
-    workers: u32,
-) -> Result<RunJob, SimFault>
-    ensures job { IfOk result (λ run. IsJobOf model bench.now tests.now run.parts) }
-    ensures few { IfOk result (λ run. piece_count run.parts ≤ max_pieces) }
-    ensures apart { IfOk result (λ run. run.apart ≡ true → apart ≡ true) }
-    ensures refused { IfErr result (IsJobFault model bench.now tests.now) }
-{
-    let (circuit, tests) = read_inputs_in_threads(rt, alloc, bench, tests, workers)?;
-    make_limited_run_in_threads(rt, alloc, model, circuit, tests, apart, workers)
-}
-
 /// Makes the job of a circuit and of tests for it under a model, for any number of pieces.
 fn make_any_job(
     alloc: Global,
@@ -219,8 +199,7 @@ fn read_and_guess<R: Threads + Wait>(
         ⊎ IsRefused bench.now fault) }
     ensures guessed { IfSome result.1 (IsGuessOf tests.now) }
 {
-    let is_short = bench.len() < LONG_BENCH || tests.len() / TIMES_AS_LONG < bench.len();
-    if workers < WORKERS_APART || is_short {
+    if workers < WORKERS_APART || !is_very_long(bench.len(), tests.len() as u64) {
         return (read_bench_in_threads(rt, alloc, bench, workers), None);
     }
     let most = bench.len() / BYTES_OF_A_SOURCE;
@@ -229,6 +208,12 @@ fn read_and_guess<R: Threads + Wait>(
         move || read_bench(alloc, bench),
         move || guess_tests(rt, alloc, tests, most, workers - 1),
     )
+}
+
+/// Returns whether a bench file of this number of bytes is long, and a test file beside it very
+/// long.
+pub(crate) fn is_very_long(bench: usize, tests: u64) -> bool {
+    bench >= LONG_BENCH && tests / TIMES_AS_LONG >= bench as u64
 }
 
 /// Reads tests with the width of their first row, if there is one. Returns `None` if the file has
