@@ -2,7 +2,6 @@
 //! with its words, are cases of the command line.
 
 mod circuits;
-mod cuts;
 mod faults;
 mod made;
 mod moves;

@@ -14,4 +14,6 @@ mod ledger;
 #[cfg(test)]
 mod simulator;
 #[cfg(test)]
+mod words;
+#[cfg(test)]
 mod worker;

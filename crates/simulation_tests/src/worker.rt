@@ -1,6 +1,7 @@
 //! Runs by workers: verdicts that were worked out by hand, in any order of moves and in threads.
 
-mod fixtures;
+pub(crate) mod fixtures;
+mod gated;
 mod gates;
 mod listed;
 mod parts;

@@ -2,7 +2,7 @@
 
 use crate::checks::check_ok;
 use bench_net::{BenchFault, Circuit, Kind, ScanCell, Sink, read_bench};
-use std::alloc::{AllocError, Global};
+use std::alloc::Global;
 use worked_circuits::C17;
 
 /// The driver of a signal: a place in a test, or a gate.
@@ -535,65 +535,5 @@ fn calls_of_circuits_of_all_shapes(rt: HostRuntime) {
 fn calls_of_circuits_of_all_spellings(rt: HostRuntime) {
     for case in &SPELLINGS {
         check_ok(&rt, is_answered(rt.alloc(), case), case.name);
-    }
-}
-
-/// A file with a line for each of 20,000 inverters, and lines before and after these. The first
-/// inverter reads `n0` and the last drives `n20000`. They go from the first one on, or from the
-/// last one back.
-pub(crate) struct Chain {
-    pub(crate) first: &'static str,
-    pub(crate) is_backward: bool,
-    pub(crate) last: &'static str,
-}
-
-/// A chain by its lines, and by the same lines in reverse.
-static CHAINS: [Chain; 2] = [
-    Chain {
-        first: "INPUT(n0)\n",
-        is_backward: false,
-        last: "",
-    },
-    Chain {
-        first: "",
-        is_backward: true,
-        last: "INPUT(n0)\n",
-    },
-];
-
-/// Adds the lines of the inverters.
-fn push_inverters(text: &mut String, is_backward: bool) -> Result<(), AllocError> {
-    for place in 0..20_000u32 {
-        let read = if is_backward { 19_999 - place } else { place };
-        write!(text, "n{} = NOT(n{read})\n", read + 1)?;
-    }
-    Ok(())
-}
-
-/// Returns the text of a chain.
-pub(crate) fn chain_text(alloc: Global, chain: &Chain) -> Result<String, AllocError> {
-    let mut text = String::from_str(alloc, chain.first)?;
-    push_inverters(&mut text, chain.is_backward)?;
-    text.push_str(chain.last)?;
-    Ok(text)
-}
-
-/// Returns the number of signals of a file's circuit, and its depth.
-fn signals_and_depth(alloc: Global, text: &str) -> Result<(u32, u32), BenchFault> {
-    let circuit = read_bench(alloc, text.as_bytes())?;
-    Ok((circuit.signals(), circuit.depth()))
-}
-
-/// Returns the number of signals of a chain, and its depth.
-fn signals_and_depth_of(alloc: Global, chain: &Chain) -> Result<(u32, u32), BenchFault> {
-    let text = chain_text(alloc, chain)?;
-    signals_and_depth(alloc, text.as_str())
-}
-
-#[test]
-fn chain_of_inverters_is_as_deep_as_long(rt: HostRuntime) {
-    for chain in &CHAINS {
-        let found = signals_and_depth_of(rt.alloc(), chain);
-        assert!(rt; found == Ok((20_001, 20_000)));
     }
 }

@@ -4,9 +4,8 @@ ghost use Rattle.std.specs.Prelude.{◌≡◌};
 ghost use Rattle.fault_model.specs.Fault.{faults};
 
 use crate::checks::check_ok;
-use crate::circuit::circuits::{Chain, chain_text};
 use bench_net::{BenchFault, Circuit, read_bench};
-use fault_model::{Faults, Line, Model, collapse, list_faults, list_faults_in};
+use fault_model::{Faults, Line, Model, collapse, list_faults_in};
 use std::alloc::{AllocError, Global};
 use worked_circuits::C17;
 
@@ -351,39 +350,4 @@ fn classes_of_circuits(rt: HostRuntime) {
     for case in &CASES {
         check_ok(&rt, is_so(rt.alloc(), case), case.name);
     }
-}
-
-/// A chain of 20,000 inverters, which drives an output.
-static CHAIN: Chain = Chain {
-    first: "INPUT(n0)\nOUTPUT(n20000)\n",
-    is_backward: false,
-    last: "",
-};
-
-/// Returns the model of a circuit's faults, their number and the number of their classes.
-fn faults_and_classes(alloc: Global, circuit: &Circuit) -> Result<(Model, u32, u32), AllocError> {
-    let faults = list_faults(alloc, circuit)?;
-    let classes = collapse(alloc, circuit, &faults)?;
-    Ok((faults.model(), faults.count(), classes.count()))
-}
-
-/// Returns the model and these numbers for the circuit of a file.
-fn faults_and_classes_of(alloc: Global, text: &str) -> Result<(Model, u32, u32), BenchFault> {
-    let circuit = read_bench(alloc, text.as_bytes())?;
-    Ok(faults_and_classes(alloc, &circuit)?)
-}
-
-/// Returns the model and these numbers for the circuit of a chain.
-fn faults_and_classes_of_chain(
-    alloc: Global,
-    chain: &Chain,
-) -> Result<(Model, u32, u32), BenchFault> {
-    let text = chain_text(alloc, chain)?;
-    faults_and_classes_of(alloc, text.as_str())
-}
-
-#[test]
-fn long_chain_of_inverters(rt: HostRuntime) {
-    let found = faults_and_classes_of_chain(rt.alloc(), &CHAIN);
-    assert!(rt; found == Ok((Model::StuckAt, 40_002, 2)));
 }

@@ -1,6 +1,6 @@
 //! Tests made from words and from bits, their errors, and the files that are written.
 
-use crate::checks::{check_ok, is_said};
+use crate::checks::check_ok;
 use patterns::{MAX_TESTS, PushFault, TestFault, Tests, WordsFault, read_tests, write_tests};
 use std::alloc::{AllocError, Global};
 
@@ -13,7 +13,7 @@ struct Case {
     text: &'static str,
 }
 
-static CASES: [Case; 4] = [
+static CASES: [Case; 5] = [
     Case {
         name: "no_tests",
         width: 3,
@@ -42,6 +42,21 @@ static CASES: [Case; 4] = [
         words: &[0, 1, 0, 1, 1],
         text: "01011\n",
     },
+    // The last two of 65 tests are the first ones with a 1.
+    Case {
+        name: "words_across_blocks",
+        width: 1,
+        count: 65,
+        words: &[1 << 63, 1],
+        text: "\
+            0\n0\n0\n0\n0\n0\n0\n0\n0\n0\n0\n0\n0\n0\n0\n0\n\
+            0\n0\n0\n0\n0\n0\n0\n0\n0\n0\n0\n0\n0\n0\n0\n0\n\
+            0\n0\n0\n0\n0\n0\n0\n0\n0\n0\n0\n0\n0\n0\n0\n0\n\
+            0\n0\n0\n0\n0\n0\n0\n0\n0\n0\n0\n0\n0\n0\n0\n\
+            1\n\
+            1\n\
+            ",
+    },
 ];
 
 /// The number of sources and the number of tests, words, and their error.
@@ -52,16 +67,6 @@ static REFUSED: [(u32, u32, &[u64], WordsFault); 6] = [
     (1, 65, &[0], WordsFault::BadCount),
     (2, 3, &[0b111, 0b1000], WordsFault::IdleBits(1)),
     (3, 2, &[0, 0b100, 0b1100], WordsFault::IdleBits(1)),
-];
-
-/// The errors of words, each with its text.
-static WORDS: [(WordsFault, &str); 3] = [
-    (
-        WordsFault::IdleBits(4),
-        "source 4: a bit past the last of the tests",
-    ),
-    (WordsFault::BadCount, "wrong number of words"),
-    (WordsFault::TooMany, "more than 65536 tests"),
 ];
 
 /// Returns whether tests are written as this file.
@@ -93,23 +98,6 @@ fn tests_of_words(rt: HostRuntime) {
     }
 }
 
-/// Returns whether the last two of 65 tests are the first ones with a 1.
-fn are_across_blocks(alloc: Global) -> Result<bool, WordsFault> {
-    let tests = Tests::from_words(alloc, 1, 65, &[1 << 63, 1])?;
-    Ok(
-        tests.count() == 65
-            && tests.width() == 1
-            && !tests.bit(62, 0)
-            && tests.bit(63, 0)
-            && tests.bit(64, 0),
-    )
-}
-
-#[test]
-fn words_across_blocks(rt: HostRuntime) {
-    check_ok(&rt, are_across_blocks(rt.alloc()), "words_across_blocks");
-}
-
 #[test]
 fn refused_words(rt: HostRuntime) {
     for (width, count, words, fault) in &REFUSED {
@@ -132,11 +120,6 @@ fn are_bits(alloc: Global) -> Result<bool, PushFault> {
     Ok(refused == Some(PushFault::BadWidth) && are_written(alloc, &tests, "10\n00\n")?)
 }
 
-#[test]
-fn tests_of_bits(rt: HostRuntime) {
-    check_ok(&rt, are_bits(rt.alloc()), "tests_of_bits");
-}
-
 /// Adds a test of no sources and one of one source, and returns the error of the last.
 fn push_two(alloc: Global, tests: &mut Tests) -> Result<Option<PushFault>, PushFault> {
     tests.push(alloc, &[])?;
@@ -148,11 +131,6 @@ fn is_full(alloc: Global) -> Result<bool, WordsFault> {
     let mut tests = Tests::from_words(alloc, 0, MAX_TESTS - 1, &[])?;
     let refused = push_two(alloc, &mut tests);
     Ok(refused == Ok(Some(PushFault::TooMany)) && tests.count() == MAX_TESTS)
-}
-
-#[test]
-fn a_test_past_the_limit(rt: HostRuntime) {
-    check_ok(&rt, is_full(rt.alloc()), "a_test_past_the_limit");
 }
 
 /// Returns whether the second of three tests is written after other bytes.
@@ -172,15 +150,8 @@ fn is_row_written(alloc: Global) -> Result<bool, WordsFault> {
 }
 
 #[test]
-fn a_row_of_a_test(rt: HostRuntime) {
+fn tests_of_bits(rt: HostRuntime) {
+    check_ok(&rt, are_bits(rt.alloc()), "tests_of_bits");
+    check_ok(&rt, is_full(rt.alloc()), "a_test_past_the_limit");
     check_ok(&rt, is_row_written(rt.alloc()), "a_row_of_a_test");
-}
-
-#[test]
-fn words_of_faults(rt: HostRuntime) {
-    for (fault, words) in &WORDS {
-        check_ok(&rt, is_said(rt.alloc(), fault, words), words);
-    }
-    let width = is_said(rt.alloc(), &PushFault::BadWidth, "wrong width");
-    check_ok(&rt, width, "words_of_faults");
 }

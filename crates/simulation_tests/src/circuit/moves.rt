@@ -1,6 +1,6 @@
 //! Order files, and the moves that are read.
 
-use crate::checks::{check, check_ok};
+use crate::checks::check_ok;
 use patterns::{OrderFault, read_order};
 use std::alloc::Global;
 
@@ -22,27 +22,5 @@ fn has_moves(alloc: Global, text: &str, moves: &[u32]) -> Result<bool, OrderFaul
 fn moves_of_orders(rt: HostRuntime) {
     for (text, moves) in &READ {
         check_ok(&rt, has_moves(rt.alloc(), text, moves), text);
-    }
-}
-
-/// Files, each with its error.
-static REFUSED: [(&str, OrderFault); 6] = [
-    ("0000000003", OrderFault::BadNumber(1)),
-    ("0 1", OrderFault::BadNumber(1)),
-    ("-1", OrderFault::BadNumber(1)),
-    ("4", OrderFault::NoSuchWorker(1)),
-    ("0\n\n4\nx\n", OrderFault::NoSuchWorker(3)),
-    ("3\nx\n4\n", OrderFault::BadNumber(2)),
-];
-
-/// Returns the error of an order for four workers.
-fn refusal_of(alloc: Global, text: &str) -> Option<OrderFault> {
-    read_order(alloc, text.as_bytes(), 4).err()
-}
-
-#[test]
-fn refused_orders(rt: HostRuntime) {
-    for (text, fault) in &REFUSED {
-        check(&rt, refusal_of(rt.alloc(), text) == Some(*fault), text);
     }
 }

@@ -5,7 +5,7 @@ use crate::ledger::staffed::Staffed;
 use fault_ledger::{
     Call, Claim, Finish, Ledger, LedgerFault, Refusal, Reply, Shape, SharedLedger, Status, replay,
 };
-use std::alloc::{AllocError, Global};
+use std::alloc::Global;
 
 /// Numbers of classes, tests and workers, and the reason why there is no ledger of them.
 static SHAPES: [(u32, u32, u32, Option<LedgerFault>); 9] = [
@@ -26,27 +26,6 @@ fn limits_of_a_shape(rt: HostRuntime) {
         let owned = Ledger::new(rt.alloc(), *classes, *tests, *workers).err();
         let shared = SharedLedger::new(rt.alloc(), *classes, *tests, *workers).err();
         assert!(rt; owned == *fault && shared == *fault);
-    }
-}
-
-/// Each kind of error, and its words.
-static WORDS: [(LedgerFault, &str); 4] = [
-    (LedgerFault::NoWorkers, "no workers"),
-    (LedgerFault::TooManyWorkers, "more than 64 workers"),
-    (LedgerFault::TooManyPieces, "more than 16777216 pieces"),
-    (LedgerFault::Memory, "out of memory"),
-];
-
-/// Returns whether an error is written in these words.
-fn is_said(alloc: Global, fault: LedgerFault, words: &str) -> Result<bool, AllocError> {
-    let said = format!(in alloc; "{fault}")?;
-    Ok(said.as_str() == words)
-}
-
-#[test]
-fn words_of_faults(rt: HostRuntime) {
-    for (fault, words) in &WORDS {
-        check_ok(&rt, is_said(rt.alloc(), *fault, words), words);
     }
 }
 

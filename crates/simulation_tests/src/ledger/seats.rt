@@ -16,7 +16,7 @@ const EXHAUSTED: Reply = Reply::Claimed(Claim::Exhausted);
 const NOTHING_HELD: Reply = Reply::Refused(Refusal::NothingHeld);
 
 /// A step of the seats of a ledger, with its result.
-#[derive(Clone, Copy, Debug)]
+#[derive(Clone, Copy)]
 enum Step {
     /// This call with the seat of this worker has this reply.
     Calls(u32, Call, Reply),

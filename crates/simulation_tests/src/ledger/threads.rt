@@ -231,15 +231,6 @@ const LARGE: Shape = Shape {
     workers: 8,
 };
 
-#[test]
-fn many_threads_agree_with_the_outcomes(rt: HostRuntime) {
-    check_ok(
-        &rt,
-        agree(&rt, rt.alloc(), LARGE, 3),
-        "many_threads_agree_with_the_outcomes",
-    );
-}
-
 /// Two classes on two blocks.
 const SMALL: Shape = Shape {
     classes: 2,
@@ -247,13 +238,12 @@ const SMALL: Shape = Shape {
     workers: 4,
 };
 
-/// No piece is a hit, so each of the four is claimed once and then clear, and each class is settled
-/// at no test.
+/// No piece of the small ledger is a hit, so each of the four is claimed once and then clear, and
+/// each class is settled at no test.
 #[test]
-fn four_threads_report_four_pieces_as_clear(rt: HostRuntime) {
-    check_ok(
-        &rt,
-        agree(&rt, rt.alloc(), SMALL, 0),
-        "four_threads_report_four_pieces_as_clear",
-    );
+fn many_threads_agree_with_the_outcomes(rt: HostRuntime) {
+    let large = agree(&rt, rt.alloc(), LARGE, 3);
+    check_ok(&rt, large, "many_threads_agree_with_the_outcomes");
+    let small = agree(&rt, rt.alloc(), SMALL, 0);
+    check_ok(&rt, small, "four_threads_report_four_pieces_as_clear");
 }

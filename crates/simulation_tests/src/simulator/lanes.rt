@@ -1,80 +1,80 @@
 //! The tests of a block that detect a class, on worked circuits.
 
-use crate::checks::{check_ok, job_of};
+use crate::worker::fixtures::{BUFFER, Case, JobText, Question, check_cases};
 use block_sim::{Job, Workspace, detecting};
 use fault_model::Model;
-use job_loading::SimFault;
-use std::alloc::{AllocError, Global};
+use std::alloc::Global;
+use std::sync::Wait;
+use std::thread::Threads;
+use std::time::Clock;
 
-/// A circuit with tests: `zeros` rows `0`, and then `tests`. For each fault of the list the tests
-/// of the last block that detect it, one a bit.
-struct Worked {
-    name: &'static str,
-    bench: &'static str,
-    model: Model,
-    zeros: u32,
-    tests: &'static str,
-    lanes: &'static [u64],
-}
+/// For each fault of the list the tests of the last block that detect it, one a bit.
+#[derive(Clone, Copy)]
+struct Lanes(&'static [u64]);
 
-const BUFFER: &str = "INPUT(a)\nOUTPUT(z)\nz = BUFF(a)\n";
-
-static WORKED: [Worked; 7] = [
-    Worked {
+static CASES: [Case<Lanes>; 7] = [
+    Case {
         name: "buffer",
-        bench: BUFFER,
-        model: Model::StuckAt,
-        zeros: 0,
-        tests: "0\n1\n0\n1\n",
-        lanes: &[0b1010, 0b0101, 0b1010, 0b0101],
+        job: JobText {
+            model: Model::StuckAt,
+            bench: BUFFER,
+            rows: &[("0\n1\n0\n1", 1)],
+        },
+        question: Lanes(&[0b1010, 0b0101, 0b1010, 0b0101]),
     },
-    Worked {
+    Case {
         name: "buffer with 64 rows",
-        bench: BUFFER,
-        model: Model::StuckAt,
-        zeros: 64,
-        tests: "",
-        lanes: &[0, u64::MAX, 0, u64::MAX],
+        job: JobText {
+            model: Model::StuckAt,
+            bench: BUFFER,
+            rows: &[("0", 64)],
+        },
+        question: Lanes(&[0, u64::MAX, 0, u64::MAX]),
     },
-    Worked {
+    Case {
         name: "transitions of a buffer",
-        bench: BUFFER,
-        model: Model::Transition,
-        zeros: 0,
-        tests: "0\n1\n0\n1\n",
-        lanes: &[0b1010, 0b0100, 0b1010, 0b0100],
+        job: JobText {
+            model: Model::Transition,
+            bench: BUFFER,
+            rows: &[("0\n1\n0\n1", 1)],
+        },
+        question: Lanes(&[0b1010, 0b0100, 0b1010, 0b0100]),
     },
-    Worked {
+    Case {
         name: "transitions across blocks",
-        bench: BUFFER,
-        model: Model::Transition,
-        zeros: 64,
-        tests: "1\n0\n",
-        lanes: &[0b01, 0b10, 0b01, 0b10],
+        job: JobText {
+            model: Model::Transition,
+            bench: BUFFER,
+            rows: &[("0", 64), ("1\n0", 1)],
+        },
+        question: Lanes(&[0b01, 0b10, 0b01, 0b10]),
     },
-    Worked {
+    Case {
         name: "pairs of a buffer, and a test without a second",
-        bench: BUFFER,
-        model: Model::TransitionPairs,
-        zeros: 0,
-        tests: "0\n1\n0\n1\n1\n0\n1\n",
-        lanes: &[0b00_1010, 0b10_0000, 0b00_1010, 0b10_0000],
+        job: JobText {
+            model: Model::TransitionPairs,
+            bench: BUFFER,
+            rows: &[("0\n1\n0\n1\n1\n0\n1", 1)],
+        },
+        question: Lanes(&[0b00_1010, 0b10_0000, 0b00_1010, 0b10_0000]),
     },
-    Worked {
+    Case {
         name: "pairs of the second block",
-        bench: BUFFER,
-        model: Model::TransitionPairs,
-        zeros: 64,
-        tests: "1\n0\n",
-        lanes: &[0, 0b10, 0, 0b10],
+        job: JobText {
+            model: Model::TransitionPairs,
+            bench: BUFFER,
+            rows: &[("0", 64), ("1\n0", 1)],
+        },
+        question: Lanes(&[0, 0b10, 0, 0b10]),
     },
-    Worked {
+    Case {
         name: "transitions of an and",
-        bench: "INPUT(a)\nINPUT(b)\nOUTPUT(z)\nz = AND(a, b)\n",
-        model: Model::Transition,
-        zeros: 0,
-        tests: "00\n01\n10\n11\n",
-        lanes: &[0, 0, 0b1000, 0b0100, 0b1000, 0],
+        job: JobText {
+            model: Model::Transition,
+            bench: "INPUT(a)\nINPUT(b)\nOUTPUT(z)\nz = AND(a, b)\n",
+            rows: &[("00\n01\n10\n11", 1)],
+        },
+        question: Lanes(&[0, 0, 0b1000, 0b0100, 0b1000, 0]),
     },
 ];
 
@@ -98,41 +98,16 @@ fn are_lanes(job: &Job, workspace: &mut Workspace, lanes: &[u64]) -> bool {
     job.faults().count() as usize == lanes.len()
 }
 
-/// Returns whether a job has these lanes, with a workspace of its own.
-fn has_lanes(alloc: Global, job: &Job, lanes: &[u64]) -> Result<bool, AllocError> {
-    let mut workspace = Workspace::new(alloc, job)?;
-    Ok(are_lanes(job, &mut workspace, lanes))
-}
-
-/// Adds the tests of a worked circuit.
-fn push_tests(text: &mut Vec<u8>, worked: &Worked) -> Result<(), AllocError> {
-    for _ in 0..worked.zeros {
-        text.extend_from_slice(b"0\n")?;
+impl Question for Lanes {
+    fn holds<R: Threads + Wait + Clock + Sync>(&self, _rt: &R, alloc: Global, job: &Job) -> bool {
+        match Workspace::new(alloc, job) {
+            Ok(mut workspace) => are_lanes(job, &mut workspace, self.0),
+            Err(_) => false,
+        }
     }
-    text.extend_from_slice(worked.tests.as_bytes())
-}
-
-/// Returns the job of a worked circuit.
-fn job_of_worked(alloc: Global, worked: &Worked) -> Result<Job, SimFault> {
-    let mut tests = Vec::new(alloc);
-    push_tests(&mut tests, worked)?;
-    job_of(
-        alloc,
-        worked.model,
-        worked.bench.as_bytes(),
-        tests.as_slice(),
-    )
-}
-
-/// Returns whether a worked circuit has its lanes.
-fn is_so(alloc: Global, worked: &Worked) -> Result<bool, SimFault> {
-    let job = job_of_worked(alloc, worked)?;
-    Ok(has_lanes(alloc, &job, worked.lanes)?)
 }
 
 #[test]
 fn worked_circuits_have_their_detecting_tests(rt: HostRuntime) {
-    for worked in &WORKED {
-        check_ok(&rt, is_so(rt.alloc(), worked), worked.name);
-    }
+    check_cases(&rt, &CASES);
 }

@@ -4,13 +4,17 @@ ghost use Rattle.std.specs.Prelude.{◌<◌, ◌≤◌, length};
 ghost use Rattle.patterns.specs.Tests.{blocks};
 ghost use Rattle.block_sim.specs.Parts.{HasRoom};
 
-use crate::checks::{check_ok, job_of};
+use crate::checks::job_of;
+use crate::worker::fixtures::{BUFFER, Case, JobText, Question, check_cases};
 use block_sim::{Job, Workspace, first_hit, simulate};
 use fault_model::Model;
 use job_loading::SimFault;
 use patterns::{BLOCK_SIZE, Outcome};
 use std::alloc::{AllocError, Global};
-use worked_circuits::C17;
+use std::sync::Wait;
+use std::thread::Threads;
+use std::time::Clock;
+use worked_circuits::{C17, C17_TEXT};
 
 /// For each class of C17 the gates that it makes active under the test `11111`.
 static C17_ACTIVE: [u64; 22] = [
@@ -41,21 +45,6 @@ fn are_active(job: &Job, workspace: &mut Workspace) -> bool {
 fn is_active(alloc: Global, job: &Job) -> Result<bool, AllocError> {
     let mut workspace = Workspace::new(alloc, job)?;
     Ok(are_active(job, &mut workspace))
-}
-
-/// Returns whether each class of C17 takes its evaluations under the test `11111`.
-fn is_c17_active(alloc: Global) -> Result<bool, SimFault> {
-    let job = job_of(alloc, Model::StuckAt, C17, b"11111\n")?;
-    Ok(is_active(alloc, &job)?)
-}
-
-#[test]
-fn c17_evaluates_the_gates_that_are_active(rt: HostRuntime) {
-    check_ok(
-        &rt,
-        is_c17_active(rt.alloc()),
-        "c17_evaluates_the_gates_that_are_active",
-    );
 }
 
 /// The outcomes of all classes and blocks by both calls, and the evaluations of the first.
@@ -141,14 +130,6 @@ fn outcomes_of(alloc: Global, job: &Job) -> Result<Both, AllocError> {
     outcomes_in(alloc, job, &mut workspace)
 }
 
-/// Adds a row a number of times.
-fn push_times(text: &mut Vec<u8>, row: &[u8], times: u32) -> Result<(), AllocError> {
-    for _ in 0..times {
-        text.extend_from_slice(row)?;
-    }
-    Ok(())
-}
-
 /// Returns the number of outcomes that are hits.
 fn hits_of(outcomes: &[Outcome]) -> usize {
     outcomes
@@ -169,128 +150,6 @@ fn is_within_bound(alloc: Global, job: &Job) -> Result<bool, AllocError> {
     )
 }
 
-/// Returns the job of C17 with 4096 tests.
-fn job_of_4096_tests(alloc: Global) -> Result<Job, SimFault> {
-    let mut tests = Vec::new(alloc);
-    push_times(&mut tests, b"11111\n", 4096)?;
-    job_of(alloc, Model::StuckAt, C17, tests.as_slice())
-}
-
-/// Returns whether C17 with 4096 tests takes few evaluations.
-fn is_c17_within_bound(alloc: Global) -> Result<bool, SimFault> {
-    let job = job_of_4096_tests(alloc)?;
-    Ok(is_within_bound(alloc, &job)?)
-}
-
-#[test]
-fn c17_with_4096_tests_stays_within_the_bound(rt: HostRuntime) {
-    check_ok(
-        &rt,
-        is_c17_within_bound(rt.alloc()),
-        "c17_with_4096_tests_stays_within_the_bound",
-    );
-}
-
-/// A circuit with tests: `zeros` rows `0`, and then `tests`. For each fault of the list the first
-/// test that detects it.
-struct Worked {
-    name: &'static str,
-    bench: &'static str,
-    model: Model,
-    zeros: u32,
-    tests: &'static str,
-    firsts: &'static [Option<u32>],
-}
-
-const BUFFER: &str = "INPUT(a)\nOUTPUT(z)\nz = BUFF(a)\n";
-
-static WORKED: [Worked; 8] = [
-    Worked {
-        name: "exclusive or of one signal twice",
-        bench: "INPUT(a)\nOUTPUT(z)\nz = XOR(a, a)\n",
-        model: Model::StuckAt,
-        zeros: 1,
-        tests: "1\n",
-        firsts: &[
-            None,
-            None,
-            Some(1),
-            Some(0),
-            Some(1),
-            Some(0),
-            None,
-            Some(0),
-        ],
-    },
-    Worked {
-        name: "flip-flop in a loop",
-        bench: "q = DFF(d)\nd = NOT(q)\n",
-        model: Model::StuckAt,
-        zeros: 1,
-        tests: "",
-        firsts: &[None, Some(0), Some(0), None],
-    },
-    Worked {
-        name: "cell that observes and drives",
-        bench: "INPUT(a)\nOUTPUT(y)\nq = DFF(y)\ny = AND(a, q)\n",
-        model: Model::StuckAt,
-        zeros: 0,
-        tests: "11\n",
-        firsts: &[
-            Some(0),
-            None,
-            Some(0),
-            None,
-            Some(0),
-            None,
-            Some(0),
-            None,
-            Some(0),
-            None,
-        ],
-    },
-    Worked {
-        name: "buffer with 64 rows",
-        bench: BUFFER,
-        model: Model::StuckAt,
-        zeros: 64,
-        tests: "",
-        firsts: &[None, Some(0), None, Some(0)],
-    },
-    Worked {
-        name: "buffer with 65 rows",
-        bench: BUFFER,
-        model: Model::StuckAt,
-        zeros: 64,
-        tests: "1\n",
-        firsts: &[Some(64), Some(0), Some(64), Some(0)],
-    },
-    Worked {
-        name: "transitions of a buffer",
-        bench: BUFFER,
-        model: Model::Transition,
-        zeros: 1,
-        tests: "1\n0\n",
-        firsts: &[Some(1), Some(2), Some(1), Some(2)],
-    },
-    Worked {
-        name: "transitions across blocks",
-        bench: BUFFER,
-        model: Model::Transition,
-        zeros: 64,
-        tests: "1\n",
-        firsts: &[Some(64), None, Some(64), None],
-    },
-    Worked {
-        name: "transitions of an and",
-        bench: "INPUT(a)\nINPUT(b)\nOUTPUT(z)\nz = AND(a, b)\n",
-        model: Model::Transition,
-        zeros: 0,
-        tests: "00\n01\n10\n11\n",
-        firsts: &[None, None, Some(3), Some(2), Some(3), None],
-    },
-];
-
 /// Returns whether a workspace fits the job of C17.
 fn fits_c17(alloc: Global, workspace: &Workspace) -> Result<bool, SimFault> {
     let job = job_of(alloc, Model::StuckAt, C17, b"")?;
@@ -301,22 +160,6 @@ fn fits_c17(alloc: Global, workspace: &Workspace) -> Result<bool, SimFault> {
 fn job_fits_c17(alloc: Global, job: &Job) -> Result<bool, SimFault> {
     let workspace = Workspace::new(alloc, job)?;
     fits_c17(alloc, &workspace)
-}
-
-/// Returns whether a workspace of the job of a circuit fits the job of C17.
-fn room_fits_c17(alloc: Global, bench: &[u8]) -> Result<bool, SimFault> {
-    let job = job_of(alloc, Model::StuckAt, bench, b"")?;
-    job_fits_c17(alloc, &job)
-}
-
-#[test]
-fn a_workspace_fits_jobs_of_as_many_signals(rt: HostRuntime) {
-    assert!(rt; room_fits_c17(rt.alloc(), BUFFER.as_bytes()) == Ok(false));
-    check_ok(
-        &rt,
-        room_fits_c17(rt.alloc(), C17),
-        "a_workspace_fits_jobs_of_as_many_signals",
-    );
 }
 
 /// Returns the first test of a class's first hit, out of the outcomes of all classes and blocks.
@@ -351,33 +194,169 @@ fn has_firsts(alloc: Global, job: &Job, firsts: &[Option<u32>]) -> Result<bool, 
     )
 }
 
-/// Adds the tests of a worked circuit.
-fn push_tests(text: &mut Vec<u8>, worked: &Worked) -> Result<(), AllocError> {
-    push_times(text, b"0\n", worked.zeros)?;
-    text.extend_from_slice(worked.tests.as_bytes())
+/// A question about the simulation of a job.
+#[derive(Clone, Copy)]
+enum Simulating {
+    /// Does C17 evaluate the gates that are active under a test of ones?
+    IsActive,
+    IsWithinBound,
+    /// Does a workspace of the job fit C17, or not?
+    FitsC17(bool),
+    /// Are these the first tests of the faults of the list?
+    HasFirsts(&'static [Option<u32>]),
 }
 
-/// Returns the job of a worked circuit.
-fn job_of_worked(alloc: Global, worked: &Worked) -> Result<Job, SimFault> {
-    let mut tests = Vec::new(alloc);
-    push_tests(&mut tests, worked)?;
-    job_of(
-        alloc,
-        worked.model,
-        worked.bench.as_bytes(),
-        tests.as_slice(),
-    )
+impl Question for Simulating {
+    fn holds<R: Threads + Wait + Clock + Sync>(&self, _rt: &R, alloc: Global, job: &Job) -> bool {
+        match *self {
+            Simulating::IsActive => is_active(alloc, job) == Ok(true),
+            Simulating::IsWithinBound => is_within_bound(alloc, job) == Ok(true),
+            Simulating::FitsC17(fits) => job_fits_c17(alloc, job) == Ok(fits),
+            Simulating::HasFirsts(firsts) => has_firsts(alloc, job, firsts) == Ok(true),
+        }
+    }
 }
 
-/// Returns whether a worked circuit has its first tests.
-fn is_so(alloc: Global, worked: &Worked) -> Result<bool, SimFault> {
-    let job = job_of_worked(alloc, worked)?;
-    Ok(has_firsts(alloc, &job, worked.firsts)?)
+static CASES: [Case<Simulating>; 4] = [
+    Case {
+        name: "c17_evaluates_the_gates_that_are_active",
+        job: JobText {
+            model: Model::StuckAt,
+            bench: C17_TEXT,
+            rows: &[("11111", 1)],
+        },
+        question: Simulating::IsActive,
+    },
+    Case {
+        name: "c17_with_4096_tests_stays_within_the_bound",
+        job: JobText {
+            model: Model::StuckAt,
+            bench: C17_TEXT,
+            rows: &[("11111", 4096)],
+        },
+        question: Simulating::IsWithinBound,
+    },
+    Case {
+        name: "a_workspace_of_another_circuit",
+        job: JobText {
+            model: Model::StuckAt,
+            bench: BUFFER,
+            rows: &[],
+        },
+        question: Simulating::FitsC17(false),
+    },
+    Case {
+        name: "a_workspace_fits_jobs_of_as_many_signals",
+        job: JobText {
+            model: Model::StuckAt,
+            bench: C17_TEXT,
+            rows: &[],
+        },
+        question: Simulating::FitsC17(true),
+    },
+];
+
+#[test]
+fn worked_circuits_are_simulated(rt: HostRuntime) {
+    check_cases(&rt, &CASES);
 }
+
+static WORKED: [Case<Simulating>; 8] = [
+    Case {
+        name: "exclusive or of one signal twice",
+        job: JobText {
+            model: Model::StuckAt,
+            bench: "INPUT(a)\nOUTPUT(z)\nz = XOR(a, a)\n",
+            rows: &[("0", 1), ("1", 1)],
+        },
+        question: Simulating::HasFirsts(&[
+            None,
+            None,
+            Some(1),
+            Some(0),
+            Some(1),
+            Some(0),
+            None,
+            Some(0),
+        ]),
+    },
+    Case {
+        name: "flip-flop in a loop",
+        job: JobText {
+            model: Model::StuckAt,
+            bench: "q = DFF(d)\nd = NOT(q)\n",
+            rows: &[("0", 1)],
+        },
+        question: Simulating::HasFirsts(&[None, Some(0), Some(0), None]),
+    },
+    Case {
+        name: "cell that observes and drives",
+        job: JobText {
+            model: Model::StuckAt,
+            bench: "INPUT(a)\nOUTPUT(y)\nq = DFF(y)\ny = AND(a, q)\n",
+            rows: &[("11", 1)],
+        },
+        question: Simulating::HasFirsts(&[
+            Some(0),
+            None,
+            Some(0),
+            None,
+            Some(0),
+            None,
+            Some(0),
+            None,
+            Some(0),
+            None,
+        ]),
+    },
+    Case {
+        name: "buffer with 64 rows",
+        job: JobText {
+            model: Model::StuckAt,
+            bench: BUFFER,
+            rows: &[("0", 64)],
+        },
+        question: Simulating::HasFirsts(&[None, Some(0), None, Some(0)]),
+    },
+    Case {
+        name: "buffer with 65 rows",
+        job: JobText {
+            model: Model::StuckAt,
+            bench: BUFFER,
+            rows: &[("0", 64), ("1", 1)],
+        },
+        question: Simulating::HasFirsts(&[Some(64), Some(0), Some(64), Some(0)]),
+    },
+    Case {
+        name: "transitions of a buffer",
+        job: JobText {
+            model: Model::Transition,
+            bench: BUFFER,
+            rows: &[("0", 1), ("1", 1), ("0", 1)],
+        },
+        question: Simulating::HasFirsts(&[Some(1), Some(2), Some(1), Some(2)]),
+    },
+    Case {
+        name: "transitions across blocks",
+        job: JobText {
+            model: Model::Transition,
+            bench: BUFFER,
+            rows: &[("0", 64), ("1", 1)],
+        },
+        question: Simulating::HasFirsts(&[Some(64), None, Some(64), None]),
+    },
+    Case {
+        name: "transitions of an and",
+        job: JobText {
+            model: Model::Transition,
+            bench: "INPUT(a)\nINPUT(b)\nOUTPUT(z)\nz = AND(a, b)\n",
+            rows: &[("00", 1), ("01", 1), ("10", 1), ("11", 1)],
+        },
+        question: Simulating::HasFirsts(&[None, None, Some(3), Some(2), Some(3), None]),
+    },
+];
 
 #[test]
 fn worked_circuits_have_their_first_tests(rt: HostRuntime) {
-    for worked in &WORKED {
-        check_ok(&rt, is_so(rt.alloc(), worked), worked.name);
-    }
+    check_cases(&rt, &WORKED);
 }

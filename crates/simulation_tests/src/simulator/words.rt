@@ -23,30 +23,11 @@ const CREWS: [(u32, &str); 4] = [
     (64, "sixty-four workers"),
 ];
 
-/// Adds the name of a signal of the chain, by its number.
-fn push_name(text: &mut Vec<u8>, signal: u32) -> Result<(), AllocError> {
-    for _ in 0..signal {
-        text.push(b'x')?;
-    }
-    text.extend_from_slice(b"x")
-}
-
-/// Adds the line of a gate of the chain, by the number of the signal that it reads.
-fn push_gate(text: &mut Vec<u8>, read: u32) -> Result<(), AllocError> {
-    push_name(text, read.saturating_add(1))?;
-    text.extend_from_slice(b"=NOT(")?;
-    push_name(text, read)?;
-    text.extend_from_slice(b")\n")
-}
-
 /// Returns the chain: its signal 0 is the input, and each other one inverts the one before.
-fn chain(alloc: Global) -> Result<Vec<u8>, AllocError> {
-    let mut text = Vec::new(alloc);
-    text.extend_from_slice(b"INPUT(x)\nOUTPUT(")?;
-    push_name(&mut text, GATES)?;
-    text.extend_from_slice(b")\n")?;
+fn chain(alloc: Global) -> Result<String, AllocError> {
+    let mut text = String::from_str(alloc, "INPUT(n0)\nOUTPUT(n256)\n")?;
     for read in 0..GATES {
-        push_gate(&mut text, read)?;
+        write!(text, "n{} = NOT(n{read})\n", read + 1)?;
     }
     Ok(text)
 }
@@ -94,16 +75,42 @@ fn is_right(job: &Job) -> bool {
     job.tests().blocks() == TESTS.div_ceil(64) && job.circuit().signals() == GATES + 1
 }
 
+/// Returns whether a job of these texts has its words if this number of workers makes it.
+fn is_right_whole<R: Threads + Wait>(
+    rt: &R,
+    alloc: Global,
+    bench: &[u8],
+    tests: &[u8],
+    workers: u32,
+) -> Result<bool, SimFault> {
+    let job = job_of_in_threads(rt, alloc, Model::StuckAt, bench, tests, workers)?;
+    Ok(is_right(&job))
+}
+
+/// Returns whether a job of one other test has its words if this number of workers gives it these
+/// tests.
+fn is_right_later<R: Threads + Wait>(
+    rt: &R,
+    alloc: Global,
+    bench: &[u8],
+    tests: &[u8],
+    workers: u32,
+) -> Result<bool, SimFault> {
+    let mut job = job_of_in_threads(rt, alloc, Model::StuckAt, bench, b"1\n", workers)?;
+    let others = read_tests(alloc, tests, job.circuit().sources())?;
+    job.set_tests_in_threads(rt, alloc, others, workers)?;
+    Ok(is_right(&job))
+}
+
 /// Returns whether a job has its words if this number of workers makes it, or gives it its tests.
 fn is_right_by<R: Threads + Wait>(rt: &R, alloc: Global, workers: u32) -> Result<bool, SimFault> {
     let bench = chain(alloc)?;
     let tests = rows(alloc)?;
-    let (bench, tests) = (bench.as_slice(), tests.as_slice());
-    let whole = job_of_in_threads(rt, alloc, Model::StuckAt, bench, tests, workers)?;
-    let mut later = job_of_in_threads(rt, alloc, Model::StuckAt, bench, b"1\n", workers)?;
-    let others = read_tests(alloc, tests, later.circuit().sources())?;
-    later.set_tests_in_threads(rt, alloc, others, workers)?;
-    Ok(is_right(&whole) && is_right(&later))
+    let (bench, tests) = (bench.as_bytes(), tests.as_slice());
+    Ok(
+        is_right_whole(rt, alloc, bench, tests, workers)?
+            && is_right_later(rt, alloc, bench, tests, workers)?,
+    )
 }
 
 #[test]

@@ -1,14 +1,19 @@
-//! Jobs, and their expected verdicts.
+//! Jobs with questions about them, and their expected verdicts.
 
 use crate::checks;
+use crate::checks::check;
 use block_sim::Job;
 use fault_model::Model;
 use job_loading::SimFault;
 use std::alloc::{AllocError, Global};
+use std::process::Abort;
+use std::sync::Wait;
+use std::thread::Threads;
+use std::time::Clock;
 use worked_circuits::C17_TEXT;
 use workers::Verdicts;
 
-/// A job: a circuit, and rows of tests, each with its number of times.
+/// A job: a circuit, and one or more rows of tests, each time with its number of times.
 pub(crate) struct JobText {
     pub(crate) model: Model,
     pub(crate) bench: &'static str,
@@ -66,6 +71,41 @@ pub(crate) const BUFFER: &str = "INPUT(a)\nOUTPUT(z)\nz = BUFF(a)\n";
 
 /// One wire: its faults a/0 and a/1 are a class each.
 pub(crate) const WIRE: &str = "INPUT(a)\nOUTPUT(a)\n";
+
+/// A question about a job.
+pub(crate) trait Question {
+    /// Returns whether the job has the property.
+    fn holds<R: Threads + Wait + Clock + Sync>(&self, rt: &R, alloc: Global, job: &Job) -> bool;
+}
+
+/// A question and its job.
+pub(crate) struct Case<Q> {
+    pub(crate) name: &'static str,
+    pub(crate) job: JobText,
+    pub(crate) question: Q,
+}
+
+/// Returns whether the case holds. Only this function makes and owns the job.
+fn holds<R: Threads + Wait + Clock + Sync, Q: Question>(
+    rt: &R,
+    alloc: Global,
+    case: &Case<Q>,
+) -> bool {
+    match job_of(alloc, &case.job) {
+        Ok(job) => case.question.holds(rt, alloc, &job),
+        Err(_) => false,
+    }
+}
+
+/// Stops the test at the first case that doesn't hold.
+pub(crate) fn check_cases<R: AllocGlobal + Abort + Threads + Wait + Clock + Sync, Q: Question>(
+    rt: &R,
+    cases: &[Case<Q>],
+) {
+    for case in cases {
+        check(rt, holds(rt, rt.alloc(), case), case.name);
+    }
+}
 
 /// Returns the job of these texts.
 pub(crate) fn job_of(alloc: Global, job: &JobText) -> Result<Job, SimFault> {

@@ -3,16 +3,16 @@
 ghost use Rattle.std.specs.Prelude.{◌↔◌, ◌<◌, All, IfOk, IsTrue};
 ghost use Rattle.region_runs.specs.ListRunners.{ServesLists};
 
-use crate::checks::check;
-use crate::worker::fixtures::{C17_FIRSTS, JobText, has_firsts, job_of};
-use crate::worker::gates::ShutFor;
+use crate::worker::fixtures::{C17_FIRSTS, Case, JobText, has_firsts};
+use crate::worker::gated::{Gated, check_gated};
+use crate::worker::gates::{Plan, Planned};
 use block_sim::Job;
 use fault_model::Model;
-use job_loading::SimFault;
 use region_runs::{ListRunner, run_in_parts};
 use std::alloc::{AllocError, Global};
 use std::sync::Wait;
 use std::thread::Threads;
+use std::time::Clock;
 use worked_circuits::C17_TEXT;
 use workers::RunFault;
 
@@ -27,40 +27,39 @@ const TWO_BLOCKS: JobText = JobText {
 
 /// A list of classes of C17, and the first test that detects each.
 struct List {
-    name: &'static str,
     classes: &'static [u32],
     firsts: &'static [Option<u32>],
 }
 
 /// Lists that one runner runs one after another. No test detects class 0, the class of G1 sa1.
 static LISTS: [List; 6] = [
+    // Classes in no order.
     List {
-        name: "classes_in_no_order",
         classes: &[21, 2, 0, 7, 1],
         firsts: &[Some(0), Some(0), None, Some(64), Some(64)],
     },
+    // The same list again.
     List {
-        name: "the_same_list_again",
         classes: &[21, 2, 0, 7, 1],
         firsts: &[Some(0), Some(0), None, Some(64), Some(64)],
     },
+    // No class.
     List {
-        name: "no_class",
         classes: &[],
         firsts: &[],
     },
+    // A class twice.
     List {
-        name: "a_class_twice",
         classes: &[19, 0, 19, 8, 0],
         firsts: &[Some(64), None, Some(64), Some(0), None],
     },
+    // One class.
     List {
-        name: "one_class",
         classes: &[20],
         firsts: &[None],
     },
+    // Classes of earlier lists.
     List {
-        name: "classes_of_earlier_lists",
         classes: &[1, 21, 8, 18],
         firsts: &[Some(64), Some(0), Some(0), Some(0)],
     },
@@ -91,21 +90,17 @@ fn tells(
     Ok(told.as_slice() == firsts)
 }
 
-/// Returns the first of the lists for which a runner finds other first tests, if there is one.
-fn first_wrong(
-    runner: &mut ListRunner,
-    alloc: Global,
-    job: &Job,
-) -> Result<Option<&'static str>, AllocError>
+/// Returns whether a runner finds the first tests of all lists.
+fn tells_all(runner: &mut ListRunner, alloc: Global, job: &Job) -> Result<bool, AllocError>
     requires { ServesLists runner.old job.now }
     ensures { ServesLists runner.new job.now }
 {
     for list in &LISTS {
         if !tells(runner, alloc, job, list.classes, list.firsts)? {
-            return Ok(Some(list.name));
+            return Ok(false);
         }
     }
-    Ok(None)
+    Ok(true)
 }
 
 /// Returns whether a runner that has run lists has the verdicts on all faults. Class 1 has the
@@ -127,37 +122,58 @@ fn has_verdicts(runner: &mut ListRunner, alloc: Global, job: &Job) -> Result<boo
 /// Returns whether a runner goes on after a gate stopped a run. The last class of the list in which
 /// one part runs all classes is 21. So all others have passed block 0, and class 0 waits for block
 /// 1.
-fn goes_on<R: Threads + Wait>(rt: &R, alloc: Global, job: &Job) -> Result<bool, AllocError> {
-    let gate = ShutFor {
-        class: 21,
-        block: 0,
-    };
+fn goes_on<R: Threads + Wait + Clock + Sync>(
+    rt: &R,
+    alloc: Global,
+    job: &Job,
+) -> Result<bool, AllocError> {
+    let gate = Planned::new(rt, Plan::Pieces((21, 0), (21, 0)));
     let stopped = run_in_parts(rt, alloc, job, 1, 1, &gate).err();
     let mut runner = ListRunner::new(alloc, job)?;
     let told = tells(&mut runner, alloc, job, &[0, 21], &[None, Some(0)])?;
     Ok(told && stopped == Some(RunFault::Unfinished { class: 0, block: 1 }))
 }
 
-/// Returns the case that doesn't hold, if there is one.
-fn wrong_case<R: Threads + Wait>(rt: &R, alloc: Global) -> Result<Option<&'static str>, SimFault> {
-    let job = job_of(alloc, &TWO_BLOCKS)?;
-    let mut runner = ListRunner::new(alloc, &job)?;
-    let wrong = first_wrong(&mut runner, alloc, &job)?;
-    if wrong.is_some() {
-        return Ok(wrong);
-    }
-    if !has_verdicts(&mut runner, alloc, &job)? {
-        return Ok(Some("all_faults_after_lists"));
-    }
-    let goes_on = goes_on(rt, alloc, &job)?;
-    Ok((!goes_on).then_some("a_list_after_a_gate_that_stops"))
+/// Returns whether a new runner finds the first tests of all lists, and then the verdicts.
+fn runs_all(alloc: Global, job: &Job) -> Result<bool, AllocError> {
+    let mut runner = ListRunner::new(alloc, job)?;
+    Ok(tells_all(&mut runner, alloc, job)? && has_verdicts(&mut runner, alloc, job)?)
 }
+
+/// A question about lists of classes.
+#[derive(Clone, Copy)]
+pub(crate) enum Listing {
+    RunsAll,
+    GoesOn,
+}
+
+/// Returns whether a job has the property.
+pub(crate) fn is_so<R: Threads + Wait + Clock + Sync>(
+    rt: &R,
+    alloc: Global,
+    job: &Job,
+    question: Listing,
+) -> bool {
+    match question {
+        Listing::RunsAll => runs_all(alloc, job) == Ok(true),
+        Listing::GoesOn => goes_on(rt, alloc, job) == Ok(true),
+    }
+}
+
+static CASES: [Case<Gated>; 2] = [
+    Case {
+        name: "lists_and_then_all_faults",
+        job: TWO_BLOCKS,
+        question: Gated::Listing(Listing::RunsAll),
+    },
+    Case {
+        name: "a_list_after_a_gate_that_stops",
+        job: TWO_BLOCKS,
+        question: Gated::Listing(Listing::GoesOn),
+    },
+];
 
 #[test]
 fn runs_lists(rt: HostRuntime) {
-    match wrong_case(&rt, rt.alloc()) {
-        Ok(None) => {}
-        Ok(Some(name)) => check(&rt, false, name),
-        Err(_) => check(&rt, false, "memory"),
-    }
+    check_gated(&rt, &CASES);
 }

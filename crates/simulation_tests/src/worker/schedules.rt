@@ -1,11 +1,12 @@
 //! Runs of one thread.
 
-use crate::checks::check_ok;
-use crate::worker::fixtures::{BUFFER, C17, C17_FIRSTS, JobText, WIRE, has_firsts, job_of};
+use crate::worker::fixtures::{BUFFER, Case, JobText, Question, WIRE, check_cases, has_firsts};
 use block_sim::Job;
 use fault_model::Model;
-use job_loading::SimFault;
-use std::alloc::{AllocError, Global};
+use std::alloc::Global;
+use std::sync::Wait;
+use std::thread::Threads;
+use std::time::Clock;
 use workers::{RunFault, run_schedule};
 
 /// Returns the number of pieces that a run of a job by moves skips, if it has these verdicts.
@@ -41,12 +42,6 @@ fn are_skipped(alloc: Global, job: &Job) -> Result<bool, RunFault> {
     Ok(true)
 }
 
-/// Returns whether the last of 65 tests launches the transitions of the buffer.
-fn is_launched(alloc: Global, job: &Job) -> Result<bool, RunFault> {
-    let firsts = [Some(64), None, Some(64), None];
-    Ok(skipped_by(alloc, job, 3, &[2, 2, 0], &firsts)?.is_some())
-}
-
 /// Numbers of workers and moves, each with its error.
 static REFUSED: [(u32, &[u32], RunFault); 5] = [
     (4, &[0, 9, 4], RunFault::NoSuchMove(1)),
@@ -66,46 +61,23 @@ fn are_refused(alloc: Global, job: &Job) -> bool {
     true
 }
 
-/// Returns sixty moves of seven workers, and updates the seed for the next ones.
-fn random_moves(seed: &mut u32) -> [u32; 60] {
-    let mut moves = [0; 60];
-    for place in 0..60 {
-        // The generator of Numerical Recipes.
-        *seed = seed.wrapping_mul(1_664_525).wrapping_add(1_013_904_223);
-        moves[place] = (*seed >> 16) % 7;
-    }
-    moves
+/// A question about the moves of a job.
+#[derive(Clone, Copy)]
+enum Moving {
+    AreSkipped,
+    AreRefused,
 }
 
-/// Returns whether C17 has its verdicts in 100 orders of moves.
-fn has_one_answer(alloc: Global, job: &Job) -> Result<bool, RunFault> {
-    let mut seed: u32 = 1;
-    for _ in 0..100 {
-        let moves = random_moves(&mut seed);
-        if skipped_by(alloc, job, 7, &moves, &C17_FIRSTS)?.is_none() {
-            return Ok(false);
+impl Question for Moving {
+    fn holds<R: Threads + Wait + Clock + Sync>(&self, _rt: &R, alloc: Global, job: &Job) -> bool {
+        match *self {
+            Moving::AreSkipped => are_skipped(alloc, job) == Ok(true),
+            Moving::AreRefused => are_refused(alloc, job),
         }
     }
-    Ok(true)
 }
 
-/// A question about a job.
-#[derive(Clone, Copy)]
-enum Question {
-    AreSkipped,
-    IsLaunched,
-    AreRefused,
-    HasOneAnswer,
-}
-
-/// A question and its job.
-struct Case {
-    name: &'static str,
-    job: JobText,
-    question: Question,
-}
-
-static CASES: [Case; 4] = [
+static CASES: [Case<Moving>; 2] = [
     Case {
         name: "worker_two_reports_block_one_before_block_zero",
         job: JobText {
@@ -113,16 +85,7 @@ static CASES: [Case; 4] = [
             bench: BUFFER,
             rows: &[("0", 63), ("1", 2)],
         },
-        question: Question::AreSkipped,
-    },
-    Case {
-        name: "transitions_are_told_by_the_test_before",
-        job: JobText {
-            model: Model::Transition,
-            bench: BUFFER,
-            rows: &[("0", 64), ("1", 1)],
-        },
-        question: Question::IsLaunched,
+        question: Moving::AreSkipped,
     },
     Case {
         name: "numbers_of_workers_go_before_moves",
@@ -131,61 +94,11 @@ static CASES: [Case; 4] = [
             bench: WIRE,
             rows: &[("0", 1)],
         },
-        question: Question::AreRefused,
-    },
-    Case {
-        name: "c17_in_a_hundred_orders",
-        job: C17,
-        question: Question::HasOneAnswer,
+        question: Moving::AreRefused,
     },
 ];
-
-/// Returns whether a job has the property.
-fn is_so(alloc: Global, job: &Job, question: Question) -> Result<bool, RunFault> {
-    match question {
-        Question::AreSkipped => are_skipped(alloc, job),
-        Question::IsLaunched => is_launched(alloc, job),
-        Question::AreRefused => Ok(are_refused(alloc, job)),
-        Question::HasOneAnswer => has_one_answer(alloc, job),
-    }
-}
-
-/// Returns whether the case holds.
-fn holds(alloc: Global, case: &Case) -> Result<bool, SimFault> {
-    let job = job_of(alloc, &case.job)?;
-    Ok(is_so(alloc, &job, case.question)?)
-}
 
 #[test]
 fn runs_by_moves(rt: HostRuntime) {
-    for case in &CASES {
-        check_ok(&rt, holds(rt.alloc(), case), case.name);
-    }
-}
-
-/// Each kind of error, and its words.
-static WORDS: [(RunFault, &str); 7] = [
-    (RunFault::NoWorkers, "no workers"),
-    (RunFault::TooManyWorkers, "more than 64 workers"),
-    (RunFault::NoSuchMove(1), "move 1: no such worker"),
-    (RunFault::TooManyPieces, "more than 16777216 pieces"),
-    (RunFault::Memory, "out of memory"),
-    (RunFault::Threads, "thread refused"),
-    (
-        RunFault::Unfinished { class: 1, block: 2 },
-        "unfinished at class 1 block 2",
-    ),
-];
-
-/// Returns whether an error is written in these words.
-fn is_said(alloc: Global, fault: RunFault, words: &str) -> Result<bool, AllocError> {
-    let said = format!(in alloc; "{fault}")?;
-    Ok(said.as_str() == words)
-}
-
-#[test]
-fn words_of_the_faults(rt: HostRuntime) {
-    for (fault, words) in &WORDS {
-        check_ok(&rt, is_said(rt.alloc(), *fault, words), words);
-    }
+    check_cases(&rt, &CASES);
 }

@@ -3,13 +3,12 @@
 ghost use Rattle.std.specs.Prelude.{◌≡◌, ◌<◌, All, IfOk, length};
 ghost use Rattle.workers.specs.Settling.{IsShapeOf};
 
-use crate::checks::check_ok;
-use crate::worker::fixtures::{BUFFER, C17, C17_FIRSTS, JobText, WIRE, has_firsts, job_of};
-use crate::worker::gates::{Counter, Meeting, Roll, Shut, ShutFor, ShutForTwo, TwoByTwo};
+use crate::worker::fixtures::{BUFFER, C17, C17_FIRSTS, Case, JobText, WIRE, has_firsts};
+use crate::worker::gated::{Gated, check_gated};
+use crate::worker::gates::{Plan, Planned, Shut};
 use block_sim::{Job, Workspace};
 use fault_ledger::{Finish, LedgerFault, Seat, SharedLedger, Status};
 use fault_model::Model;
-use job_loading::SimFault;
 use std::alloc::{AllocError, Global};
 use std::sync::Wait;
 use std::thread;
@@ -17,28 +16,36 @@ use std::thread::Threads;
 use std::time::Clock;
 use workers::{Gate, OpenGate, RunFault, run, work};
 
-/// Returns whether a run of a job by workers in threads has these verdicts.
-fn is_run<R: Threads + Wait, G: Gate + Sync>(
+/// Returns whether a run of a job has these verdicts, by workers in threads with a gate of this
+/// plan.
+fn is_run<R: Threads + Wait + Clock + Sync>(
     rt: &R,
     alloc: Global,
     job: &Job,
     workers: u32,
-    gate: &G,
+    plan: Plan,
     firsts: &[Option<u32>],
 ) -> Result<bool, RunFault> {
-    let verdicts = run(rt, alloc, job, workers, gate)?;
+    let verdicts = run(rt, alloc, job, workers, &Planned::new(rt, plan))?;
     Ok(has_firsts(&verdicts, firsts))
 }
 
-/// Returns the error of a run of a job by workers in threads.
-fn refusal<R: Threads + Wait, G: Gate + Sync>(
+/// Returns whether a run of a job has these verdicts and skips this number of pieces, by workers in
+/// threads with an open gate.
+fn is_run_openly<R: Threads + Wait>(
     rt: &R,
     alloc: Global,
     job: &Job,
     workers: u32,
-    gate: &G,
-) -> Option<RunFault> {
-    run(rt, alloc, job, workers, gate).err()
+    firsts: &[Option<u32>],
+    skipped: Option<u64>,
+) -> Result<bool, RunFault> {
+    let verdicts = run(rt, alloc, job, workers, &OpenGate)?;
+    let are_skipped = match skipped {
+        Some(skipped) => verdicts.skipped() == skipped,
+        None => true,
+    };
+    Ok(are_skipped && has_firsts(&verdicts, firsts))
 }
 
 /// Returns whether a run of a job stops with a piece open.
@@ -51,14 +58,8 @@ fn stops_at<R: Threads + Wait, G: Gate + Sync>(
     piece: (u32, u32),
 ) -> bool {
     let (class, block) = piece;
-    refusal(rt, alloc, job, workers, gate) == Some(RunFault::Unfinished { class, block })
+    run(rt, alloc, job, workers, gate).err() == Some(RunFault::Unfinished { class, block })
 }
-
-/// The first tests of the buffer under 64 tests of 0 and one of 1.
-static BUFFER_FIRSTS: [Option<u32>; 4] = [Some(64), Some(0), Some(64), Some(0)];
-
-/// Numbers of workers that run C17.
-static NUMBERS: [u32; 4] = [1, 2, 3, 64];
 
 /// Numbers of workers that are out of range.
 static REFUSED_NUMBERS: [(u32, RunFault); 2] = [
@@ -69,141 +70,57 @@ static REFUSED_NUMBERS: [(u32, RunFault); 2] = [
 /// Returns whether runs by these numbers of workers fail.
 fn are_refused<R: Threads + Wait>(rt: &R, alloc: Global, job: &Job) -> bool {
     for (workers, fault) in &REFUSED_NUMBERS {
-        if refusal(rt, alloc, job, *workers, &OpenGate) != Some(*fault) {
+        if run(rt, alloc, job, *workers, &OpenGate).err() != Some(*fault) {
             return false;
         }
     }
     true
 }
 
-/// Returns whether C17 has its verdicts by several numbers of workers.
-fn is_run_by_all<R: Threads + Wait>(rt: &R, alloc: Global, job: &Job) -> Result<bool, RunFault> {
-    for workers in &NUMBERS {
-        if !is_run(rt, alloc, job, *workers, &OpenGate, &C17_FIRSTS)? {
-            return Ok(false);
-        }
-    }
-    Ok(true)
-}
+/// Plans that stop the workers of one or two pieces, each with the piece that a run names then.
+type Stops = &'static [(Plan, (u32, u32))];
 
-/// Pieces of the buffer for which a gate is shut.
-static SHUT_PIECES: [(u32, u32); 3] = [(0, 0), (1, 0), (0, 1)];
-
-/// Returns whether a run whose gate is shut for one piece leaves that piece open.
-fn is_left_open<R: Threads + Wait>(rt: &R, alloc: Global, job: &Job) -> bool {
-    for (class, block) in &SHUT_PIECES {
-        let (class, block) = (*class, *block);
-        if !stops_at(rt, alloc, job, 2, &ShutFor { class, block }, (class, block)) {
-            return false;
-        }
-    }
-    true
-}
-
-/// Gates that leave two pieces open, and the piece that an unfinished run of the buffer names if
-/// all its tests are 1. Class 0, the class of `z` stuck at 0, is settled by block 0, and class 1 by
-/// all blocks.
-static OPEN_PAIRS: [(ShutForTwo, u32, u32); 2] = [
-    // Class 0 is settled and block 0 of class 1 is clear: the lower of blocks 1 and 2 is named.
-    (
-        ShutForTwo {
-            first: (1, 1),
-            second: (1, 2),
-        },
-        1,
-        1,
-    ),
-    // Both classes wait for block 0: the lower class is named.
-    (
-        ShutForTwo {
-            first: (0, 0),
-            second: (1, 0),
-        },
-        0,
-        0,
-    ),
+/// Plans for the buffer under 64 tests of 0 and one of 1: the one piece stays open.
+const SHUT_PIECES: [(Plan, (u32, u32)); 3] = [
+    (Plan::Pieces((0, 0), (0, 0)), (0, 0)),
+    (Plan::Pieces((1, 0), (1, 0)), (1, 0)),
+    (Plan::Pieces((0, 1), (0, 1)), (0, 1)),
 ];
 
-/// Returns whether a run of two workers, each of which leaves a piece open, names the lower one.
-fn is_lowest_named<R: Threads + Wait>(rt: &R, alloc: Global, job: &Job) -> bool {
-    for (gate, class, block) in &OPEN_PAIRS {
-        if !stops_at(rt, alloc, job, 2, gate, (*class, *block)) {
+/// Plans for the buffer if all its tests are 1. Class 0, the class of `z` stuck at 0, is settled by
+/// block 0, and class 1 by all blocks.
+const OPEN_PAIRS: [(Plan, (u32, u32)); 2] = [
+    // Class 0 is settled and block 0 of class 1 is clear: the lower of blocks 1 and 2 is named.
+    (Plan::Pieces((1, 1), (1, 2)), (1, 1)),
+    // Both classes wait for block 0: the lower class is named.
+    (Plan::Pieces((0, 0), (1, 0)), (0, 0)),
+];
+
+/// Returns whether runs of two workers with these plans leave these pieces open.
+fn are_left_open<R: Threads + Wait + Clock + Sync>(
+    rt: &R,
+    alloc: Global,
+    job: &Job,
+    stops: Stops,
+) -> bool {
+    for (plan, piece) in stops {
+        if !stops_at(rt, alloc, job, 2, &Planned::new(rt, *plan), *piece) {
             return false;
         }
     }
     true
-}
-
-/// Returns whether two runs of a job end well: the first has a gate that is shut for a piece after
-/// a hit, and the second an open gate.
-fn may_stay_open<R: Threads + Wait>(rt: &R, alloc: Global, job: &Job) -> Result<bool, RunFault> {
-    let gate = ShutFor { class: 1, block: 1 };
-    Ok(
-        is_run(rt, alloc, job, 2, &gate, &BUFFER_FIRSTS)?
-            && is_run(rt, alloc, job, 2, &OpenGate, &BUFFER_FIRSTS)?,
-    )
-}
-
-/// Returns whether a run of two workers has its verdicts. Its gate holds the first two pieces until
-/// both have been claimed, or the first until the last has been.
-fn is_run_by_meeting<R: Threads + Wait + Clock + Sync>(
-    rt: &R,
-    alloc: Global,
-    job: &Job,
-    both: bool,
-    firsts: &[Option<u32>],
-) -> Result<bool, RunFault> {
-    let second = if both { (1, 0) } else { (1, 1) };
-    let gate = Meeting::new(rt, (0, 0), second, both);
-    is_run(rt, alloc, job, 2, &gate, firsts)
-}
-
-/// Returns whether a run of four workers has its verdicts. Its gate holds them until all have come:
-/// each has a thread of its own, and its gate is called with its own number.
-fn is_run_by_roll<R: Threads + Wait + Clock + Sync>(
-    rt: &R,
-    alloc: Global,
-    job: &Job,
-) -> Result<bool, RunFault> {
-    is_run(rt, alloc, job, 4, &Roll::new(rt), &BUFFER_FIRSTS)
-}
-
-/// Returns whether a run in which worker 1 surely rests has its verdicts.
-///
-/// The workers hold pieces two by two, so at most one of two claims of a worker comes right after
-/// the other. Nearly all pieces take no evaluation: class 0 is dropped after its hit, and class 1
-/// takes two. In 200 rounds worker 1 owes far more than the debt that makes it rest.
-fn is_run_by_resting<R: Threads + Wait + Clock + Sync>(
-    rt: &R,
-    alloc: Global,
-    job: &Job,
-) -> Result<bool, RunFault> {
-    let gate = TwoByTwo::new(rt);
-    is_run(rt, alloc, job, 2, &gate, &[Some(0), None, Some(0), None])
-}
-
-/// Returns whether a run of one worker skips one piece.
-///
-/// The worker claims class 0, of `z` stuck at 0, and class 1 on block 0 and then both on block 1.
-/// Each test is 1, so it reports a hit of class 0 and class 1 as clear. On block 1 it drops class
-/// 0, after that hit, and reports class 1 as clear: one piece of four is skipped.
-fn is_one_skipped<R: Threads + Wait>(rt: &R, alloc: Global, job: &Job) -> Result<bool, RunFault> {
-    let verdicts = run(rt, alloc, job, 1, &OpenGate)?;
-    Ok(has_firsts(&verdicts, &[Some(0), None, Some(0), None]) && verdicts.skipped() == 1)
 }
 
 /// Returns whether a run of one worker ends after the pieces of the first block.
-fn ends_after_two<R: Threads + Wait>(rt: &R, alloc: Global, job: &Job) -> Result<bool, RunFault> {
-    let gate = Counter::new();
-    let is_so = is_run(
-        rt,
-        alloc,
-        job,
-        1,
-        &gate,
-        &[Some(1), Some(0), Some(1), Some(0)],
-    )?;
-    Ok(is_so && gate.pieces() == 2)
+fn ends_after_two<R: Threads + Wait + Clock + Sync>(
+    rt: &R,
+    alloc: Global,
+    job: &Job,
+) -> Result<bool, RunFault> {
+    let gate = Planned::new(rt, Plan::Count);
+    let verdicts = run(rt, alloc, job, 1, &gate)?;
+    let is_right = has_firsts(&verdicts, &[Some(1), Some(0), Some(1), Some(0)]);
+    Ok(is_right && gate.pieces() == 2)
 }
 
 /// Does the work of one seat, with a workspace of its own.
@@ -273,7 +190,7 @@ fn is_settled(alloc: Global, ledger: SharedLedger, seats: Vec<Seat>) -> Result<b
 /// are detected.
 ///
 /// The first piece is held until the last has been claimed.
-fn is_shared<R: Threads + Sync + Clock>(
+fn is_shared<R: Threads + Clock + Sync>(
     rt: &R,
     alloc: Global,
     job: &Job,
@@ -283,66 +200,107 @@ fn is_shared<R: Threads + Sync + Clock>(
         return Ok(false);
     }
     let (ledger, seats) = SharedLedger::new(alloc, classes, tests, 2)?;
-    let gate = Meeting::new(rt, (0, 0), (1, 1), false);
+    let gate = Planned::new(rt, Plan::Meet((0, 0), (1, 1)));
     let seats = in_threads(rt, alloc, job, &ledger, &gate, seats)?;
     is_settled(alloc, ledger, seats)
 }
 
-/// A question about a job.
+/// The first tests of a job's faults.
+type Firsts = &'static [Option<u32>];
+
+/// A question about the runs of a job.
 #[derive(Clone, Copy)]
-enum Question {
-    IsRunByAll,
+pub(crate) enum Running {
+    /// Do this many workers find these first tests, with a gate of this plan?
+    IsRun(u32, Plan, Firsts),
+    /// Do this many workers find these first tests, with an open gate, and skip so many pieces?
+    IsRunOpenly(u32, Firsts, Option<u64>),
+    /// Do this many workers find the first tests of C17, with an open gate?
+    RunC17(u32),
     AreRefused,
     IsFirstLeftOpen,
-    IsLeftOpen,
-    IsLowestNamed,
-    MayStayOpen,
-    IsRunByMeeting {
-        both: bool,
-        firsts: &'static [Option<u32>],
-    },
-    IsRunByRoll,
-    IsRunByResting,
-    IsOneSkipped,
+    AreLeftOpen(Stops),
     EndsAfterTwo,
     IsShared,
 }
 
-/// A question and its job.
-struct Case {
-    name: &'static str,
-    job: JobText,
-    question: Question,
+/// Returns whether a job has the property.
+pub(crate) fn is_so<R: Threads + Wait + Clock + Sync>(
+    rt: &R,
+    alloc: Global,
+    job: &Job,
+    question: Running,
+) -> bool {
+    match question {
+        Running::IsRun(workers, plan, firsts) => {
+            is_run(rt, alloc, job, workers, plan, firsts) == Ok(true)
+        }
+        Running::IsRunOpenly(workers, firsts, skipped) => {
+            is_run_openly(rt, alloc, job, workers, firsts, skipped) == Ok(true)
+        }
+        Running::RunC17(workers) => {
+            is_run_openly(rt, alloc, job, workers, &C17_FIRSTS, None) == Ok(true)
+        }
+        Running::AreRefused => are_refused(rt, alloc, job),
+        Running::IsFirstLeftOpen => stops_at(rt, alloc, job, 1, &Shut, (0, 0)),
+        Running::AreLeftOpen(stops) => are_left_open(rt, alloc, job, stops),
+        Running::EndsAfterTwo => ends_after_two(rt, alloc, job) == Ok(true),
+        Running::IsShared => is_shared(rt, alloc, job) == Ok(true),
+    }
 }
 
-static CASES: [Case; 14] = [
+/// A wire under a test of 0.
+const ONE_ZERO: JobText = JobText {
+    model: Model::StuckAt,
+    bench: WIRE,
+    rows: &[("0", 1)],
+};
+
+/// A buffer under 64 tests of 0 and one of 1.
+const TWO_BLOCKS: JobText = JobText {
+    model: Model::StuckAt,
+    bench: BUFFER,
+    rows: &[("0", 64), ("1", 1)],
+};
+
+/// The first tests of the faults of that buffer.
+const BUFFER_FIRSTS: [Option<u32>; 4] = [Some(64), Some(0), Some(64), Some(0)];
+
+static CASES: [Case<Gated>; 18] = [
     Case {
-        name: "c17_by_one_to_64_workers",
+        name: "c17_by_one_worker",
         job: C17,
-        question: Question::IsRunByAll,
+        question: Gated::Running(Running::RunC17(1)),
+    },
+    Case {
+        name: "c17_by_two_workers",
+        job: C17,
+        question: Gated::Running(Running::RunC17(2)),
+    },
+    Case {
+        name: "c17_by_three_workers",
+        job: C17,
+        question: Gated::Running(Running::RunC17(3)),
+    },
+    Case {
+        name: "c17_by_64_workers",
+        job: C17,
+        question: Gated::Running(Running::RunC17(64)),
     },
     Case {
         name: "c17_by_none_and_by_65_workers",
         job: C17,
-        question: Question::AreRefused,
+        question: Gated::Running(Running::AreRefused),
     },
     Case {
         name: "a_stopped_worker_leaves_its_piece_open",
-        job: JobText {
-            model: Model::StuckAt,
-            bench: WIRE,
-            rows: &[("0", 1)],
-        },
-        question: Question::IsFirstLeftOpen,
+        job: ONE_ZERO,
+        question: Gated::Running(Running::IsFirstLeftOpen),
     },
     Case {
         name: "one_of_two_workers_leaves_its_piece_open",
-        job: JobText {
-            model: Model::StuckAt,
-            bench: BUFFER,
-            rows: &[("0", 64), ("1", 1)],
-        },
-        question: Question::IsLeftOpen,
+        job: TWO_BLOCKS,
+        question: Gated::Running(Running::AreLeftOpen(&SHUT_PIECES)),
     },
     Case {
         name: "the_lowest_open_block_of_the_lowest_class_is_named",
@@ -351,28 +309,26 @@ static CASES: [Case; 14] = [
             bench: BUFFER,
             rows: &[("1", 129)],
         },
-        question: Question::IsLowestNamed,
+        question: Gated::Running(Running::AreLeftOpen(&OPEN_PAIRS)),
     },
     Case {
         name: "a_piece_behind_a_hit_may_stay_open",
-        job: JobText {
-            model: Model::StuckAt,
-            bench: BUFFER,
-            rows: &[("0", 64), ("1", 1)],
-        },
-        question: Question::MayStayOpen,
+        job: TWO_BLOCKS,
+        question: Gated::Running(Running::IsRun(2, Plan::Pieces((1, 1), (1, 1)), &BUFFER_FIRSTS)),
+    },
+    Case {
+        name: "no_piece_stays_open",
+        job: TWO_BLOCKS,
+        question: Gated::Running(Running::IsRunOpenly(2, &BUFFER_FIRSTS, None)),
     },
     Case {
         name: "two_workers_hold_a_piece_at_once",
-        job: JobText {
-            model: Model::StuckAt,
-            bench: WIRE,
-            rows: &[("0", 1)],
-        },
-        question: Question::IsRunByMeeting {
-            both: true,
-            firsts: &[None, Some(0)],
-        },
+        job: ONE_ZERO,
+        question: Gated::Running(Running::IsRun(
+            2,
+            Plan::MeetBoth((0, 0), (1, 0)),
+            &[None, Some(0)],
+        )),
     },
     Case {
         name: "two_workers_hold_a_piece_of_transitions_at_once",
@@ -381,32 +337,27 @@ static CASES: [Case; 14] = [
             bench: BUFFER,
             rows: &[("0", 64), ("1", 1)],
         },
-        question: Question::IsRunByMeeting {
-            both: true,
-            firsts: &[Some(64), None, Some(64), None],
-        },
+        question: Gated::Running(Running::IsRun(
+            2,
+            Plan::MeetBoth((0, 0), (1, 0)),
+            &[Some(64), None, Some(64), None],
+        )),
     },
+    // The gate holds the first piece until the last has been claimed.
     Case {
         name: "a_worker_goes_on_while_another_is_held",
-        job: JobText {
-            model: Model::StuckAt,
-            bench: BUFFER,
-            rows: &[("0", 64), ("1", 1)],
-        },
-        question: Question::IsRunByMeeting {
-            both: false,
-            firsts: &[Some(64), Some(0), Some(64), Some(0)],
-        },
+        job: TWO_BLOCKS,
+        question: Gated::Running(Running::IsRun(2, Plan::Meet((0, 0), (1, 1)), &BUFFER_FIRSTS)),
     },
+    // Each worker has a thread of its own, and its gate is called with its own number.
     Case {
         name: "four_workers_come_to_the_gate",
-        job: JobText {
-            model: Model::StuckAt,
-            bench: BUFFER,
-            rows: &[("0", 64), ("1", 1)],
-        },
-        question: Question::IsRunByRoll,
+        job: TWO_BLOCKS,
+        question: Gated::Running(Running::IsRun(4, Plan::Roll, &BUFFER_FIRSTS)),
     },
+    // The workers hold pieces two by two, so at most one of two claims of a worker comes right
+    // after the other. Nearly all pieces take no evaluation: class 0 is dropped after its hit, and
+    // class 1 takes two. In 200 rounds worker 1 owes far more than the debt that makes it rest.
     Case {
         name: "a_worker_that_rests_goes_on",
         job: JobText {
@@ -414,8 +365,15 @@ static CASES: [Case; 14] = [
             bench: BUFFER,
             rows: &[("1", 12_800)],
         },
-        question: Question::IsRunByResting,
+        question: Gated::Running(Running::IsRun(
+            2,
+            Plan::TwoByTwo,
+            &[Some(0), None, Some(0), None],
+        )),
     },
+    // The worker claims class 0, of `z` stuck at 0, and class 1 on block 0 and then both on block
+    // 1. Each test is 1, so it reports a hit of class 0 and class 1 as clear. On block 1 it drops
+    // class 0, after that hit, and reports class 1 as clear: one piece of four is skipped.
     Case {
         name: "a_piece_behind_a_hit_is_skipped",
         job: JobText {
@@ -423,7 +381,7 @@ static CASES: [Case; 14] = [
             bench: BUFFER,
             rows: &[("1", 128)],
         },
-        question: Question::IsOneSkipped,
+        question: Gated::Running(Running::IsRunOpenly(1, &[Some(0), None, Some(0), None], Some(1))),
     },
     Case {
         name: "a_worker_ends_where_all_classes_are_settled",
@@ -432,57 +390,16 @@ static CASES: [Case; 14] = [
             bench: BUFFER,
             rows: &[("0", 1), ("1", 1), ("0", 4_094)],
         },
-        question: Question::EndsAfterTwo,
+        question: Gated::Running(Running::EndsAfterTwo),
     },
     Case {
         name: "threads_of_a_caller_share_a_ledger",
-        job: JobText {
-            model: Model::StuckAt,
-            bench: BUFFER,
-            rows: &[("0", 64), ("1", 1)],
-        },
-        question: Question::IsShared,
+        job: TWO_BLOCKS,
+        question: Gated::Running(Running::IsShared),
     },
 ];
 
-/// Returns whether a job has the property.
-fn is_so<R: Threads + Wait + Clock + Sync>(
-    rt: &R,
-    alloc: Global,
-    job: &Job,
-    question: Question,
-) -> Result<bool, RunFault> {
-    match question {
-        Question::IsRunByAll => is_run_by_all(rt, alloc, job),
-        Question::AreRefused => Ok(are_refused(rt, alloc, job)),
-        Question::IsFirstLeftOpen => Ok(stops_at(rt, alloc, job, 1, &Shut, (0, 0))),
-        Question::IsLeftOpen => Ok(is_left_open(rt, alloc, job)),
-        Question::IsLowestNamed => Ok(is_lowest_named(rt, alloc, job)),
-        Question::MayStayOpen => may_stay_open(rt, alloc, job),
-        Question::IsRunByMeeting { both, firsts } => {
-            is_run_by_meeting(rt, alloc, job, both, firsts)
-        }
-        Question::IsRunByRoll => is_run_by_roll(rt, alloc, job),
-        Question::IsRunByResting => is_run_by_resting(rt, alloc, job),
-        Question::IsOneSkipped => is_one_skipped(rt, alloc, job),
-        Question::EndsAfterTwo => ends_after_two(rt, alloc, job),
-        Question::IsShared => Ok(is_shared(rt, alloc, job) == Ok(true)),
-    }
-}
-
-/// Returns whether the case holds.
-fn holds<R: Threads + Wait + Clock + Sync>(
-    rt: &R,
-    alloc: Global,
-    case: &Case,
-) -> Result<bool, SimFault> {
-    let job = job_of(alloc, &case.job)?;
-    Ok(is_so(rt, alloc, &job, case.question)?)
-}
-
 #[test]
 fn runs_in_threads(rt: HostRuntime) {
-    for case in &CASES {
-        check_ok(&rt, holds(&rt, rt.alloc(), case), case.name);
-    }
+    check_gated(&rt, &CASES);
 }

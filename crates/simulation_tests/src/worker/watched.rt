@@ -2,15 +2,15 @@
 
 ghost use Rattle.workers.specs.Stops.{no_stop};
 
-use crate::checks::check_ok;
-use crate::worker::fixtures::{JobText, job_of};
+use crate::worker::fixtures::{Case, JobText, Question, check_cases};
 use block_sim::Job;
 use fault_model::Model;
-use job_loading::{SimFault, Watch, run_watched};
+use job_loading::{Watch, run_watched};
 use std::alloc::Global;
 use std::sync::Wait;
 use std::sync::atomic::{AtomicU64, Ordering};
 use std::thread::Threads;
+use std::time::Clock;
 use worked_circuits::C17_TEXT;
 use workers::Gate;
 
@@ -34,7 +34,7 @@ struct Record {
 
 /// The record of a gate: how many times a run began, with which numbers of classes and blocks, how
 /// many times it ended, and whether workers had passed before that.
-#[derive(Clone, Copy, Debug, PartialEq, Eq)]
+#[derive(Clone, Copy, PartialEq, Eq)]
 struct Told {
     starts: u64,
     classes: u64,
@@ -98,32 +98,36 @@ fn told_of<R: Threads + Wait>(rt: &R, alloc: Global, job: &Job, workers: u32) ->
     record.told()
 }
 
-/// Returns whether the gate of a run records one begin, with 22 classes on 2 blocks, and one end,
-/// after workers have passed. The gate of a run that fails records only the begin.
-fn is_told_of_c17<R: Threads + Wait>(rt: &R, alloc: Global) -> Result<bool, SimFault> {
-    let job = job_of(alloc, &TWO_BLOCKS)?;
-    let done = Told {
-        starts: 1,
-        classes: 22,
-        blocks: 2,
-        ends: 1,
-        passed: true,
-    };
-    let refused = Told {
-        ends: 0,
-        passed: false,
-        ..done
-    };
-    let two = told_of(rt, alloc, &job, 2);
-    let none = told_of(rt, alloc, &job, 0);
-    Ok(two == done && none == refused)
+/// Whether the gate of a run records one begin, with 22 classes on 2 blocks, and one end, after
+/// workers have passed. The gate of a run that fails records only the begin.
+#[derive(Clone, Copy)]
+struct IsTold;
+
+impl Question for IsTold {
+    fn holds<R: Threads + Wait + Clock + Sync>(&self, rt: &R, alloc: Global, job: &Job) -> bool {
+        let done = Told {
+            starts: 1,
+            classes: 22,
+            blocks: 2,
+            ends: 1,
+            passed: true,
+        };
+        let refused = Told {
+            ends: 0,
+            passed: false,
+            ..done
+        };
+        told_of(rt, alloc, job, 2) == done && told_of(rt, alloc, job, 0) == refused
+    }
 }
+
+static CASES: [Case<IsTold>; 1] = [Case {
+    name: "a_gate_is_told_of_the_run",
+    job: TWO_BLOCKS,
+    question: IsTold,
+}];
 
 #[test]
 fn a_gate_is_told_of_the_run(rt: HostRuntime) {
-    check_ok(
-        &rt,
-        is_told_of_c17(&rt, rt.alloc()),
-        "a_gate_is_told_of_the_run",
-    );
+    check_cases(&rt, &CASES);
 }

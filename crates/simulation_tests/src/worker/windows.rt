@@ -1,9 +1,12 @@
 //! Runs on a list of tests window by window.
 
-ghost use Rattle.std.specs.Prelude.{◌<◌};
+ghost use Rattle.std.specs.Prelude.{◌≡◌, ◌<◌, IfOk, length};
+ghost use Rattle.bench_net.specs.Scan.{sources};
+ghost use Rattle.patterns.specs.Tests.{IsTestList};
 
 use crate::checks::check_ok;
 use crate::worker::fixtures::{BUFFER, JobText, has_firsts, job_of, rows_text};
+use block_sim::Job;
 use fault_model::Model;
 use job_loading::{RunJob, SimFault};
 use patterns::{Tests, read_tests};
@@ -11,7 +14,7 @@ use region_runs::{PartVerdict, run_in_windows, run_part_in_windows};
 use std::alloc::Global;
 use std::sync::Wait;
 use std::thread::Threads;
-use workers::OpenGate;
+use workers::{OpenGate, RunFault};
 
 /// A buffer under one test.
 const BEFORE: JobText = JobText {
@@ -26,17 +29,13 @@ static EDGES: &[(&str, u32)] = &[("0", 64), ("1", 64), ("0", 1)];
 /// The first tests of the faults `a str`, `a stf`, `z str` and `z stf`: the rise and the fall.
 static FIRSTS: [Option<u32>; 4] = [Some(64), Some(128), Some(64), Some(128)];
 
-/// Returns whether runs in windows of this number of blocks have these first tests: all classes,
-/// and the one part of one.
-fn is_right_by<R: Threads + Wait>(rt: &R, alloc: Global, blocks: u32) -> Result<bool, SimFault>
-    requires { 0 < blocks }
+/// Returns the tests of the edges, for a job of one input.
+fn edges(alloc: Global, job: &Job) -> Result<Tests, SimFault>
+    ensures list { IfOk result (λ tests. IsTestList tests) }
+    ensures width { IfOk result (λ tests. tests.width ≡ length (sources job.now.circuit)) }
 {
-    let mut job = job_of(alloc, &BEFORE)?;
     let text = rows_text(alloc, EDGES)?;
-    let tests = read_tests(alloc, text.as_slice(), job.circuit().sources())?;
-    let verdicts = run_in_windows(rt, alloc, &mut job, &tests, blocks, 1, 2, &OpenGate)?;
-    let part = run_part_in_windows(rt, alloc, &mut job, &tests, blocks, 0, 1, 2, &OpenGate)?;
-    Ok(has_firsts(&verdicts, &FIRSTS) && are_firsts(part.as_slice()))
+    Ok(read_tests(alloc, text.as_slice(), job.circuit().sources())?)
 }
 
 /// Returns whether the verdicts of a part are these first tests.
@@ -49,16 +48,52 @@ fn are_firsts(verdicts: &[PartVerdict]) -> bool {
     verdicts.len() == FIRSTS.len()
 }
 
-/// Returns whether a job whose tests stand apart runs on these: all classes, and one part of one.
+/// Returns whether runs in windows of this number of blocks have these first tests: all classes,
+/// and the one part of one.
+fn run_so<R: Threads + Wait>(
+    rt: &R,
+    alloc: Global,
+    job: &mut Job,
+    tests: &Tests,
+    blocks: u32,
+) -> Result<bool, RunFault>
+    requires blocks { 0 < blocks }
+    requires list { IsTestList tests.now }
+    requires width { tests.now.width ≡ length (sources job.old.circuit) }
+{
+    let verdicts = run_in_windows(rt, alloc, job, tests, blocks, 1, 2, &OpenGate)?;
+    if !has_firsts(&verdicts, &FIRSTS) {
+        return Ok(false);
+    }
+    let part = run_part_in_windows(rt, alloc, job, tests, blocks, 0, 1, 2, &OpenGate)?;
+    Ok(are_firsts(part.as_slice()))
+}
+
+/// Returns whether a job has these first tests by windows of this number of blocks.
+fn is_right_by<R: Threads + Wait>(rt: &R, alloc: Global, blocks: u32) -> Result<bool, SimFault>
+    requires { 0 < blocks }
+{
+    let mut job = job_of(alloc, &BEFORE)?;
+    let tests = edges(alloc, &job)?;
+    Ok(run_so(rt, alloc, &mut job, &tests, blocks)?)
+}
+
+/// Returns whether a job whose tests stand apart has these first tests: all classes, and one part
+/// of one.
+fn run_apart<R: Threads + Wait>(rt: &R, alloc: Global, run: &mut RunJob) -> Result<bool, RunFault> {
+    let verdicts = run.run(rt, alloc, 1, 2, &OpenGate)?;
+    if !has_firsts(&verdicts, &FIRSTS) {
+        return Ok(false);
+    }
+    let part = run.run_part(rt, alloc, 0, 1, 2, &OpenGate)?;
+    Ok(are_firsts(part.as_slice()) && run.tests().count() == 129)
+}
+
+/// Returns whether a job whose tests stand apart runs on these.
 fn is_right_apart<R: Threads + Wait>(rt: &R, alloc: Global) -> Result<bool, SimFault> {
     let job = job_of(alloc, &BEFORE)?;
-    let text = rows_text(alloc, EDGES)?;
-    let tests: Tests = read_tests(alloc, text.as_slice(), job.circuit().sources())?;
-    let mut run = RunJob::apart(job, tests);
-    let verdicts = run.run(rt, alloc, 1, 2, &OpenGate)?;
-    let part = run.run_part(rt, alloc, 0, 1, 2, &OpenGate)?;
-    let is_right = has_firsts(&verdicts, &FIRSTS) && are_firsts(part.as_slice());
-    Ok(is_right && run.tests().count() == 129)
+    let tests = edges(alloc, &job)?;
+    Ok(run_apart(rt, alloc, &mut RunJob::apart(job, tests))?)
 }
 
 #[test]
