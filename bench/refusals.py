@@ -6,12 +6,12 @@ library's calls.
     bench/refusals.py --quick PROGRAM
 
 It builds refuse.c with gcc and preloads it (LD_PRELOAD) into the program that `rt run` builds and
-the test `once::each_call_that_was_refused_succeeds_again` that `rt test` builds in memory_tests
-(--built: the ones in out/). The first allocation fails, then in the next run the second, and so on,
-until none fails. Each run of the program must end with status 3, `out of memory` or `thread
-refused`, and nothing on standard output (with --format a prefix of the table), or do the same as
-without a failure. Each run of the test must pass, unless it couldn't set up its calls. With --quick it
-runs only PROGRAM, and builds no other; that takes less than a minute.
+the test `memory::calls::each_call_that_was_refused_succeeds_again` that `rt test` builds in
+command_line_tests (--built: the ones in out/). The first allocation fails, then in the next run the
+second, and so on, until none fails. Each run of the program must end with status 3, `out of memory`
+or `thread refused`, and nothing on standard output (with --format a prefix of the table), or do the
+same as without a failure. Each run of the test must pass, unless it couldn't set up its calls. With
+--quick it runs only PROGRAM, and builds no other; that takes less than a minute.
 
 Status: 0 if all runs did so, 1 if one did anything else, 3 if there is no gcc.
 """
@@ -29,7 +29,7 @@ from concurrent.futures import ThreadPoolExecutor
 HERE = pathlib.Path(__file__).resolve().parent
 CRATES = HERE.parent / "crates"
 DATA = CRATES / "faultsim" / "data"
-TEST = "once::each_call_that_was_refused_succeeds_again"
+TEST = "memory::calls::each_call_that_was_refused_succeeds_again"
 REFUSED = (b"faultsim: out of memory\n", b"faultsim: thread refused\n")
 WAYS = ("REFUSE_ALLOCATION", "REFUSE_START")
 # Command lines of the program, in a folder with these files.
@@ -135,9 +135,9 @@ def try_program(program, folder, library):
 
 def try_calls(folder, library, built):
     if not built:
-        how = {"cwd": CRATES / "memory_tests", "stdout": subprocess.DEVNULL}
+        how = {"cwd": CRATES / "command_line_tests", "stdout": subprocess.DEVNULL}
         subprocess.run(["rt", "test"], check=True, **how)
-    words = [str(CRATES / "memory_tests" / "out" / "memory_tests_tests"), TEST]
+    words = [str(CRATES / "command_line_tests" / "out" / "command_line_tests_tests"), TEST]
 
     def judge(came):
         if came[0] == 0:

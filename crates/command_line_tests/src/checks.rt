@@ -6,3 +6,10 @@ use std::process::Abort;
 pub(crate) fn check(rt: &impl Abort, holds: bool, name: &str) {
     assert!(rt; holds, "{name}");
 }
+
+/// Stops the test if the case of this name fails or does not hold.
+///
+/// It lets the error go, so that no test has to.
+pub(crate) fn check_ok<E: Drop>(rt: &impl Abort, holds: Result<bool, E>, name: &str) {
+    assert!(rt; matches!(holds, Ok(true)), "{name}");
+}

@@ -1,46 +1,15 @@
 //! Outputs that fail, or take few bytes a call.
 
 use crate::checks::check;
+use crate::memory::commands::Files;
 use crate::screen::Screen;
-use command_line::{Source, SourceFault, run_words};
+use command_line::run_words;
 use report::{Plain, ReportFault, SimFault, simulate_text};
 use std::alloc::{AllocError, Global};
 use std::io::{self, Write};
 use std::sync::Wait;
 use std::thread::Threads;
 use worked_circuits::C17;
-
-/// C17, a test for it, and part files of two faults.
-#[derive(Clone, Copy)]
-struct Files;
-
-impl Source for Files {
-    fn read(&mut self, alloc: Global, path: &str) -> Result<Vec<u8>, SourceFault> {
-        let text = match path {
-            "bench" => C17,
-            "tests" => b"11111\n".as_slice(),
-            "first" => FIRST,
-            "second" => SECOND,
-            _ => return Err(SourceFault::Unreadable),
-        };
-        Vec::from_slice(alloc, text).map_err(|_| SourceFault::Memory)
-    }
-}
-
-/// The parts of one run.
-const FIRST: &[u8] = b"\
-    part 1 of 2 model stuck rule region bench b tests t\n\
-    stem a sa0 7\n\
-    stem a sa1 -\n\
-    part 1 of 2: 1 of 1\n\
-    ";
-
-const SECOND: &[u8] = b"\
-    part 2 of 2 model stuck rule region bench b tests t\n\
-    stem a sa0 -\n\
-    stem a sa1 none\n\
-    part 2 of 2: 0 of 1\n\
-    ";
 
 /// The output of a run of C17.
 const COVERAGE: &str = "14 of 34 (41.17%)\n";
@@ -111,13 +80,6 @@ fn writes_beginnings<R: AllocGlobal + Threads + Wait>(
     Ok(true)
 }
 
-#[test]
-fn failing_output_has_a_beginning(rt: HostRuntime) {
-    for (line, written) in &WRITTEN {
-        check(&rt, writes_beginnings(&rt, line, written) == Ok(true), line);
-    }
-}
-
 /// Returns whether a command line writes this to outputs that take no byte, one and seven a call.
 fn writes_slowly<R: AllocGlobal + Threads + Wait>(
     rt: &R,
@@ -132,8 +94,9 @@ fn writes_slowly<R: AllocGlobal + Threads + Wait>(
 }
 
 #[test]
-fn output_of_few_bytes_a_call_takes_all(rt: HostRuntime) {
+fn outputs_take_a_beginning_or_all(rt: HostRuntime) {
     for (line, written) in &WRITTEN {
+        check(&rt, writes_beginnings(&rt, line, written) == Ok(true), line);
         check(&rt, writes_slowly(&rt, line, written) == Ok(true), line);
     }
 }

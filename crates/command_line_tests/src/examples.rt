@@ -1,0 +1,4 @@
+//! Worked examples of the library's calls, as tests. docs/LIBRARY.md shows them.
+
+mod compactor;
+mod generator;
