@@ -3,7 +3,7 @@
 use crate::checks::check_ok;
 use bench_net::BenchFault;
 use job_loading::{SimFault, read_inputs_in_threads};
-use patterns::{TestFault, Tests, read_tests_in_threads};
+use patterns::{TestFault, Tests, read_tests_in_pieces, read_tests_in_threads};
 use std::alloc::{AllocError, Global};
 use std::sync::Wait;
 use std::thread::Threads;
@@ -21,6 +21,8 @@ struct Case {
     comment_behind: u32,
     last: &'static str,
     refused: Option<TestFault>,
+    /// Whether it is read piece by piece: if its rows are alike, and have no error.
+    in_pieces: bool,
 }
 
 static CASES: [Case; 5] = [
@@ -30,6 +32,7 @@ static CASES: [Case; 5] = [
         comment_behind: 0,
         last: "",
         refused: None,
+        in_pieces: true,
     },
     Case {
         name: "comment_among_the_rows",
@@ -37,6 +40,7 @@ static CASES: [Case; 5] = [
         comment_behind: 30_001,
         last: "# end",
         refused: None,
+        in_pieces: false,
     },
     Case {
         name: "bad_byte_in_the_last_row",
@@ -44,6 +48,7 @@ static CASES: [Case; 5] = [
         comment_behind: 50_000,
         last: "2",
         refused: Some(TestFault::BadByte(60_002)),
+        in_pieces: false,
     },
     Case {
         name: "wrong_width_in_the_last_row",
@@ -51,6 +56,7 @@ static CASES: [Case; 5] = [
         comment_behind: 0,
         last: "1",
         refused: Some(TestFault::BadWidth(65_537)),
+        in_pieces: false,
     },
     Case {
         name: "row_past_the_limit",
@@ -58,6 +64,7 @@ static CASES: [Case; 5] = [
         comment_behind: 0,
         last: "2",
         refused: Some(TestFault::TooMany),
+        in_pieces: false,
     },
 ];
 
@@ -118,6 +125,38 @@ fn is_read<R: Threads + Wait>(rt: &R, alloc: Global, case: &Case) -> Result<bool
 fn threads_read_long_texts(rt: HostRuntime) {
     for case in &CASES {
         check_ok(&rt, is_read(&rt, rt.alloc(), case), case.name);
+    }
+}
+
+/// The bytes of a piece: of a megabyte and a half, no multiple of a row's.
+const PIECE: usize = 1_500_000;
+
+/// Returns whether a case is read piece by piece as it should be, with rows of at most `most`
+/// digits.
+fn is_read_in_pieces<R: Threads + Wait>(
+    rt: &R,
+    alloc: Global,
+    case: &Case,
+    most: u32,
+) -> Result<bool, AllocError> {
+    let text = text_of(alloc, case)?;
+    let read = read_tests_in_pieces(rt, alloc, text.as_slice(), most, PIECE, WORKERS);
+    Ok(match read {
+        Some(tests) => case.in_pieces && most == WIDTH && have_bits(&tests, case.rows),
+        None => !case.in_pieces || most < WIDTH,
+    })
+}
+
+#[test]
+fn long_texts_are_read_in_pieces(rt: HostRuntime) {
+    for case in &CASES {
+        for most in [WIDTH - 1, WIDTH] {
+            check_ok(
+                &rt,
+                is_read_in_pieces(&rt, rt.alloc(), case, most),
+                case.name,
+            );
+        }
     }
 }
 
