@@ -1,5 +1,5 @@
-//! Cases of runs with gates that borrow the runtime. A method of a trait may not send such a gate to
-//! threads, so their questions don't implement `Question`.
+//! Cases of runs with gates that borrow the runtime. A method of a trait may not send such a gate
+//! to threads, so their questions don't implement `Question`.
 
 use crate::checks::check;
 use crate::worker::fixtures::{Case, job_of};
