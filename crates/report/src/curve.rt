@@ -100,11 +100,12 @@ pub fn curve_text_watched<R: Threads + Wait, G: Watch + Sync, W: Out>(
     let apart = gate.lets_all_pass();
     let (run, parts) = split_run_of(rt, alloc, model, bench, tests, split, apart, workers)?;
     let mut run = run;
-    report_curve(rt, alloc, &mut run, parts, workers, gate, out)
+    write_curve_of_run(rt, alloc, &mut run, parts, workers, gate, out)
 }
 
-/// Runs a job in parts by workers in threads of their own, and writes its curve.
-fn report_curve<R: Threads + Wait, G: Watch + Sync, W: Out>(
+/// Runs a job in a number of parts by workers in threads of their own, and writes its curve, as
+/// [`crate::write_report_of_run`] writes its report.
+pub fn write_curve_of_run<R: Threads + Wait, G: Watch + Sync, W: Out>(
     rt: &R,
     alloc: Global,
     run: &mut RunJob,

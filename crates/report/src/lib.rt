@@ -31,7 +31,9 @@ pub use compacted::{KeptCount, KeptForm, KeptLayout, compact_text_in, compact_te
 pub use compaction::TestOrder;
 pub use contents::{Contents, Lines};
 pub use counts::{RunCounts, count_run};
-pub use curve::{CurvePoint, curve_of, curve_text_in, curve_text_watched, write_curve};
+pub use curve::{
+    CurvePoint, curve_of, curve_text_in, curve_text_watched, write_curve, write_curve_of_run,
+};
 pub use detected::{counts_of, detections_text_in, detections_text_of_any_size, write_detections};
 pub use histogram::{histogram_of, histogram_text_in};
 pub use in_threads::write_report_in_threads;
@@ -55,5 +57,5 @@ pub use text::{
     simulate_text_with,
 };
 pub use undetected::Reason;
-pub use watched::simulate_text_watched;
+pub use watched::{simulate_text_watched, write_report_of_run};
 pub use workers::{Gate, MAX_WORKERS, OpenGate, RunFault, Verdicts};

@@ -50,12 +50,16 @@ pub fn simulate_text_watched<R: Threads + Wait, G: Watch + Sync, W: Out>(
     let apart = gate.lets_all_pass();
     let (run, parts) = split_run_of(rt, alloc, model, bench, tests, split, apart, workers)?;
     let mut run = run;
-    report_run(rt, alloc, &mut run, parts, workers, contents, gate, out)
+    write_report_of_run(rt, alloc, &mut run, parts, workers, contents, gate, out)
 }
 
-/// Runs a job in parts by workers in threads of their own, and writes its report. It calls the gate
-/// when the run begins and when all is settled.
-fn report_run<R: Threads + Wait, G: Watch + Sync, W: Out>(
+/// Runs a job in a number of parts by workers in threads of their own, and writes its report. It
+/// calls the gate when the run begins and when all is settled.
+///
+/// It is the second half of [`simulate_text_watched`], for a job that stands: such as that of a test
+/// file that was read piece by piece ([`job_loading::split_run_in_pieces`]). It fails as
+/// [`job_loading::RunJob::run`] does, or for the output.
+pub fn write_report_of_run<R: Threads + Wait, G: Watch + Sync, W: Out>(
     rt: &R,
     alloc: Global,
     run: &mut RunJob,

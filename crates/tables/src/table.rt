@@ -198,13 +198,14 @@ pub fn run_table_watched<R: Threads + Wait, G: Watch + Sync, W: Out>(
     let apart = gate.lets_all_pass();
     let (run, parts) = split_run_of(rt, alloc, model, bench, tests, split, apart, workers)?;
     let mut run = run;
-    write_run(
+    write_table_of_run(
         rt, alloc, &mut run, parts, workers, lines, format, gate, out,
     )
 }
 
-/// Runs a job in parts by workers in threads of their own, and writes the table of its first tests.
-fn write_run<R: Threads + Wait, G: Watch + Sync, W: Out>(
+/// Runs a job in a number of parts by workers in threads of their own, and writes the table of its
+/// first tests, as `report::write_report_of_run` writes its report.
+pub fn write_table_of_run<R: Threads + Wait, G: Watch + Sync, W: Out>(
     rt: &R,
     alloc: Global,
     run: &mut RunJob,

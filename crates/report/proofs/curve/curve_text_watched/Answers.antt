@@ -19,8 +19,8 @@ pub returns-clause-written : goal.returns-clause-written
 returns-clause-written g c =
     let job = c.in_ok-run.run'.parts in
     written_as (IsCurveOfJob job) (IsCurveOf c.args.model c.args.bench.now c.args.tests.now)
-    c.report_curve.result _ _ (curve_of_texts c.args.model c.args.bench.now c.args.tests.now job
-    c.in_ok-run.ensures.job) c.report_curve.ensures.written
+    c.write_curve_of_run.result _ _ (curve_of_texts c.args.model c.args.bench.now c.args.tests.now job
+    c.in_ok-run.ensures.job) c.write_curve_of_run.ensures.written
 
 pub returns-clause-refused : goal.returns-clause-refused
 returns-clause-refused g c =
@@ -31,20 +31,20 @@ returns-clause-refused g c =
     refused_as (IsJobTextFault c.args.workers (IsPartsFault job parts c.args.workers passing stops))
     (IsWatchedFault c.args.model c.args.bench.now c.args.tests.now c.args.split c.args.workers
     passing stops)
-    c.report_curve.result (split_text_fault c.args.model c.args.bench.now c.args.tests.now
+    c.write_curve_of_run.result (split_text_fault c.args.model c.args.bench.now c.args.tests.now
     c.args.split parts c.args.workers passing stops job c.in_ok-run.ensures.job
     c.in_ok-run.ensures.parts)
-    c.report_curve.ensures.refused
+    c.write_curve_of_run.ensures.refused
 
 pub returns-clause-workers : goal.returns-clause-workers
-returns-clause-workers g c = c.report_curve.ensures.workers
+returns-clause-workers g c = c.write_curve_of_run.ensures.workers
 
 pub returns-clause-within : goal.returns-clause-within
 returns-clause-within g c =
     let job = c.in_ok-run.run'.parts in
     let parts = c.in_ok-run.parts in
     ok_as (ArePartsWithin job parts)
-    (IsWithin c.args.model c.args.bench.now c.args.tests.now c.args.split) c.report_curve.result
+    (IsWithin c.args.model c.args.bench.now c.args.tests.now c.args.split) c.write_curve_of_run.result
     (split_within c.args.model c.args.bench.now c.args.tests.now c.args.split parts c.args.workers
     job c.in_ok-run.ensures.job c.in_ok-run.ensures.parts)
-    c.report_curve.ensures.within
+    c.write_curve_of_run.ensures.within

@@ -4,7 +4,7 @@ use Rattle.fault_model.specs.Fault.{FaultList}
 use Rattle.job_loading.specs.RunJobs.{RunParts}
 use Rattle.report.specs.Curve.{curve, curve_text}
 use Rattle.report.proofs.VerdictsOfRuns.{verdicts_counted}
-use Rattle.report.proofs.curve.report_curve.Goals as goal
+use Rattle.report.proofs.curve.write_curve_of_run.Goals as goal
 
 pub returns-in_err-write_curve-clause-written : goal.returns-in_err-write_curve-clause-written
 returns-in_err-write_curve-clause-written g c =

@@ -16,8 +16,8 @@ returns-in_err-run-clause-refused g c =
 pub returns-clause-written : goal.returns-clause-written
 returns-clause-written g c =
     written_of_texts c.args.model c.args.bench.now c.args.tests.now c.args.contents
-    c.in_ok-run.run'.parts c.report_run.result _ _ c.in_ok-run.ensures.job
-    c.report_run.ensures.written
+    c.in_ok-run.run'.parts c.write_report_of_run.result _ _ c.in_ok-run.ensures.job
+    c.write_report_of_run.ensures.written
 
 pub returns-clause-refused : goal.returns-clause-refused
 returns-clause-refused g c =
@@ -29,16 +29,16 @@ returns-clause-refused g c =
     (IsPartsFault job parts c.args.workers passing stops))
     (IsWatchedFault c.args.model c.args.bench.now c.args.tests.now c.args.split c.args.workers
     passing stops)
-    c.report_run.result (split_fault c.args.model c.args.bench.now c.args.tests.now c.args.split
+    c.write_report_of_run.result (split_fault c.args.model c.args.bench.now c.args.tests.now c.args.split
     parts c.args.workers passing stops job c.in_ok-run.ensures.job c.in_ok-run.ensures.parts)
-    c.report_run.ensures.refused
+    c.write_report_of_run.ensures.refused
 
 pub returns-clause-within : goal.returns-clause-within
 returns-clause-within g c =
     let job = c.in_ok-run.run'.parts in
     let parts = c.in_ok-run.parts in
     ok_as (ArePartsWithin job parts)
-    (IsWithin c.args.model c.args.bench.now c.args.tests.now c.args.split) c.report_run.result
+    (IsWithin c.args.model c.args.bench.now c.args.tests.now c.args.split) c.write_report_of_run.result
     (split_within c.args.model c.args.bench.now c.args.tests.now c.args.split parts c.args.workers
     job c.in_ok-run.ensures.job c.in_ok-run.ensures.parts)
-    c.report_run.ensures.within
+    c.write_report_of_run.ensures.within

@@ -4,7 +4,7 @@ use Rattle.fault_model.specs.Fault.{FaultList}
 use Rattle.byte_output.specs.Output.{TakesAll, TakesFront}
 use Rattle.job_loading.specs.RunJobs.{RunParts}
 use Rattle.report.proofs.VerdictsOfRuns.{taken_of_job, verdicts_counted}
-use Rattle.report.proofs.watched.report_run.Goals as goal
+use Rattle.report.proofs.watched.write_report_of_run.Goals as goal
 
 pub write_report_in_threads-requires : goal.write_report_in_threads-requires
 write_report_in_threads-requires g c =

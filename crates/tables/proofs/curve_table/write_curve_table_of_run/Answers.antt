@@ -7,7 +7,7 @@ use Rattle.report.specs.Curve.{curve}
 use Rattle.workers.specs.Verdict.{detected_count}
 use Rattle.tables.specs.CurveTables.{curve_table}
 use Rattle.tables.proofs.CurvePieces.{firsts_counted}
-use Rattle.tables.proofs.curve_table.write_run.Goals as goal
+use Rattle.tables.proofs.curve_table.write_curve_table_of_run.Goals as goal
 
 pub prove-unreachable-requires : goal.prove-unreachable-requires
 prove-unreachable-requires g c =

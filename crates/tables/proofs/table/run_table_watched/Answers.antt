@@ -23,27 +23,27 @@ returns-clause-refused g c =
     refused_as (IsJobTextFault c.args.workers (IsPartsFault job parts c.args.workers passing stops))
     (IsWatchedFault c.args.model c.args.bench.now c.args.tests.now c.args.split c.args.workers
     passing stops)
-    c.write_run.result (split_text_fault c.args.model c.args.bench.now c.args.tests.now
+    c.write_table_of_run.result (split_text_fault c.args.model c.args.bench.now c.args.tests.now
     c.args.split parts c.args.workers passing stops job c.in_ok-run.ensures.job
     c.in_ok-run.ensures.parts)
-    c.write_run.ensures.refused
+    c.write_table_of_run.ensures.refused
 
 pub returns-clause-written : goal.returns-clause-written
 returns-clause-written g c =
     let job = c.in_ok-run.run'.parts in
     written_as (IsFirstTableOfJob job c.args.lines c.args.format)
     (IsFirstTableOf c.args.model c.args.bench.now c.args.tests.now c.args.lines c.args.format)
-    c.write_run.result _ _
+    c.write_table_of_run.result _ _
     (firsts_of_texts c.args.model c.args.bench.now c.args.tests.now job c.args.lines
     c.args.format c.in_ok-run.ensures.job)
-    c.write_run.ensures.written
+    c.write_table_of_run.ensures.written
 
 pub returns-clause-within : goal.returns-clause-within
 returns-clause-within g c =
     let job = c.in_ok-run.run'.parts in
     let parts = c.in_ok-run.parts in
     ok_as (ArePartsWithin job parts)
-    (IsWithin c.args.model c.args.bench.now c.args.tests.now c.args.split) c.write_run.result
+    (IsWithin c.args.model c.args.bench.now c.args.tests.now c.args.split) c.write_table_of_run.result
     (split_within c.args.model c.args.bench.now c.args.tests.now c.args.split parts c.args.workers
     job c.in_ok-run.ensures.job c.in_ok-run.ensures.parts)
-    c.write_run.ensures.within
+    c.write_table_of_run.ensures.within

@@ -2,7 +2,7 @@ use Rattle.std.proofs.Common.{ap}
 use Rattle.fault_model.specs.Fault.{FaultList}
 use Rattle.tables.specs.Tables.{IsFirstTableOfJob, IsTable, first_column}
 use Rattle.tables.proofs.TablesOfTexts.{firsts_table, written_as}
-use Rattle.tables.proofs.table.write_run.Goals as goal
+use Rattle.tables.proofs.table.write_table_of_run.Goals as goal
 
 pub write_table-requires-clause-list : goal.write_table-requires-clause-list
 write_table-requires-clause-list g c =
