@@ -1,7 +1,7 @@
 //! The files that the programs read and write.
 
 use std::alloc::Global;
-use std::io::ErrorKind;
+use std::io::{ErrorKind, Read};
 use std::os::unix::fs::{FileTypeExt, MetadataExt};
 use std::{fs, rt};
 
@@ -27,8 +27,15 @@ pub struct Stream {
 
 /// The system as the programs see it: the bytes at a path, files that they write, and a clock.
 pub trait Source {
+    /// A file that is read from its first byte on.
+    type File: Read + Send + Drop;
+
     /// Returns the bytes at a path.
     fn read(&mut self, alloc: Global, path: &str) -> Result<Vec<u8>, SourceFault>;
+
+    /// Opens a file, and returns it with its length in bytes. Returns `None` if there is no such
+    /// file, or it can be read only once, as a pipe.
+    fn open(&self, path: &str) -> Option<(Self::File, u64)>;
 
     /// Returns the stream at a path, if it can be read only once and has a device and a number.
     fn stream(&self, _path: &str) -> Option<Stream> {
@@ -69,12 +76,26 @@ impl<'a, R: rt::Files + rt::Clock + AllocGlobal> Files<'a, R> {
     }
 }
 
-impl<R: rt::Files + rt::Clock + AllocGlobal> Source for Files<'_, R> {
+impl<R: rt::Files + rt::Clock + AllocGlobal> Source for Files<'_, R>
+where
+    R::File: Send,
+{
+    type File = R::File;
+
     fn read(&mut self, _alloc: Global, path: &str) -> Result<Vec<u8>, SourceFault> {
         fs::read(self.rt, system_path(path)).map_err(|error| match error.kind() {
             ErrorKind::OutOfMemory => SourceFault::Memory,
             _ => SourceFault::Unreadable,
         })
+    }
+
+    fn open(&self, path: &str) -> Option<(R::File, u64)> {
+        let found = fs::metadata(self.rt, path).ok()?;
+        if !found.is_file() {
+            return None;
+        }
+        let file = fs::File::open(self.rt, path).ok()?;
+        Some((file, found.len()))
     }
 
     /// Returns the device and the inode of a pipe or a socket.

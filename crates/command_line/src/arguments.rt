@@ -20,6 +20,8 @@ pub fn run_arguments<
     W: Write + Drop,
     E: Out + Send,
 >(rt: &R, out: W, err: &mut E) -> u8
+where
+    R::File: Send,
     ensures { result ≤ 4 }
 {
     match read_arguments(rt) {
@@ -48,6 +50,8 @@ fn run_on_files<R: HasFiles + Clock + AllocGlobal + Threads + Wait, W: Write + D
     out: W,
     err: &mut E,
 ) -> u8
+where
+    R::File: Send,
     ensures { result ≤ 4 }
 {
     match words_of(rt.alloc(), arguments) {
@@ -68,6 +72,8 @@ fn run_with_buffer<
     W: Write + Drop,
     E: Out + Send,
 >(rt: &R, words: &'a [&'a str], out: W, err: &mut E) -> u8
+where
+    R::File: Send,
     ensures { result ≤ 4 }
 {
     let Ok(buffered) = BufWriter::new(rt.alloc(), out) else {

@@ -4,6 +4,7 @@ ghost use Rattle.command_line.specs.Form.{HasParts};
 
 use crate::command::{read_model, read_option};
 use crate::crew::read_crew;
+use crate::long_tests::write_of_long_tests;
 use crate::pieces::run_fault;
 use crate::progress::Progress;
 use crate::status::CommandError;
@@ -95,6 +96,12 @@ pub(crate) fn write_form<'a, R: Threads + Wait, S: Source, W: Out, E: Out + Send
     let threshold = read_threshold(matches)?;
     let summary = read_request(matches, files)?;
     let bench = read_option(alloc, matches, "bench", files)?;
+    if summary.is_none() {
+        let found = write_of_long_tests(rt, alloc, matches, form, &bench, files, out, err)?;
+        if let Some(found) = found {
+            return check_found(threshold, found);
+        }
+    }
     let tests = read_option(alloc, matches, "tests", files)?;
     let workers = read_crew(matches, &bench, &tests)?;
     let inputs = Inputs {
@@ -116,6 +123,14 @@ pub(crate) fn write_form<'a, R: Threads + Wait, S: Source, W: Out, E: Out + Send
     }
 }
 
+/// Compares the coverage of a run with the threshold, if the run has results.
+fn check_found<'a>(threshold: Option<Threshold<'a>>, found: Found) -> Result<(), CommandError<'a>> {
+    match found.counts {
+        Some(counts) => check_threshold(threshold, counts.detected, counts.faults),
+        None => Ok(()),
+    }
+}
+
 /// Ends a run whose text is written, with its results. It writes the summary, if one is requested,
 /// and compares the coverage with the threshold. A run of one part has neither.
 fn end_run<'a, S: Source>(
@@ -132,7 +147,7 @@ fn end_run<'a, S: Source>(
     if let Some(request) = summary {
         write_summary(alloc, request, inputs, counts, found.reasons, files)?;
     }
-    check_threshold(threshold, counts.detected, counts.faults)
+    check_found(threshold, found)
 }
 
 /// Writes the summary of a run.

@@ -14,6 +14,7 @@ mod curve;
 mod detected;
 mod form;
 mod format;
+mod long_tests;
 mod merge;
 mod options;
 mod pieces;

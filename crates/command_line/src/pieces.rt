@@ -7,6 +7,14 @@ use input_check::{Answer, check_texts};
 use report::{RunFault, SimFault};
 use std::alloc::Global;
 
+/// Returns whether an error of a run is that of its number of pieces.
+pub(crate) fn is_excess(fault: &SimFault) -> bool {
+    matches!(
+        fault,
+        SimFault::Job(JobFault::TooManyPieces) | SimFault::Run(RunFault::TooManyPieces)
+    )
+}
+
 /// Returns the error of a run of all classes of two files. An error of the limit of pieces also has
 /// the excess, and the number of parts in which the run fits.
 pub(crate) fn run_fault<'a>(

@@ -161,7 +161,10 @@ static CASES: [Case; 3] = [
 ];
 
 /// Returns whether a process ends as a case wants.
-fn ends_right<R: AllocGlobal + Files + Threads + Wait>(rt: &R, case: &Case) -> bool {
+fn ends_right<R: AllocGlobal + Files + Threads + Wait>(rt: &R, case: &Case) -> bool
+where
+    R::File: Send,
+{
     let process = Process {
         rt,
         line: case.line,

@@ -19,6 +19,8 @@ pub fn run_arguments<R: Env + HasFiles + Clock + AllocGlobal + Threads + Wait, W
     out: &mut W,
     err: &mut E,
 ) -> u8
+where
+    R::File: Send,
     ensures { result ≤ 3 }
 {
     match read_arguments(rt) {
@@ -47,6 +49,8 @@ fn run_on_files<R: HasFiles + Clock + AllocGlobal + Threads + Wait, W: Out, E: O
     out: &mut W,
     err: &mut E,
 ) -> u8
+where
+    R::File: Send,
     ensures { result ≤ 3 }
 {
     match words_of(rt.alloc(), arguments) {

@@ -17,6 +17,12 @@ const MAX_BLOCKS: u32 = MAX_TESTS / BLOCK_SIZE;
 /// The number of workers of `run` by default.
 const USUAL_WORKERS: u64 = 4;
 
+/// The least number of bytes of a test file that a run reads piece by piece.
+const LONG_TEXT: u64 = 1 << 22;
+
+/// The bytes of such a piece.
+const PIECE: u64 = 1 << 23;
+
 /// The kinds of gates and their names, in the order of [`Counts::gates`].
 static KINDS: [(Kind, &str); 8] = [
     (Kind::And, "AND"),
@@ -124,14 +130,20 @@ impl Counts {
         self.classes.div_ceil(classes_of_part).max(1)
     }
 
+    /// Returns the bytes of a test file with this number of tests.
+    fn text(&self, tests: u32) -> u64 {
+        let sources = self.inputs.saturating_add(self.cells) as u64;
+        sources.saturating_add(1).saturating_mul(u64::from(tests))
+    }
+
     /// Estimates the bytes of a run of this number of tests, by the figures of the README. The run
-    /// has the fault-free words of this number of groups of two blocks at a time.
-    fn memory(&self, tests: u32, groups: u32, workers: u64) -> u64 {
+    /// has these bytes of the test file, and the fault-free words of this number of groups of two
+    /// blocks at a time.
+    fn memory(&self, tests: u32, text: u64, groups: u32, workers: u64) -> u64 {
         let signals = u64::from(self.signals);
         let classes = u64::from(self.classes);
         let sources = self.inputs.saturating_add(self.cells) as u64;
         let blocks = u64::from(tests.div_ceil(BLOCK_SIZE));
-        let text = sources.saturating_add(1).saturating_mul(u64::from(tests));
         let words = signals
             .saturating_mul(16)
             .saturating_mul(u64::from(groups))
@@ -153,14 +165,17 @@ impl Counts {
 
     /// Estimates the bytes of a run that has the words of all tests.
     fn memory_with_all_words(&self, tests: u32, workers: u64) -> u64 {
-        self.memory(tests, groups_of(tests), workers)
+        self.memory(tests, self.text(tests), groups_of(tests), workers)
     }
 
-    /// Estimates the bytes of a run that goes window by window.
+    /// Estimates the bytes of a run that goes window by window, and reads a long test file piece by
+    /// piece.
     fn memory_in_windows(&self, tests: u32, workers: u64) -> u64 {
         // The blocks by which a window goes on, and the block before.
         let window = window_blocks(self.signals) / 2 + 1;
-        self.memory(tests, window.min(groups_of(tests)), workers)
+        let whole = self.text(tests);
+        let text = if whole < LONG_TEXT { whole } else { PIECE };
+        self.memory(tests, text, window.min(groups_of(tests)), workers)
     }
 }
 

@@ -11,21 +11,31 @@ use std::sync::Wait;
 use std::thread::Threads;
 use worked_circuits::C17;
 
+/// A test file for C17, with one test.
+const TEST: &[u8] = b"11111\n";
+
 /// The files `bench`, which is C17, `tests`, which has one test, and the part files `first` and
-/// `second`, each read into new memory.
+/// `second`, each read into new memory. `long` has the same test, says that it has 4 MB, and can only
+/// be read piece by piece.
 #[derive(Clone, Copy)]
 pub(crate) struct Files;
 
 impl Source for Files {
+    type File = &'static [u8];
+
     fn read(&mut self, alloc: Global, path: &str) -> Result<Vec<u8>, SourceFault> {
         let text = match path {
             "bench" => C17,
-            "tests" => b"11111\n".as_slice(),
+            "tests" => TEST,
             "first" => FIRST,
             "second" => SECOND,
             _ => return Err(SourceFault::Unreadable),
         };
         Vec::from_slice(alloc, text).map_err(|_| SourceFault::Memory)
+    }
+
+    fn open(&self, path: &str) -> Option<(&'static [u8], u64)> {
+        (path == "long").then_some((TEST, 1 << 22))
     }
 }
 
