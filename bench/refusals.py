@@ -38,6 +38,8 @@ FILES = ("bench", "tests", "order", "first", "second")
 CHAIN, MANY = 1024, 16384
 # A gate with so many pins: threads put the lines of its list together.
 PINS = 9000
+# So many inputs, which are outputs, and tests that make a file of 9 MB, which is read piece by piece.
+INPUTS, ROWS = 8000, 1100
 TEXTS = "--bench bench --tests tests"
 COMMANDS = (
     "faults --bench bench",
@@ -53,6 +55,7 @@ COMMANDS = (
     f"run {TEXTS} --part 1/2 --workers 2",
     "run --bench chain --tests many --list --workers 3",
     "run --bench wide --tests bits --list --workers 3",
+    "run --bench inputs --tests long --workers 4",
     "merge first second --list",
     f"schedule {TEXTS} --list --workers 2 --order order",
     f"curve {TEXTS} --workers 2",
@@ -109,8 +112,8 @@ def sweep_program(program, library, folder, command):
 
 
 def put_files(program, folder):
-    """C17, a test for it, an order, the texts of both parts of a run; a chain and a wide gate, with their
-    tests."""
+    """C17, a test for it, an order, the texts of both parts of a run; a chain, a wide gate and
+    inputs, with their tests."""
     bench, tests, order, first, second = (folder / name for name in FILES)
     bench.write_bytes((DATA / "c17.bench").read_bytes())
     tests.write_bytes((DATA / "one.tests").read_bytes())
@@ -120,6 +123,9 @@ def put_files(program, folder):
     (folder / "many").write_text("0\n" * (MANY - 1) + "1\n")
     (folder / "wide").write_text(f"INPUT(a)\nOUTPUT(z)\nz = AND({', '.join('a' * PINS)})\n")
     (folder / "bits").write_text("0\n1\n")
+    lines = (f"INPUT(i{at})\nOUTPUT(i{at})\n" for at in range(INPUTS))
+    (folder / "inputs").write_text("".join(lines))
+    (folder / "long").write_text(f"{'0' * INPUTS}\n" * (ROWS - 1) + f"{'1' * INPUTS}\n")
     for part, path in ((1, first), (2, second)):
         words = [program, "run", *TEXTS.split(), "--part", f"{part}/2"]
         path.write_bytes(run_with(words, folder)[1])
