@@ -38,7 +38,7 @@ FILES = ("bench", "tests", "order", "first", "second")
 CHAIN, MANY = 1024, 16384
 # A gate with so many pins: threads put the lines of its list together.
 PINS = 9000
-# So many inputs, which are outputs, and tests that make a file of 9 MB, which is read piece by piece.
+# A number of inputs, which are outputs, and of tests: their file has 9 MB, and is read piece by piece.
 INPUTS, ROWS = 8000, 1100
 TEXTS = "--bench bench --tests tests"
 COMMANDS = (
