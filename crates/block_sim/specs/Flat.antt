@@ -1,6 +1,7 @@
 -- A circuit in flat lists: a row for each signal, with ranges of the lists of all pins and of all
 -- readers.
-use Rattle.std.specs.Prelude.{◌≡◌, ◌↔◌, ◌++◌, ℕ, ◌-◌, ◌<◌, ◌≤◌, All, Bool, false, List, Contains}
+use Rattle.std.specs.Prelude.{◌≡◌, ◌↔◌, ◌++◌, ℕ, ◌+◌, ◌-◌, ◌<◌, ◌≤◌, All, Bool, false, List}
+use Rattle.std.specs.Prelude.{Contains}
 use Rattle.std.specs.Prelude.{IfSome}
 use Rattle.std.specs.Prelude.{IsTrue, Option, Some, length, slice_get, slice_index_or}
 use Rattle.std.specs.Prelude.{slice_range}
@@ -10,6 +11,7 @@ use Rattle.bench_net.specs.Scan.{names, gate_of}
 use Rattle.bench_net.specs.Circuit.{IsCircuit}
 use Rattle.fault_model.specs.Reordered.{in_order}
 use Rattle.block_sim.specs.declared.flat.Driver.{Driver}
+use Rattle.block_sim.specs.declared.flat.Lists.{Lists}
 use Rattle.block_sim.specs.declared.flat.SignalRow.{SignalRow}
 use Rattle.block_sim.specs.declared.flat.Standing.{Standing}
 use Rattle.block_sim.specs.Events.{Reads, IsObserved, IsLive}
@@ -65,12 +67,47 @@ IsDriver c s before after driver =
     × (option_map (λ (d : Driver). (d.kind, more)) driver ≡ gate_of c s)
     × IfSome driver (λ d. IsFormOf d.kind d.form)
 
--- the rows of the first signals
+-- the rows of signals from one on
+abbrev pub AreRowsAt : List Statement → ℕ → List ℕ → List ℕ → List SignalRow → Type 0
+AreRowsAt c from pins readers rows = (i : ℕ) (row : SignalRow) → slice_get rows i ≡ Some row
+    → IsRow c pins readers (from + i) row
+
+-- the positions of signals from one on
+abbrev pub AreStandingsAt : List Statement → ℕ → List Standing → Type 0
+AreStandingsAt c from standings = (i : ℕ) (standing : Standing)
+    → slice_get standings i ≡ Some standing → IsStanding c (from + i) standing
+
+-- the lists of the signals from one up to another, which is not included: a row and a position for
+-- each
+pub record AreListsOf (c : List Statement) (from end : ℕ) (lists : Lists) : Type 0 where
+  pub count : from + length lists.rows.items ≡ end
+  pub numbered : AreRowsAt c from lists.pins.items lists.readers.items lists.rows.items
+  pub stand : from + length lists.standings.items ≡ end
+  pub standing : AreStandingsAt c from lists.standings.items
+
+-- a row with its pins and readers after this number of others
+pub record IsMoved (pins readers : ℕ) (row moved : SignalRow) : Type 0 where
+  pub driver : moved.driver ≡ row.driver
+  pub observed : moved.observed ≡ row.observed
+  pub first : moved.first ≡ row.first
+  pub last : moved.last ≡ row.last
+  pub pins_start : moved.pins_start ≡ pins + row.pins_start
+  pub pins_end : moved.pins_end ≡ pins + row.pins_end
+  pub readers_start : moved.readers_start ≡ readers + row.readers_start
+  pub readers_end : moved.readers_end ≡ readers + row.readers_end
+
+-- each row of a list so moved
+pub record AreMoved (pins readers : ℕ) (rows moved : List SignalRow) : Type 0 where
+  pub count : length moved ≡ length rows
+  pub each : (i : ℕ) (row : SignalRow) → slice_get moved i ≡ Some row
+      → (before : SignalRow) × (slice_get rows i ≡ Some before) × IsMoved pins readers before row
+
+-- the rows of all signals
 abbrev pub AreRows : List Statement → List ℕ → List ℕ → List SignalRow → Type 0
 AreRows c pins readers rows = (s : ℕ) (row : SignalRow) → slice_get rows s ≡ Some row
     → IsRow c pins readers s row
 
--- the positions of the first signals
+-- the positions of all signals
 abbrev pub AreStandings : List Statement → List Standing → Type 0
 AreStandings c standings = (s : ℕ) (standing : Standing) → slice_get standings s ≡ Some standing
     → IsStanding c s standing

@@ -6,7 +6,7 @@ ghost use Rattle.std.specs.Prelude.{IfNone, IsTrue, OnOk, Some, length, map, sli
 ghost use Rattle.std.specs.Prelude.{slice_index_or};
 ghost use Rattle.std.specs.Option.{option_map};
 ghost use Rattle.bench_net.specs.declared.Kind.{Kind};
-ghost use Rattle.bench_net.specs.Statement.{Name};
+ghost use Rattle.bench_net.specs.Statement.{Name, Statement};
 ghost use Rattle.bench_net.specs.Scan.{names, name_of, gate_of, sources};
 ghost use Rattle.bench_net.specs.Circuit.{IsCircuit};
 ghost use Rattle.bench_net.specs.Level.{HasLevel};
@@ -14,8 +14,8 @@ ghost use Rattle.fault_model.specs.Detection.{name_on};
 ghost use Rattle.fault_model.specs.Known.{only_gate};
 ghost use Rattle.fault_model.specs.Reordered.{in_order, moved_line, place};
 ghost use Rattle.block_sim.specs.Events.{IsLive, IsObserved, IsRising};
-ghost use Rattle.block_sim.specs.Flat.{ArePlaced, AreReaders, HasMore, IsDriver, IsFlat, IsRow};
-ghost use Rattle.block_sim.specs.Flat.{AreLive, HasEnds, IsStanding};
+ghost use Rattle.block_sim.specs.Flat.{AreListsOf, ArePlaced, AreReaders, HasMore, IsDriver};
+ghost use Rattle.block_sim.specs.Flat.{AreLive, AreMoved, HasEnds, IsMoved, IsRow, IsStanding};
 ghost use Rattle.block_sim.specs.JobParts.{AreFlatRows};
 ghost use Rattle.block_sim.specs.GateForms.{IsFormOf};
 ghost use Rattle.block_sim.specs.Arranged.{ArePlaces, IsArranged, IsFlowOrder};
@@ -77,6 +77,23 @@ struct SignalRow {
     pins_end: u32,
     readers_start: u32,
     readers_end: u32,
+}
+
+impl SignalRow {
+    /// Returns the row with its pins and readers after this number of others. It fails for no
+    /// circuit, because none has that many pins.
+    fn after(&self, pins: u32, readers: u32) -> Result<SignalRow, AllocError>
+        ensures { IfOk result (IsMoved pins readers self.now) }
+    {
+        let moved = |place: u32, by: u32| place.checked_add(by).ok_or(AllocError);
+        Ok(SignalRow {
+            pins_start: moved(self.pins_start, pins)?,
+            pins_end: moved(self.pins_end, pins)?,
+            readers_start: moved(self.readers_start, readers)?,
+            readers_end: moved(self.readers_end, readers)?,
+            ..*self
+        })
+    }
 }
 
 /// The position of a signal in the circuit, which is read once for each class.
@@ -145,11 +162,18 @@ pub fn flat_rows(alloc: Global, circuit: &Circuit) -> Result<FlatRows, AllocErro
     let _signals = circuit.signals();
     let order = flow_order(alloc, circuit)?;
     let live = live_signals(alloc, circuit)?;
-    rows_with(alloc, circuit, order, live)
+    let places = places_of(alloc, circuit, order.as_slice())?;
+    let lists = lists_between(alloc, circuit, &order, &places, &live, 0, order.len())?;
+    Ok(FlatRows {
+        order,
+        places,
+        lists,
+    })
 }
 
-/// Makes the rows of a circuit as [`flat_rows`] does. If there is a second worker, it finds out
-/// which signals are live at the same time as the order of the signals.
+/// Makes the rows of a circuit as [`flat_rows`] does, in threads if there are two workers or more.
+/// One finds out which signals are live at the same time as the order of the signals, and then each
+/// of up to three makes the lists of adjacent places.
 pub fn flat_rows_in_threads<R: Threads + Wait>(
     rt: &R,
     alloc: Global,
@@ -167,15 +191,17 @@ pub fn flat_rows_in_threads<R: Threads + Wait>(
         move || flow_order(alloc, circuit),
         move || live_signals(alloc, circuit),
     );
-    rows_with(alloc, circuit, order?, live?)
+    rows_in_threads(rt, alloc, circuit, order?, live?, workers)
 }
 
-/// Makes the rows of a circuit in an order of its signals.
-fn rows_with(
+/// Makes the rows of a circuit in an order of its signals, in two threads or three.
+fn rows_in_threads<R: Threads + Wait>(
+    rt: &R,
     alloc: Global,
     circuit: &Circuit,
     order: Vec<u32>,
     live: Vec<bool>,
+    workers: u32,
 ) -> Result<FlatRows, AllocError>
     requires order { IsFlowOrder circuit.now order.items }
     requires room { length live.items ≡ length (names circuit.now) }
@@ -184,15 +210,7 @@ fn rows_with(
 {
     let _signals = circuit.signals();
     let places = places_of(alloc, circuit, order.as_slice())?;
-    let lists = lists_of(
-        alloc,
-        Placed {
-            circuit,
-            order: order.as_slice(),
-            places: places.as_slice(),
-            live: live.as_slice(),
-        },
-    )?;
+    let lists = lists_in_threads(rt, alloc, circuit, &order, &places, &live, workers)?;
     Ok(FlatRows {
         order,
         places,
@@ -400,20 +418,85 @@ struct Placed<'a> {
     live: &'a [bool],
 }
 
-/// Returns the lists of a circuit in the order of its signals.
-fn lists_of(alloc: Global, placed: Placed<'_>) -> Result<Lists, AllocError>
-    requires { ArePlaced placed.circuit.now placed.order.now placed.places.now placed.live.now }
-    ensures { IfOk result (λ lists.
-        IsFlat (in_order placed.entry.circuit.now placed.entry.order.now) lists.pins.items
-        lists.readers.items lists.rows.items lists.standings.items) }
+/// Returns the lists of a circuit in the order of its signals, made by two threads, or by three if
+/// there are as many workers.
+fn lists_in_threads<R: Threads + Wait>(
+    rt: &R,
+    alloc: Global,
+    circuit: &Circuit,
+    order: &[u32],
+    places: &[u32],
+    live: &[bool],
+    workers: u32,
+) -> Result<Lists, AllocError>
+    requires { ArePlaced circuit.now order.now places.now live.now }
+    ensures { IfOk result (AreListsOf (in_order circuit.entry.now order.entry.now)
+        0 (length order.entry.now)) }
 {
-    let signals = placed.circuit.signals();
-    let order = placed.order;
-    let mut rows = Vec::with_capacity(alloc, signals as usize)?;
-    let mut standings = Vec::with_capacity(alloc, signals as usize)?;
+    let end = order.len();
+    let first_end = if workers < 3 { 0 } else { end / 3 };
+    let (first, rest) = thread::join(
+        rt,
+        move || lists_between(alloc, circuit, order, places, live, 0, first_end),
+        move || lists_in_halves(rt, alloc, circuit, order, places, live, first_end, end),
+    );
+    join_lists(first?, rest?)
+}
+
+/// Returns the lists of the signals at the places from one up to another, which is not included,
+/// made by two threads.
+fn lists_in_halves<R: Threads + Wait>(
+    rt: &R,
+    alloc: Global,
+    circuit: &Circuit,
+    order: &[u32],
+    places: &[u32],
+    live: &[bool],
+    from: usize,
+    end: usize,
+) -> Result<Lists, AllocError>
+    requires placed { ArePlaced circuit.now order.now places.now live.now }
+    requires order { from ≤ end }
+    requires end { end ≤ length order.now }
+    ensures { IfOk result (AreListsOf (in_order circuit.entry.now order.entry.now) from end) }
+{
+    let middle = from + (end - from) / 2;
+    let (first, rest) = thread::join(
+        rt,
+        move || lists_between(alloc, circuit, order, places, live, from, middle),
+        move || lists_between(alloc, circuit, order, places, live, middle, end),
+    );
+    join_lists(first?, rest?)
+}
+
+/// Returns the lists of the signals at the places from one up to another, which is not included. A
+/// circuit has an order of its signals, the place of each, and whether it is live.
+fn lists_between(
+    alloc: Global,
+    circuit: &Circuit,
+    order: &[u32],
+    places: &[u32],
+    live: &[bool],
+    from: usize,
+    end: usize,
+) -> Result<Lists, AllocError>
+    requires placed { ArePlaced circuit.now order.now places.now live.now }
+    requires order { from ≤ end }
+    requires end { end ≤ length order.now }
+    ensures { IfOk result (AreListsOf (in_order circuit.entry.now order.entry.now) from end) }
+{
+    let _signals = circuit.signals();
+    let placed = Placed {
+        circuit,
+        order,
+        places,
+        live,
+    };
+    let mut rows = Vec::with_capacity(alloc, end - from)?;
+    let mut standings = Vec::with_capacity(alloc, end - from)?;
     let mut pins = Vec::new(alloc);
     let mut readers = Vec::new(alloc);
-    for place in 0..order.len() {
+    for place in from..end {
         let signal = order[place];
         let row = add_row(placed, signal, &mut pins, &mut readers)?;
         rows.push(row)?;
@@ -425,6 +508,54 @@ fn lists_of(alloc: Global, placed: Placed<'_>) -> Result<Lists, AllocError>
         pins,
         readers,
     })
+}
+
+/// Joins the lists of some signals with those of the signals at the next places.
+fn join_lists(first: Lists, rest: Lists) -> Result<Lists, AllocError>
+    ensures { (c : List Statement) (from middle end : ℕ) → AreListsOf c from middle first
+        → AreListsOf c middle end rest → IfOk result (AreListsOf c from end) }
+{
+    let Lists {
+        mut rows,
+        mut standings,
+        mut pins,
+        mut readers,
+    } = first;
+    let Lists {
+        rows: next_rows,
+        standings: mut next_standings,
+        pins: mut next_pins,
+        readers: mut next_readers,
+    } = rest;
+    push_moved(&mut rows, next_rows.as_slice(), pins.len(), readers.len())?;
+    standings.append(&mut next_standings)?;
+    pins.append(&mut next_pins)?;
+    readers.append(&mut next_readers)?;
+    Ok(Lists {
+        rows,
+        standings,
+        pins,
+        readers,
+    })
+}
+
+/// Adds rows whose pins and readers stand after this number of others at the end of a list.
+fn push_moved(
+    rows: &mut Vec<SignalRow>,
+    next: &[SignalRow],
+    pins: usize,
+    readers: usize,
+) -> Result<(), AllocError>
+    ensures { OnOk result ((moved : List SignalRow) × AreMoved pins readers next.now moved
+        × (rows.new.items ≡ rows.old.items ++ moved)) }
+{
+    let pins = place_of(pins)?;
+    let readers = place_of(readers)?;
+    rows.reserve(next.len())?;
+    for row in next {
+        rows.push(row.after(pins, readers)?)?;
+    }
+    Ok(())
 }
 
 /// Returns the position of a signal.
