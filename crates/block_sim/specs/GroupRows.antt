@@ -1,6 +1,8 @@
 -- Rows of fault-free words of adjacent groups.
-use Rattle.std.specs.Prelude.{◌≡◌, ℕ, ◌+◌, ◌≤◌, IfOk, List, None, Result, Some, length, map}
+use Rattle.std.specs.Prelude.{◌≡◌, ℕ, ◌+◌, ◌≤◌, All, IfOk, List, None, Result, Some, length, map}
 use Rattle.std.specs.Prelude.{slice_get}
+use Rattle.std.specs.declared.alloc.Global.{Global}
+use Rattle.std.specs.declared.vec.Vec.{Vec}
 use Rattle.bench_net.specs.Statement.{Statement}
 use Rattle.bench_net.specs.Scan.{names}
 use Rattle.fault_model.specs.Solution.{Test}
@@ -15,12 +17,11 @@ pub record AreRowsFrom (c : List Statement) (tests : List Test) (first : ℕ) (r
   pub each : (k : ℕ) (row : List ℕ) → slice_get rows k ≡ Some row
       → (length row ≡ length (names c)) × AreWords c tests (first + k) None row
 
--- the result of a thread has such rows, unless it had no memory
-abbrev pub HasRows : {E : Type 0} → List Statement → List Test → Result GroupRows E → Type 0
-HasRows c tests part = IfOk part (λ own. AreRowsFrom c tests own.first
-    (map (λ row. row.items) own.rows.items))
+-- the rows are such ones
+abbrev pub AreOwnRows : List Statement → List Test → GroupRows → Type 0
+AreOwnRows c tests own = AreRowsFrom c tests own.first (map (λ row. row.items) own.rows.items)
 
--- each of several results has such rows
-abbrev pub HaveRows : {E : Type 0} → List Statement → List Test → List (Result GroupRows E) → Type 0
-HaveRows {E} c tests parts = (i : ℕ) (part : Result GroupRows E) → slice_get parts i ≡ Some part
-    → HasRows c tests part
+-- the result of a thread has such rows, unless it had no memory
+abbrev pub HasRows : {E : Type 0} → List Statement → List Test → Result (Vec GroupRows Global) E
+    → Type 0
+HasRows c tests part = IfOk part (λ taken. All (AreOwnRows c tests) taken.items)

@@ -1,8 +1,8 @@
 //! The fault-free words of all signals, computed in one thread or in several.
 
-ghost use Rattle.std.specs.Prelude.{◌≡◌, ◌+◌, ◌<◌, ◌≤◌, ℕ, IfOk, length, map};
+ghost use Rattle.std.specs.Prelude.{◌≡◌, ◌+◌, ◌≤◌, All, IfOk, length, map};
 ghost use Rattle.bench_net.specs.Scan.{sources};
-ghost use Rattle.block_sim.specs.GroupRows.{AreRowsFrom, HasRows, HaveRows};
+ghost use Rattle.block_sim.specs.GroupRows.{AreOwnRows, AreRowsFrom, HasRows};
 ghost use Rattle.block_sim.specs.Job.{AreFaultFree};
 ghost use Rattle.block_sim.specs.BlockSpans.{groups};
 
@@ -13,12 +13,16 @@ use patterns::Tests;
 use std::alloc::{AllocError, Global};
 use std::snapshot::Snapshot;
 use std::sync::Wait;
+use std::sync::atomic::{AtomicU32, Ordering};
 use std::thread;
 use std::thread::{Promise, Threads};
 
 /// The number of words that a thread computes in about a millisecond, about 20 times as long as the
 /// start of a thread.
 const WORDS_OF_A_THREAD: u64 = 1 << 15;
+
+/// The number of groups of a pass ([`rows_between`]).
+const GROUPS_OF_A_PASS: u32 = 4;
 
 /// The most threads that compute words, whatever number is requested.
 const MAX_THREADS: u32 = 64;
@@ -48,8 +52,8 @@ pub fn fault_free_rows(
 }
 
 /// Returns the rows of [`fault_free_rows`], computed by at most as many threads as there are
-/// workers. Each thread computes the rows of adjacent groups. If a thread doesn't start, the
-/// caller's thread computes its rows. Only the caller's thread computes a job of few words.
+/// workers. Each thread takes four groups at a time. If a thread doesn't start, the others compute
+/// its rows, or the caller's thread. Only the caller's thread computes a job of few words.
 pub fn fault_free_rows_in_threads<R: Threads + Wait>(
     rt: &R,
     alloc: Global,
@@ -68,6 +72,7 @@ pub fn fault_free_rows_in_threads<R: Threads + Wait>(
         return fault_free_rows(alloc, circuit, tests);
     }
     let parts = share_groups(rt, alloc, circuit, tests, threads)?;
+    let parts = in_order(alloc, circuit, tests, parts)?;
     join_rows(alloc, circuit, tests, parts)
 }
 
@@ -103,7 +108,7 @@ fn rows_between(
     ensures rows { IfOk result (λ rows. AreRowsFrom circuit.now.arranged tests.now.tests first
         (map (λ row. row.items) rows.items)) }
 {
-    let fours = (end - first) / 4;
+    let fours = (end - first) / GROUPS_OF_A_PASS;
     let mut rows = Vec::with_capacity(alloc, (end - first) as usize)?;
     for four in 0..fours {
         let mut more = four_rows(alloc, circuit, tests, first + 4 * four)?;
@@ -176,77 +181,80 @@ fn single_rows(
     Ok(rows)
 }
 
-/// The promise of a thread: its result has the words of the groups of these tests.
+/// The promise of a thread: its result has the words of groups of these tests.
 #[derive(Drop)]
 struct WordsOf {
     circuit: Snapshot<FlatCircuit>,
     tests: Snapshot<Tests>,
 }
 
-impl Promise<Result<GroupRows, AllocError>> for WordsOf {
+impl Promise<Result<Vec<GroupRows>, AllocError>> for WordsOf {
     ghost use Rattle.block_sim.specs.GroupRows.{HasRows};
 
     ghost kept_by = { λ p r. HasRows p.circuit.value.arranged p.tests.value.tests r };
 }
 
-/// Does the work of one thread.
-fn group_rows(
+/// Does the work of one thread: computes the words of the next four groups that no thread has taken,
+/// as long as there are some.
+fn take_groups(
     alloc: Global,
     circuit: &FlatCircuit,
     tests: &Tests,
-    first: u32,
-    end: u32,
-) -> Result<GroupRows, AllocError>
+    next: &AtomicU32,
+) -> Result<Vec<GroupRows>, AllocError>
     requires width { tests.now.width ≡ length (sources circuit.now.statements) }
-    requires order { first ≤ end }
-    requires end { end ≤ groups (length tests.now.tests) }
     ensures { HasRows circuit.now.arranged tests.now.tests result }
 {
-    let rows = rows_between(alloc, circuit, tests, first, end)?;
-    Ok(GroupRows { first, rows })
+    let count = groups_of(tests);
+    let mut taken = Vec::new(alloc);
+    for _pass in 0..count.div_ceil(GROUPS_OF_A_PASS) {
+        let first = next.fetch_add(GROUPS_OF_A_PASS, Ordering::Relaxed);
+        if first >= count {
+            break;
+        }
+        let end = first + GROUPS_OF_A_PASS.min(count - first);
+        let rows = rows_between(alloc, circuit, tests, first, end)?;
+        taken.push(GroupRows { first, rows })?;
+    }
+    Ok(taken)
 }
 
-/// Computes the words of the groups in this number of threads. Each thread has the same number of
-/// groups, except the last. If a thread doesn't start, no further one is started, and the rows of
-/// the remaining groups are missing.
+/// Computes the words of the groups in this number of threads, which take four groups at a time, so
+/// that all end at about the same time. If a thread doesn't start, no further one is started.
 fn share_groups<R: Threads + Wait>(
     rt: &R,
     alloc: Global,
     circuit: &FlatCircuit,
     tests: &Tests,
     threads: u32,
-) -> Result<Vec<Result<GroupRows, AllocError>>, AllocError>
+) -> Result<Vec<Result<Vec<GroupRows>, AllocError>>, AllocError>
     requires width { tests.now.width ≡ length (sources circuit.now.statements) }
-    requires some { 0 < threads }
-    ensures { IfOk result (λ parts. HaveRows circuit.now.arranged tests.now.tests parts.items) }
+    ensures { IfOk result (λ parts. All (HasRows circuit.now.arranged tests.now.tests)
+        parts.items) }
 {
+    let next = AtomicU32::new(0);
+    let next = &next;
     thread::scope(
         thread::scope_env(),
         rt,
-        |scope| -> Result<Vec<Result<GroupRows, AllocError>>, AllocError>
+        |scope| -> Result<Vec<Result<Vec<GroupRows>, AllocError>>, AllocError>
             requires width { tests.now.width ≡ length (sources circuit.now.statements) }
-            requires some { 0 < threads }
-            ensures { IfOk result (λ parts. HaveRows circuit.entry.now.arranged
-                tests.entry.now.tests parts.items) }
+            ensures { IfOk result (λ parts. All (HasRows circuit.entry.now.arranged
+                tests.entry.now.tests) parts.items) }
         {
-            let count = groups_of(tests);
-            let size = count.div_ceil(threads);
             let mut handles = Vec::with_capacity(alloc, threads as usize)?;
-            let mut first = 0;
             for _thread in 0..threads {
-                let end = first + size.min(count - first);
                 let promised = WordsOf {
                     circuit: Snapshot::of(circuit),
                     tests: Snapshot::of(tests),
                 };
                 let Ok(handle) = scope.spawn_with(
                     promised,
-                    move || group_rows(alloc, circuit, tests, first, end),
+                    move || take_groups(alloc, circuit, tests, next),
                 ) else {
                     break;
                 };
                 handles.push(handle)?;
-                first = end;
             }
             match thread::join_promised(rt, handles) {
                 Ok(parts) => Ok(parts),
@@ -256,16 +264,35 @@ fn share_groups<R: Threads + Wait>(
     )
 }
 
-/// Joins the rows of all groups: first the rows that threads returned, one part after another, and
-/// then the missing ones.
+/// Returns what all threads computed, in the order of the groups.
+fn in_order(
+    alloc: Global,
+    circuit: &FlatCircuit,
+    tests: &Tests,
+    parts: Vec<Result<Vec<GroupRows>, AllocError>>,
+) -> Result<Vec<GroupRows>, AllocError>
+    requires { All (HasRows circuit.now.arranged tests.now.tests) parts.items }
+    ensures { HasRows circuit.now.arranged tests.now.tests result }
+{
+    let mut all = Vec::new(alloc);
+    for part in parts {
+        let mut taken = part?;
+        all.append(&mut taken)?;
+    }
+    all.sort_unstable_by_key(|own| own.first);
+    Ok(all)
+}
+
+/// Joins the rows of all groups: first the rows that threads returned, in the order of the groups,
+/// and then the missing ones.
 fn join_rows(
     alloc: Global,
     circuit: &FlatCircuit,
     tests: &Tests,
-    parts: Vec<Result<GroupRows, AllocError>>,
+    parts: Vec<GroupRows>,
 ) -> Result<Vec<Vec<u128>>, AllocError>
     requires width { tests.now.width ≡ length (sources circuit.now.statements) }
-    requires parts { HaveRows circuit.now.arranged tests.now.tests parts.items }
+    requires parts { All (AreOwnRows circuit.now.arranged tests.now.tests) parts.items }
     ensures count { IfOk result (λ rows. length (map (λ row. row.items) rows.items)
         ≡ groups (length tests.now.tests)) }
     ensures rows { IfOk result (λ rows. AreFaultFree circuit.now.arranged tests.now.tests
@@ -274,7 +301,7 @@ fn join_rows(
     let count = groups_of(tests);
     let mut all = Vec::with_capacity(alloc, count as usize)?;
     for part in parts {
-        let GroupRows { first, mut rows } = part?;
+        let GroupRows { first, mut rows } = part;
         if first as usize == all.len() {
             all.append(&mut rows)?;
         }

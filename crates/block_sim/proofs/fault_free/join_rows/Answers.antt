@@ -3,7 +3,7 @@ use Rattle.std.proofs.Common.{suc, ℕ, Vec}
 use Rattle.std.specs.Prelude.{map}
 use Rattle.std.specs.Vec.Iter.{into_iter_items, into_iter_len}
 use Rattle.std.proofs.lemmas.List.{length-map, map-append}
-use Rattle.block_sim.specs.GroupRows.{AreRowsFrom, HasRows}
+use Rattle.block_sim.specs.GroupRows.{AreOwnRows, AreRowsFrom}
 use Rattle.block_sim.proofs.Rows.{from_first, rows_append}
 use Rattle.block_sim.proofs.fault_free.join_rows.Goals.{then-first-len+in_ok-append, else-first-len}
 use Rattle.block_sim.proofs.fault_free.join_rows.Goals as goal
@@ -18,22 +18,18 @@ loop-part-preserved c =
     let next : c.in-Some.part ≡ get_or (into_iter_items c.loop-part.part-iterator) 0 c.in-Some.part
     = grind rules in
     let some : 0 < into_iter_len c.loop-part.part-iterator = grind rules in
-    let has : HasRows circuit tests c.in-Some.part =
-    subst (HasRows circuit tests) (sym next) (was.left 0 c.in-Some.part some) in
-    let own : AreRowsFrom circuit tests c.in_ok-first.field-0.first
-    (map items c.in_ok-first.field-0.rows.items) =
-    subst (HasRows circuit tests) c.in_ok-first.was has in
-    let more = map items c.in_ok-first.field-0.rows.items in
-    let there : AreRowsFrom circuit tests c.in_ok-first.first more =
-    subst (λ n. AreRowsFrom circuit tests n more) c.in_ok-first.first-is own in
+    let own : AreOwnRows circuit tests c.in-Some.part =
+    subst (AreOwnRows circuit tests) (sym next) (was.left 0 c.in-Some.part some) in
+    let more = map items c.in-Some.part.rows.items in
+    let there : AreRowsFrom circuit tests c.in-Some.part.first more = own in
     let before = map items c.loop-part.all.items in
     record {
       left = λ k d lt.
           let h = was.left (suc k) d (omega (arith, lt, step.1)) in
-          subst (HasRows circuit tests) (ap (λ l. get_or l (suc k) d) step.0) h;
+          subst (AreOwnRows circuit tests) (ap (λ l. get_or l (suc k) d) step.0) h;
       rows = elim c.if-first-len.branch [
         | then-first-len+in_ok-append w ↦
-            let long : c.in_ok-first.first ≡ length before = omega (
+            let long : c.in-Some.part.first ≡ length before = omega (
               arith,
               w.if-first-len.true,
               c.len.ensures,
@@ -42,8 +38,8 @@ loop-part-preserved c =
             ) in
             subst (λ v. AreRowsFrom circuit tests 0 (map items v.items)) (sym w.all-is)
             (subst (AreRowsFrom circuit tests 0) (sym (ap (map items) w.in_ok-append.ensures.items
-            ∙ map-append items c.loop-part.all.items c.in_ok-first.field-0.rows.items))
-            (rows_append circuit tests before more c.in_ok-first.first was.rows long there))
+            ∙ map-append items c.loop-part.all.items c.in-Some.part.rows.items))
+            (rows_append circuit tests before more c.in-Some.part.first was.rows long there))
         | else-first-len w ↦
             subst (λ v. AreRowsFrom circuit tests 0 (map items v.items)) (sym w.all-is) was.rows
       ];
