@@ -1,16 +1,18 @@
 //! Reads a test file piece by piece, so that its bytes are never all in memory.
 
-ghost use Rattle.std.specs.Prelude.{◌≡◌, ◌+◌, ◌-◌, ◌<◌, ◌≤◌, IfSome, OnSome, length, take};
+ghost use Rattle.std.specs.Prelude.{◌≡◌, ◌+◌, ◌≤◌, IfOk, IfSome, OnSome, length, take};
 ghost use Rattle.std.specs.List.{slice_range};
 ghost use Rattle.patterns.specs.LaterRows.{with_tests};
 ghost use Rattle.patterns.specs.Pieces.{IsFilled, IsLineEnd};
-ghost use Rattle.patterns.specs.Tests.{HasTests, IsTestList, TestList, max_tests};
+ghost use Rattle.patterns.specs.Tests.{HasTests, IsTestList, max_tests};
 
 use crate::in_threads::first_row;
-use crate::{BLOCK_SIZE, MAX_TESTS, Tests, read_tests_in_threads};
-use std::alloc::Global;
+use crate::{BLOCK_SIZE, MAX_TESTS, TestFault, Tests, read_tests_in_threads};
+use std::alloc::{AllocError, Global};
 use std::io::Read;
+use std::mem::swap;
 use std::sync::Wait;
+use std::thread;
 use std::thread::Threads;
 use text_lines::{Rows, line_start_from};
 
@@ -25,7 +27,7 @@ const MAX_PIECES_OF_A_FILE: u32 = MAX_TESTS / BLOCK_SIZE + 1;
 /// has an error, there is no row, or a piece is too short for 64 rows. It also returns `None` if
 /// the rows are not alike, so that a piece doesn't end with full blocks. Then [`crate::read_tests`]
 /// of all bytes has the tests or the error.
-pub fn read_tests_in_pieces<R: Threads + Wait, F: Read>(
+pub fn read_tests_in_pieces<R: Threads + Wait, F: Read + Send>(
     rt: &R,
     alloc: Global,
     file: F,
@@ -41,18 +43,26 @@ where
     ensures width { IfSome result (λ t. (1 ≤ t.width) × (t.width ≤ most)) }
 {
     let mut file = file;
-    let mut buffer = Vec::new(alloc);
-    buffer.resize(size, 0).ok()?;
-    read_through(rt, alloc, &mut file, &mut buffer, most, workers)
+    let buffer = zeros(alloc, size).ok()?;
+    let spare = zeros(alloc, size).ok()?;
+    read_through(rt, alloc, &mut file, buffer, spare, most, workers)
 }
 
-/// Reads the tests of a file as [`read_tests_in_pieces`] does, through a buffer, with a piece in it
-/// at a time.
-fn read_through<R: Threads + Wait, F: Read>(
+/// Returns this number of zeros.
+fn zeros(alloc: Global, count: usize) -> Result<Vec<u8>, AllocError> {
+    let mut bytes = Vec::new(alloc);
+    bytes.resize(count, 0)?;
+    Ok(bytes)
+}
+
+/// Reads the tests of a file as [`read_tests_in_pieces`] does, through two buffers. While the tests
+/// of one are read, the rest of it and the next bytes of the file go into the other.
+fn read_through<R: Threads + Wait, F: Read + Send>(
     rt: &R,
     alloc: Global,
     file: &mut F,
-    buffer: &mut [u8],
+    buffer: Vec<u8>,
+    spare: Vec<u8>,
     most: u32,
     workers: u32,
 ) -> Option<Tests>
@@ -61,20 +71,67 @@ fn read_through<R: Threads + Wait, F: Read>(
     ensures list { IfSome result (λ t. IsTestList t) }
     ensures width { IfSome result (λ t. (1 ≤ t.width) × (t.width ≤ most)) }
 {
-    let mut filled = fill(file, buffer, 0)?;
+    let mut buffer = buffer;
+    let mut spare = spare;
+    let mut filled = fill(file, &mut buffer, 0)?;
     let width = first_width(&buffer[..filled], most)?;
     let mut all = Tests::new(alloc, width);
     for _ in 0..MAX_PIECES_OF_A_FILE {
         if filled < buffer.len() {
-            add_piece(rt, alloc, &mut all, &buffer[..filled], workers)?;
+            let tests = read_tests_in_threads(rt, alloc, &buffer[..filled], width, workers);
+            add_piece(&mut all, tests.ok()?)?;
             return Some(all);
         }
-        let end = end_of_blocks(buffer)?;
-        add_piece(rt, alloc, &mut all, &buffer[..end], workers)?;
-        buffer.copy_within(end.., 0);
-        filled = fill(file, buffer, filled - end)?;
+        let end = end_of_blocks(&buffer)?;
+        let kept = keep_rest(&buffer[end..], &mut spare)?;
+        let piece = &buffer[..end];
+        let (next, tests) = read_and_fill(rt, alloc, piece, width, file, &mut spare, kept, workers);
+        add_piece(&mut all, tests.ok()?)?;
+        filled = next?;
+        swap(&mut buffer, &mut spare);
     }
     None
+}
+
+/// Copies bytes to the front of a buffer. Returns their number, or `None` if there is no room.
+fn keep_rest(rest: &[u8], buffer: &mut [u8]) -> Option<usize>
+    ensures kept { IfSome result (λ kept. (kept ≤ length buffer.new)
+        × (take kept buffer.new ≡ rest.now)) }
+    ensures size { length buffer.new ≡ length buffer.old }
+{
+    let count = rest.len();
+    if count > buffer.len() {
+        return None;
+    }
+    buffer[..count].copy_from_slice(rest);
+    Some(count)
+}
+
+/// Reads the tests of a piece, and at the same time fills a buffer with the next bytes of the file,
+/// from a place on.
+fn read_and_fill<R: Threads + Wait, F: Read + Send>(
+    rt: &R,
+    alloc: Global,
+    piece: &[u8],
+    width: u32,
+    file: &mut F,
+    buffer: &mut [u8],
+    from: usize,
+    workers: u32,
+) -> (Option<usize>, Result<Tests, TestFault>)
+    requires width { 1 ≤ width }
+    requires from { from ≤ length buffer.old }
+    ensures filled { IfSome result.0 (IsFilled (F.remaining file.old) (F.remaining file.new)
+        buffer.old buffer.new from) }
+    ensures tests { IfOk result.1 (HasTests piece.now width) }
+{
+    if workers < 2 {
+        let tests = read_tests_in_threads(rt, alloc, piece, width, workers);
+        return (fill(file, buffer, from), tests);
+    }
+    let mut fill_next = || fill(file, buffer, from);
+    let mut read_piece = || read_tests_in_threads(rt, alloc, piece, width, workers - 1);
+    thread::join_mut(rt, &mut fill_next, &mut read_piece)
 }
 
 /// Fills a buffer with the next bytes of a file, from a place on. Returns the place after the last
@@ -124,21 +181,13 @@ fn end_of_blocks(piece: &[u8]) -> Option<usize>
     Some(end)
 }
 
-/// Reads the tests of a piece, and adds them to full blocks of others. Returns `None` if there is an
-/// error, if memory runs out, if the last block of the others isn't full, or if they are too many.
-fn add_piece<R: Threads + Wait>(
-    rt: &R,
-    alloc: Global,
-    all: &mut Tests,
-    piece: &[u8],
-    workers: u32,
-) -> Option<()>
-    requires { 1 ≤ all.old.width }
-    ensures { OnSome result ((more : TestList) × HasTests piece.now all.old.width more
-        × (length all.old.tests + length more.tests ≤ max_tests)
-        × (all.new ≡ with_tests all.old more.tests)) }
+/// Adds the tests of a piece to full blocks of others. Returns `None` if the last block of the
+/// others isn't full, if they are too many, or if memory runs out.
+fn add_piece(all: &mut Tests, tests: Tests) -> Option<()>
+    requires { tests.width ≡ all.old.width }
+    ensures { OnSome result ((length all.old.tests + length tests.tests ≤ max_tests)
+        × (all.new ≡ with_tests all.old tests.tests)) }
 {
-    let tests = read_tests_in_threads(rt, alloc, piece, all.width(), workers).ok()?;
     if !all.takes(&tests) {
         return None;
     }

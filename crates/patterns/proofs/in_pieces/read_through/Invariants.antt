@@ -12,8 +12,8 @@ invariant-loop g l = record {
   tests : HasTests seen l.width l.all;
   low : 1 ≤ l.width;
   high : l.width ≤ l.most;
-  within : l.filled ≤ length l.buffer;
+  within : l.filled ≤ length l.buffer.items;
   read : Consumes (g.F.Read.remaining l.fn.file) (g.F.Read.remaining l.file)
-      (seen ++ take l.filled l.buffer);
-  ended : l.filled < length l.buffer → IsAtEnd (g.F.Read.remaining l.file);
+      (seen ++ take l.filled l.buffer.items);
+  ended : l.filled < length l.buffer.items → IsAtEnd (g.F.Read.remaining l.file);
 }
