@@ -1,16 +1,17 @@
 -- A job of the circuit and the tests of accepted files is a job of the files.
-use Rattle.std.proofs.Common.{◌≡◌, ◌⊎◌, ℕ, List, length, refl, sym, ap, subst, inl, inr}
-use Rattle.std.specs.Prelude.{Result, Err, ◌↔◌}
+use Rattle.std.proofs.Common.{◌≡◌, ◌⊎◌, ◌<◌, ℕ, List, length, refl, sym, ap, subst, inl, inr}
+use Rattle.std.specs.Prelude.{Result, Ok, Err, IfOk, IfSome, ◌↔◌}
+use Rattle.std.specs.Result.{result_ok}
 use Rattle.bench_net.specs.Statement.{Statement}
 use Rattle.bench_net.specs.Scan.{sources}
 use Rattle.bench_net.specs.Refusal.{IsAccepted}
 use Rattle.fault_model.specs.declared.Model.{Model}
 use Rattle.fault_model.specs.Fault.{FaultList, fault_list}
 use Rattle.fault_model.specs.Collapse.{Collapsed, AreClassesOf}
-use Rattle.patterns.specs.Tests.{TestList, HasTests}
+use Rattle.patterns.specs.Tests.{TestList, HasTests, max_pieces}
 use Rattle.block_sim.specs.declared.job.JobFault.{JobFault}
 use Rattle.block_sim.specs.declared.job.JobFault.TheVariants as job_fault
-use Rattle.block_sim.specs.Parts.{Parts}
+use Rattle.block_sim.specs.Parts.{BelongTogether, Parts, piece_count, with_tests}
 use Rattle.job_loading.specs.declared.fault.SimFault.{SimFault}
 use Rattle.job_loading.specs.declared.fault.SimFault.TheVariants as fault
 use Rattle.block_sim.specs.JobParts.{IsJobUnder}
@@ -38,6 +39,29 @@ job_is m c list classes tests listed are fit =
       },
       of_model,
     )
+
+-- what is true of an Ok is true of it as an option
+pub some_of_ok : {X E : Type 0} (r : Result X E) (P : X → Type 0) → IfOk r P
+    → IfSome (result_ok r) P
+some_of_ok (Ok x) P h = h
+some_of_ok (Err fault) P h = tt
+
+-- a job with other tests of the circuit's width is a job of the circuit and these tests
+pub job_with_tests : (job : Parts) (tests : TestList) → BelongTogether job
+    → AreTestsFor job.circuit tests
+    → IsJobUnder job.list.model job.circuit tests (with_tests job tests)
+job_with_tests job tests together fit = (
+  refl,
+  refl,
+  record {
+    circuit = together.circuit;
+    list = together.list;
+    classes = together.classes;
+    tests = fit.tests;
+    width = fit.width;
+  },
+  refl,
+)
 
 -- a job of the circuit and the tests of two texts is a job of the texts
 pub job_of_texts : (m : Model) (bench text : List ℕ) (c : List Statement) (tests : TestList)
@@ -83,6 +107,23 @@ split_fault m bench text c tests (split.Parts count) accepted has f h =
     subst (IsReadFault bench text) (sym h) tt
 split_fault m bench text c tests split.Fitting accepted has f h =
     subst (IsReadFault bench text) (sym h) tt
+
+-- memory is an error of every run
+pub memory_fault : (m : Model) (c : List Statement) (tests : TestList) (parts : Split)
+    → IsSplitFaultFor m c tests parts fault.Memory
+memory_fault m c tests split.Whole = tt
+memory_fault m c tests (split.Parts count) = refl
+memory_fault m c tests split.Fitting = refl
+
+-- too many pieces are an error of a run as a whole
+pub pieces_of_whole : (job : Parts) (tests : TestList) (parts : Split) → BelongTogether job
+    → AreTestsFor job.circuit tests → parts ≡ split.Whole
+    → max_pieces < piece_count (with_tests job tests)
+    → IsSplitFaultFor job.list.model job.circuit tests parts (fault.Job job_fault.TooManyPieces)
+pieces_of_whole job tests parts together fit is many =
+    subst (λ p. IsSplitFaultFor job.list.model job.circuit tests p
+    (fault.Job job_fault.TooManyPieces)) (sym is)
+    (inr (with_tests job tests, job_with_tests job tests together fit, many))
 
 -- an error of a file is an error of a job of it
 input_job_fault : (m : Model) (bench text : List ℕ) (f : SimFault) → IsInputFault bench text f

@@ -13,7 +13,6 @@ mod texts;
 mod watch;
 
 pub use fault::{ReportFault, SimFault};
-pub use pieces::read_inputs_in_pieces;
 pub use run_job::RunJob;
 pub use split::{
     Split, least_parts, split_job_of, split_run_for, split_run_in_pieces, split_run_of,

@@ -1,83 +1,180 @@
-//! The circuit of a bench file, and the tests of a test file that is read piece by piece.
+//! The job of a bench file, and the tests of a test file that is read piece by piece.
 
-ghost use Rattle.std.specs.Prelude.{◌≡◌, ◌≤◌, IfOk, IfSome, length};
-ghost use Rattle.bench_net.specs.Circuit.{IsCircuit};
+ghost use Rattle.std.specs.Prelude.{◌≡◌, ◌≤◌, IfSome, length};
 ghost use Rattle.bench_net.specs.Refusal.{IsAccepted};
 ghost use Rattle.bench_net.specs.Scan.{sources};
 ghost use Rattle.patterns.specs.Tests.{HasTests, IsTestList};
 ghost use Rattle.job_loading.specs.Jobs.{AreTestsFor};
 
-use crate::texts::{BYTES_OF_A_SOURCE, WORKERS_APART, is_very_long};
-use bench_net::{BenchFault, Circuit, read_bench, read_bench_in_threads};
+use crate::texts::{
+    BYTES_OF_A_SOURCE, WORKERS_APART, is_long, is_very_long, make_any_job_in_threads,
+};
+use bench_net::{Circuit, read_bench, read_bench_in_threads};
+use block_sim::Job;
+use fault_model::Model;
 use patterns::{Tests, read_tests_in_pieces};
 use std::alloc::Global;
 use std::io::Read;
+use std::marker::PhantomData;
 use std::sync::Wait;
 use std::thread;
 use std::thread::Threads;
 
-/// The number of bytes of a piece. Threads read one in about a millisecond, and it fits into the
-/// cache that processors share.
+/// The number of bytes of a piece, of which two are in memory. Threads read one in about a
+/// millisecond, and both fit into the cache that processors share.
 const PIECE: usize = 1 << 23;
 
-/// Reads the circuit of a bench file, and the tests for it from a file of `size` bytes, of which
-/// only a piece at a time is in memory ([`read_tests_in_pieces`]). It takes at most as many threads
-/// as there are workers, as [`crate::read_inputs_in_threads`] does.
+/// The number of bytes of a piece for one worker, which reads none ahead.
+const SMALL_PIECE: usize = PIECE / 2;
+
+/// A runtime for calls with one worker, which start no thread. A thread makes it where it can't
+/// borrow the runtime of the thread that started it.
+#[derive(Drop)]
+struct OneWorker<R> {
+    of: PhantomData<R>,
+}
+
+impl<R> OneWorker<R> {
+    fn new() -> OneWorker<R> {
+        OneWorker { of: PhantomData }
+    }
+}
+
+impl<R: Threads> Threads for OneWorker<R> {}
+
+impl<R: Wait> Wait for OneWorker<R> {}
+
+/// Makes the job of a bench file under a model, with no tests, and reads the tests for it from a
+/// file of `size` bytes, of which only two pieces at a time are in memory
+/// ([`read_tests_in_pieces`]). It takes at most as many threads as there are workers.
 ///
-/// It returns `None` if there is an error in a file, or the tests can't be read so. Then
-/// [`crate::read_inputs_in_threads`] of all bytes has the error or the tests.
-pub fn read_inputs_in_pieces<R: Threads + Wait, F: Read + Send>(
+/// It returns `None` if there is an error in a file, the tests can't be read so, or memory runs
+/// out.
+pub(crate) fn read_job_in_pieces<R: Threads + Wait, F: Read + Send>(
     rt: &R,
     alloc: Global,
+    model: Model,
     bench: &[u8],
     file: F,
     size: u64,
     workers: u32,
-) -> Option<(Circuit, Tests)>
+) -> Option<(Job, Tests)>
 where
     F: Drop,
-    ensures circuit { IfSome result (λ read. IsAccepted bench.now read.0) }
+    ensures circuit { IfSome result (λ read. IsAccepted bench.now read.0.circuit) }
+    ensures model { IfSome result (λ read. read.0.list.model ≡ model) }
     ensures tests { IfSome result (λ read. IfSome (F.remaining file) (λ text.
-        HasTests text (length (sources read.0)) read.1)) }
-    ensures fit { IfSome result (λ read. AreTestsFor read.0 read.1) }
+        HasTests text (length (sources read.0.circuit)) read.1)) }
+    ensures fit { IfSome result (λ read. AreTestsFor read.0.circuit read.1) }
 {
-    let (circuit, tests) = read_both(rt, alloc, bench, file, size, workers);
-    let (Ok(circuit), Some(tests)) = (circuit, tests) else {
+    let (job, tests) = read_both(rt, alloc, model, bench, file, size, workers);
+    let (Some(job), Some(tests)) = (job, tests) else {
         return None;
     };
-    if tests.width() != circuit.sources() {
+    if tests.width() != job.circuit().sources() {
         return None;
     }
-    Some((circuit, tests))
+    Some((job, tests))
 }
 
-/// Reads the circuit and then the tests, with all workers. If the bench file is long and the test
-/// file is very long, one worker reads the circuit, and the others the tests at the same time.
+/// Makes the job of a bench file and then reads the tests, with all workers. If the bench file is
+/// long, it does both at the same time: one worker reads the tests, and the others make the job.
 fn read_both<R: Threads + Wait, F: Read + Send>(
     rt: &R,
     alloc: Global,
+    model: Model,
     bench: &[u8],
     file: F,
     size: u64,
     workers: u32,
-) -> (Result<Circuit, BenchFault>, Option<Tests>)
+) -> (Option<Job>, Option<Tests>)
 where
     F: Drop,
-    ensures accepted { IfOk result.0 (λ c. IsAccepted bench.now c) }
-    ensures circuit { IfOk result.0 (λ c. IsCircuit c) }
+    ensures accepted { IfSome result.0 (λ job. IsAccepted bench.now job.circuit) }
+    ensures model { IfSome result.0 (λ job. job.list.model ≡ model) }
     ensures tests { IfSome result.1 (λ t. IfSome (F.remaining file) (λ text.
         HasTests text t.width t)) }
     ensures list { IfSome result.1 (λ t. IsTestList t) }
 {
     let most = u32::try_from(bench.len() / BYTES_OF_A_SOURCE).unwrap_or(u32::MAX);
-    if workers < WORKERS_APART || !is_very_long(bench.len(), size) {
-        let circuit = read_bench_in_threads(rt, alloc, bench, workers);
-        let tests = read_tests_in_pieces(rt, alloc, file, most, PIECE, workers);
-        return (circuit, tests);
+    if workers < WORKERS_APART || !is_long(bench.len()) {
+        let job = job_without_tests(rt, alloc, model, bench, workers);
+        let piece = if workers < 2 { SMALL_PIECE } else { PIECE };
+        let tests = read_tests_in_pieces(rt, alloc, file, most, piece, workers);
+        return (job, tests);
     }
-    thread::join(
+    if is_very_long(bench.len(), size) {
+        return read_very_long(rt, alloc, model, bench, file, most, workers);
+    }
+    let (tests, job) = thread::join(
+        rt,
+        move || read_tests_in_pieces(&OneWorker::<R>::new(), alloc, file, most, SMALL_PIECE, 1),
+        move || job_without_tests(rt, alloc, model, bench, workers - 1),
+    );
+    (job, tests)
+}
+
+/// Reads both files as [`read_both`] does if the test file is very long: one worker reads the bench
+/// file, and the others the tests. Then all make the job.
+fn read_very_long<R: Threads + Wait, F: Read + Send>(
+    rt: &R,
+    alloc: Global,
+    model: Model,
+    bench: &[u8],
+    file: F,
+    most: u32,
+    workers: u32,
+) -> (Option<Job>, Option<Tests>)
+where
+    F: Drop,
+    ensures accepted { IfSome result.0 (λ job. IsAccepted bench.now job.circuit) }
+    ensures model { IfSome result.0 (λ job. job.list.model ≡ model) }
+    ensures tests { IfSome result.1 (λ t. IfSome (F.remaining file) (λ text.
+        HasTests text t.width t)) }
+    ensures list { IfSome result.1 (λ t. IsTestList t) }
+{
+    let (circuit, tests) = thread::join(
         rt,
         move || read_bench(alloc, bench),
-        move || read_tests_in_pieces(rt, alloc, file, most, PIECE, workers - 1),
-    )
+        move || read_tests_in_pieces(rt, alloc, file, most, PIECE, workers.saturating_sub(1)),
+    );
+    let job = match circuit {
+        Ok(circuit) => job_of_circuit(rt, alloc, model, circuit, workers),
+        Err(_) => None,
+    };
+    (job, tests)
+}
+
+/// Makes the job of a bench file under a model, with no tests, in at most as many threads as there
+/// are workers. Returns `None` if there is an error in the file, or memory runs out.
+fn job_without_tests<R: Threads + Wait>(
+    rt: &R,
+    alloc: Global,
+    model: Model,
+    bench: &[u8],
+    workers: u32,
+) -> Option<Job>
+    ensures accepted { IfSome result (λ job. IsAccepted bench.now job.circuit) }
+    ensures model { IfSome result (λ job. job.list.model ≡ model) }
+{
+    match read_bench_in_threads(rt, alloc, bench, workers) {
+        Ok(circuit) => job_of_circuit(rt, alloc, model, circuit, workers),
+        Err(_) => None,
+    }
+}
+
+/// Makes the job of a circuit under a model, with no tests, in at most as many threads as there are
+/// workers. Returns `None` if memory runs out.
+fn job_of_circuit<R: Threads + Wait>(
+    rt: &R,
+    alloc: Global,
+    model: Model,
+    circuit: Circuit,
+    workers: u32,
+) -> Option<Job>
+    ensures circuit { IfSome result (λ job. job.circuit ≡ circuit) }
+    ensures model { IfSome result (λ job. job.list.model ≡ model) }
+{
+    let none = Tests::new(alloc, circuit.sources());
+    make_any_job_in_threads(rt, alloc, model, circuit, none, workers).ok()
 }

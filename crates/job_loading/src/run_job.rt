@@ -2,19 +2,18 @@
 
 ghost use Rattle.std.specs.Prelude.{◌≡◌, ◌<◌, ◌≤◌, IfErr, IfOk, OnOk, false, length, true};
 ghost use Rattle.bench_net.specs.Scan.{sources};
-ghost use Rattle.patterns.specs.Tests.{IsTestList, max_pieces};
-ghost use Rattle.block_sim.specs.Parts.{BelongTogether, piece_count, with_tests};
+ghost use Rattle.patterns.specs.Tests.{IsTestList};
+ghost use Rattle.block_sim.specs.Parts.{BelongTogether, with_tests};
 ghost use Rattle.workers.specs.Verdict.{AreAfterHits, AreFirsts};
 ghost use Rattle.region_runs.specs.Part.{ArePartVerdicts};
 ghost use Rattle.region_runs.specs.Refused.{ArePartsWithin, IsPartFault, IsPartsFault};
 ghost use Rattle.region_runs.specs.Refused.{IsPartWithin};
 ghost use Rattle.block_sim.specs.JobParts.{IsJobUnder};
-ghost use Rattle.job_loading.specs.Jobs.{AreTestsFor, IsPiecesFault};
+ghost use Rattle.job_loading.specs.Jobs.{AreTestsFor};
 
-use crate::fault::SimFault;
-use crate::texts::{job_for_in_threads, make_any_job_in_threads};
+use crate::texts::make_any_job_in_threads;
 use bench_net::Circuit;
-use block_sim::{Job, JobFault, has_too_many_pieces};
+use block_sim::Job;
 use fault_model::Model;
 use patterns::Tests;
 use region_runs::{
@@ -163,9 +162,8 @@ fn stands_apart(circuit: &Circuit, tests: &Tests, apart: bool) -> bool
     apart && tests.blocks() > window_blocks(circuit.signals())
 }
 
-/// Makes the job of a circuit and of tests for it under a model, for any number of pieces, in at
-/// most as many threads as there are workers. Its tests stand apart if they may, and have more
-/// blocks than a window.
+/// Makes the run of the job of a circuit and of tests for it under a model, for any number of
+/// pieces, in at most as many threads as there are workers.
 pub(crate) fn make_run_in_threads<R: Threads + Wait>(
     rt: &R,
     alloc: Global,
@@ -179,39 +177,29 @@ pub(crate) fn make_run_in_threads<R: Threads + Wait>(
     ensures job { IfOk result (λ run. IsJobUnder model circuit tests run.parts) }
     ensures apart { IfOk result (λ run. run.apart ≡ true → apart ≡ true) }
 {
-    if !stands_apart(&circuit, &tests, apart) {
-        let job = make_any_job_in_threads(rt, alloc, model, circuit, tests, workers)?;
-        return Ok(RunJob::whole(job));
-    }
     let none = Tests::new(alloc, tests.width());
     let job = make_any_job_in_threads(rt, alloc, model, circuit, none, workers)?;
-    Ok(RunJob::apart(job, tests))
+    run_with_tests(rt, alloc, job, tests, apart, workers)
 }
 
-/// Makes the run as [`make_run_in_threads`] does, for at most [`patterns::MAX_PIECES`] pieces. It
-/// computes no fault-free words if there are more.
-pub(crate) fn make_limited_run_in_threads<R: Threads + Wait>(
+/// Makes the run of a job with these tests in place of its own. They stand apart if they may, and
+/// have more blocks than a window. If not, the threads compute the words of their blocks.
+pub(crate) fn run_with_tests<R: Threads + Wait>(
     rt: &R,
     alloc: Global,
-    model: Model,
-    circuit: Circuit,
+    job: Job,
     tests: Tests,
     apart: bool,
     workers: u32,
-) -> Result<RunJob, SimFault>
-    requires { AreTestsFor circuit tests }
-    ensures job { IfOk result (λ run. IsJobUnder model circuit tests run.parts) }
-    ensures few { IfOk result (λ run. piece_count run.parts ≤ max_pieces) }
+) -> Result<RunJob, AllocError>
+    requires { AreTestsFor job.circuit tests }
+    ensures job { IfOk result (λ run. IsJobUnder job.list.model job.circuit tests run.parts) }
     ensures apart { IfOk result (λ run. run.apart ≡ true → apart ≡ true) }
-    ensures refused { IfErr result (IsPiecesFault model circuit tests) }
 {
-    if !stands_apart(&circuit, &tests, apart) {
-        let job = job_for_in_threads(rt, alloc, model, circuit, tests, workers)?;
-        return Ok(RunJob::whole(job));
+    if stands_apart(job.circuit(), &tests, apart) {
+        return Ok(RunJob::apart(job, tests));
     }
-    let run = make_run_in_threads(rt, alloc, model, circuit, tests, apart, workers)?;
-    if has_too_many_pieces(run.job().classes(), run.tests()) {
-        return Err(SimFault::Job(JobFault::TooManyPieces));
-    }
-    Ok(run)
+    let mut job = job;
+    job.set_tests_of_any_size_in_threads(rt, alloc, tests, workers)?;
+    Ok(RunJob::whole(job))
 }

@@ -5,17 +5,19 @@ ghost use Rattle.patterns.specs.Tests.{max_pieces};
 ghost use Rattle.region_runs.specs.Part.{stretch_size};
 ghost use Rattle.region_runs.specs.Refused.{ArePartsWithin};
 ghost use Rattle.block_sim.specs.JobParts.{IsJobUnder};
-ghost use Rattle.block_sim.specs.Parts.{BelongTogether};
+ghost use Rattle.block_sim.specs.Parts.{BelongTogether, piece_count};
 ghost use Rattle.job_loading.specs.Jobs.{AreTestsFor, IsJobOf};
 ghost use Rattle.job_loading.specs.Splits.{HasSomePart, IsLeastSplit, IsSplitFault};
 ghost use Rattle.job_loading.specs.Splits.{IsSplitFaultFor, IsSplitOf};
 
 use crate::fault::SimFault;
-use crate::pieces::read_inputs_in_pieces;
-use crate::run_job::{RunJob, make_limited_run_in_threads, make_run_in_threads};
-use crate::texts::{job_of_any_size_in_threads, job_of_in_threads, read_inputs_in_threads};
+use crate::pieces::read_job_in_pieces;
+use crate::run_job::{RunJob, run_with_tests};
+use crate::texts::{
+    job_of_any_size_in_threads, job_of_in_threads, make_any_job_in_threads, read_inputs_in_threads,
+};
 use bench_net::Circuit;
-use block_sim::Job;
+use block_sim::{Job, JobFault, has_too_many_pieces};
 use fault_model::Model;
 use patterns::{MAX_PIECES, Tests};
 use region_runs::parts_for;
@@ -151,31 +153,17 @@ pub fn split_run_for<R: Threads + Wait>(
     ensures parts { IfOk result (λ made. IsSplitOf made.0.parts split workers made.1) }
     ensures refused { IfErr result (IsSplitFaultFor model circuit tests split) }
 {
-    match split {
-        Split::Whole => {
-            let run = make_limited_run_in_threads(
-                rt, alloc, model, circuit, tests, apart, workers,
-            )?;
-            let parts = parts_for(run.job(), workers);
-            Ok((run, parts))
-        }
-        Split::Parts(count) => {
-            let run = make_run_in_threads(rt, alloc, model, circuit, tests, apart, workers)?;
-            Ok((run, count))
-        }
-        Split::Fitting => {
-            let run = make_run_in_threads(rt, alloc, model, circuit, tests, apart, workers)?;
-            let parts = fitting_parts_of(&run, workers);
-            Ok((run, parts))
-        }
-    }
+    let none = Tests::new(alloc, tests.width());
+    let job = make_any_job_in_threads(rt, alloc, model, circuit, none, workers)?;
+    split_run_with(rt, alloc, job, tests, split, apart, workers)
 }
 
 /// Makes the job of a bench file and of a test file that is read piece by piece, for a run of all
 /// its classes. Returns it with the number of parts, as [`split_run_of`] does for all bytes of the
 /// files, with the same errors.
 ///
-/// It returns `None` if it can't read the files so, as [`read_inputs_in_pieces`] does.
+/// It returns `None` if it can't read the files so: there is an error in a file, the tests can't be
+/// read piece by piece ([`patterns::read_tests_in_pieces`]), or memory runs out.
 pub fn split_run_in_pieces<R: Threads + Wait, F: Read + Send>(
     rt: &R,
     alloc: Global,
@@ -200,8 +188,48 @@ where
     ensures refused { IfSome (F.remaining tests) (λ text. IfSome result (λ read.
         IfErr read (IsSplitFault model bench.now text split))) }
 {
-    let (circuit, tests) = read_inputs_in_pieces(rt, alloc, bench, tests, size, workers)?;
-    Some(split_run_for(rt, alloc, model, circuit, tests, split, apart, workers))
+    let (job, tests) = read_job_in_pieces(rt, alloc, model, bench, tests, size, workers)?;
+    Some(split_run_with(rt, alloc, job, tests, split, apart, workers))
+}
+
+/// Makes the run of a job with these tests in place of its own. Returns it with the number of
+/// parts, as [`split_run_of`] does. It computes no fault-free words if there are too many pieces.
+fn split_run_with<R: Threads + Wait>(
+    rt: &R,
+    alloc: Global,
+    job: Job,
+    tests: Tests,
+    split: Split,
+    apart: bool,
+    workers: u32,
+) -> Result<(RunJob, u32), SimFault>
+    requires tests { AreTestsFor job.circuit tests }
+    requires split { HasSomePart split }
+    ensures job { IfOk result (λ made.
+        IsJobUnder job.list.model job.circuit tests made.0.parts) }
+    ensures apart { IfOk result (λ made. made.0.apart ≡ true → apart ≡ true) }
+    ensures parts { IfOk result (λ made. IsSplitOf made.0.parts split workers made.1) }
+    ensures refused { IfErr result (IsSplitFaultFor job.list.model job.circuit tests split) }
+{
+    if split == Split::Whole && has_too_many_pieces(job.classes(), &tests) {
+        return Err(SimFault::Job(JobFault::TooManyPieces));
+    }
+    let run = run_with_tests(rt, alloc, job, tests, apart, workers)?;
+    let parts = parts_of_split(&run, split, workers);
+    Ok((run, parts))
+}
+
+/// Returns the number of parts into which a run is split.
+fn parts_of_split(run: &RunJob, split: Split, workers: u32) -> u32
+    requires some { HasSomePart split }
+    requires few { split ≡ Split.Whole → piece_count run.now.parts ≤ max_pieces }
+    ensures { IsSplitOf run.now.parts split workers result }
+{
+    match split {
+        Split::Whole => parts_for(run.job(), workers),
+        Split::Parts(count) => count,
+        Split::Fitting => fitting_parts_of(run, workers),
+    }
 }
 
 /// Returns the number of parts of [`fitting_parts`] for a job whose tests may stand apart.

@@ -30,7 +30,8 @@ const LONG_BENCH: usize = 1 << 16;
 pub(crate) const WORKERS_APART: u32 = 4;
 
 /// A test file is very long if it has this number of times as many bytes as the bench file. Two
-/// threads then take about as long to read it as one thread takes to read the bench file.
+/// threads then take about as long to read it as one thread takes to read the bench file. Piece by
+/// piece, one thread takes about as long for it as one thread takes to make the job.
 const TIMES_AS_LONG: u64 = 32;
 
 /// The least number of bytes of the line that defines a source, as `INPUT(a)`.
@@ -210,10 +211,15 @@ fn read_and_guess<R: Threads + Wait>(
     )
 }
 
+/// Returns whether a bench file of this number of bytes is long.
+pub(crate) fn is_long(bench: usize) -> bool {
+    bench >= LONG_BENCH
+}
+
 /// Returns whether a bench file of this number of bytes is long, and a test file beside it very
 /// long.
 pub(crate) fn is_very_long(bench: usize, tests: u64) -> bool {
-    bench >= LONG_BENCH && tests / TIMES_AS_LONG >= bench as u64
+    is_long(bench) && tests / TIMES_AS_LONG >= bench as u64
 }
 
 /// Reads tests with the width of their first row, if there is one. Returns `None` if the file has

@@ -2,7 +2,7 @@ use Rattle.std.proofs.lemmas.Result.{IfErr-weaker, IfOk-weaker}
 use Rattle.block_sim.specs.JobParts.{IsJobUnder}
 use Rattle.job_loading.specs.Jobs.{IsJobOf}
 use Rattle.job_loading.specs.Splits.{IsSplitFault, IsSplitFaultFor}
-use Rattle.job_loading.proofs.JobsOfTexts.{input_split_fault, job_of_texts, split_fault}
+use Rattle.job_loading.proofs.JobsOfTexts.{job_of_texts, split_fault}
 use Rattle.job_loading.proofs.split.split_run_of.Goals as goal
 
 pub returns-clause-job : goal.returns-clause-job
