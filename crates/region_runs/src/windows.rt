@@ -31,6 +31,7 @@ use block_sim::Job;
 use patterns::{BLOCK_SIZE, MAX_TESTS, Tests};
 use std::alloc::{AllocError, Global};
 use std::sync::Wait;
+use std::thread;
 use std::thread::Threads;
 use workers::{Gate, RunFault, Verdicts, check_pieces_of, check_workers, count_in};
 
@@ -106,7 +107,8 @@ fn tests_of(alloc: Global, tests: &Tests, window: Window) -> Result<Tests, RunFa
     ensures width { IfOk result (λ some. some.width ≡ tests.now.width) }
     ensures refused { IfErr result (λ fault. fault ≡ RunFault.Memory) }
 {
-    let mut words = Vec::new(alloc);
+    let blocks = window.end.saturating_sub(window.from) as usize;
+    let mut words = Vec::with_capacity(alloc, blocks.saturating_mul(tests.width() as usize))?;
     for block in window.from..window.end {
         words = add_block(words, tests, block)?;
     }
@@ -242,6 +244,36 @@ fn forget_tests(alloc: Global, job: &mut Job) -> Result<(), AllocError>
     Ok(())
 }
 
+/// Returns the tests of a window, and has a job forget those of the window before at the same time,
+/// if there is a second worker.
+fn turn_to<R: Threads + Wait>(
+    rt: &R,
+    alloc: Global,
+    job: &mut Job,
+    tests: &Tests,
+    window: Window,
+    workers: u32,
+) -> Result<Tests, RunFault>
+    requires list { IsTestList tests.now }
+    requires window { (first : ℕ) × GoesOnFrom (blocks (length tests.now.tests)) first window }
+    ensures tests { IfOk result (λ some.
+        IsWindowOf tests.now.tests (64 * window.from) (64 * window.end) some.tests) }
+    ensures list { IfOk result (λ some. IsTestList some) }
+    ensures width { IfOk result (λ some. some.width ≡ tests.now.width) }
+    ensures refused { IfErr result (λ fault. fault ≡ RunFault.Memory) }
+    ensures kept { job.new ≡ with_tests job.old job.new.tests }
+{
+    if workers < 2 {
+        forget_tests(alloc, job)?;
+        return tests_of(alloc, tests, window);
+    }
+    let mut cut = move || tests_of(alloc, tests, window);
+    let mut forget = || forget_tests(alloc, job);
+    let (some, forgotten) = thread::join_mut(rt, &mut cut, &mut forget);
+    forgotten?;
+    some
+}
+
 /// Gives a job the tests of a window. It forgets those of the window before first, so that the job
 /// has the fault-free words of one window at a time.
 fn take_window<R: Threads + Wait>(
@@ -260,8 +292,7 @@ fn take_window<R: Threads + Wait>(
     ensures refused { IfErr result (λ fault. fault ≡ RunFault.Memory) }
     ensures kept { job.new ≡ with_tests job.old job.new.tests }
 {
-    forget_tests(alloc, job)?;
-    let some = tests_of(alloc, tests, window)?;
+    let some = turn_to(rt, alloc, job, tests, window, workers)?;
     job.set_tests_of_any_size_in_threads(rt, alloc, some, workers)?;
     Ok(())
 }
