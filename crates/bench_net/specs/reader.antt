@@ -1,3 +1,2 @@
 pub mod Parsed
 pub mod Entries
-pub mod Stretches

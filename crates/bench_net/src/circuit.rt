@@ -8,16 +8,15 @@ ghost use Rattle.bench_net.specs.Scan.{sources, sinks};
 ghost use Rattle.bench_net.specs.Circuit.{IsCircuit};
 ghost use Rattle.bench_net.specs.Level.{HasLevel, HasDepth, IsLevelOrder};
 ghost use Rattle.bench_net.specs.Stored.{statements_of, AreStatements, AreRefused};
+ghost use Rattle.bench_net.specs.Inside.{IsInside};
 
 use crate::line::{NumberedLine, line_of};
 use crate::name_table::NameTable;
 use crate::read::Lines;
-use crate::tables::{Tables, tables_of, tables_of_in_threads};
+use crate::tables::{Tables, tables_of};
 use crate::{BenchFault, GateLine, ScanCell, Sink};
 use std::alloc::Global;
 use std::marker::Model;
-use std::sync::Wait;
-use std::thread::Threads;
 
 /// A circuit, seen by contracts as its statement list.
 #[derive(Drop)]
@@ -44,6 +43,18 @@ impl Model for Circuit {
 }
 
 impl Circuit {
+    /// Returns the circuit of names and lines, given its tables.
+    pub fn with_tables(names: NameTable, lines: Vec<NumberedLine>, tables: Tables) -> Circuit
+        requires { IsInside (statements_of names lines.items) names lines.items tables }
+        ensures { result ≡ statements_of names lines.items }
+    {
+        Circuit {
+            names,
+            lines,
+            tables,
+        }
+    }
+
     /// Returns the number of signals. Signals are numbered from 0 in the order of the lines that
     /// define them.
     pub fn signals(&self) -> u32
@@ -150,7 +161,7 @@ impl Circuit {
 
 /// Makes the circuit of numbered statements. It fails if there are no lines, or if a gate is on a
 /// cycle of gates or fed by one: with the number of the lowest such line.
-pub fn circuit_of(alloc: Global, lines: Lines) -> Result<Circuit, BenchFault>
+pub(crate) fn circuit_of(alloc: Global, lines: Lines) -> Result<Circuit, BenchFault>
     requires { AreStatements lines.names lines.lines.items lines.at.items }
     ensures accepted { IfOk result (λ c.
         (c ≡ statements_of lines.names lines.lines.items) × IsCircuit c) }
@@ -162,31 +173,6 @@ pub fn circuit_of(alloc: Global, lines: Lines) -> Result<Circuit, BenchFault>
         return Err(BenchFault::Empty);
     }
     let tables = tables_of(alloc, &lines, &at)?;
-    Ok(Circuit {
-        names,
-        lines,
-        tables,
-    })
-}
-
-/// Makes the circuit of numbered statements as [`circuit_of`] does, with the same errors, in two
-/// threads.
-pub fn circuit_of_in_threads<R: Threads + Wait>(
-    rt: &R,
-    alloc: Global,
-    lines: Lines,
-) -> Result<Circuit, BenchFault>
-    requires { AreStatements lines.names lines.lines.items lines.at.items }
-    ensures accepted { IfOk result (λ c.
-        (c ≡ statements_of lines.names lines.lines.items) × IsCircuit c) }
-    ensures refused { IfErr result (λ fault. (fault ≡ BenchFault.Memory)
-        ⊎ AreRefused lines.names lines.lines.items lines.at.items fault) }
-{
-    let Lines { names, lines, at } = lines;
-    if lines.is_empty() {
-        return Err(BenchFault::Empty);
-    }
-    let tables = tables_of_in_threads(rt, alloc, &lines, &at)?;
     Ok(Circuit {
         names,
         lines,

@@ -15,14 +15,14 @@ pub enum NumberedLine {
 }
 
 /// Returns whether a line defines a signal: every line but an OUTPUT line does.
-pub fn defines(line: &NumberedLine) -> bool
+pub(crate) fn defines(line: &NumberedLine) -> bool
     ensures { result ≡ defines_number line.now }
 {
     !matches!(line, NumberedLine::Output(_))
 }
 
 /// Returns the line that defines a signal, given the place of each signal's line.
-pub fn line_of<'a>(
+pub(crate) fn line_of<'a>(
     lines: &'a [NumberedLine],
     definitions: &[usize],
     signal: u32,

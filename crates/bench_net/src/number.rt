@@ -69,7 +69,10 @@ pub fn add_names<'a>(names: &mut Names<'a>, stated: &[StatedLine<'a>]) -> Result
 }
 
 /// Numbers the defined names in the order of their lines.
-pub fn number_names<'a>(alloc: Global, stated: &[StatedLine<'a>]) -> Result<Names<'a>, BenchFault>
+pub(crate) fn number_names<'a>(
+    alloc: Global,
+    stated: &[StatedLine<'a>],
+) -> Result<Names<'a>, BenchFault>
     ensures numbered { IfOk result (λ names. names_of names.keys ≡ names_in stated.now) }
     ensures once { IfOk result (λ names. AllPairs (λ m n. m ≢ n) (names_in stated.now)) }
     ensures refused { IfErr result (MayBeOf stated.now) }
@@ -151,7 +154,7 @@ fn number_line(
 }
 
 /// Returns the number of names that a statement defines.
-pub fn defined_count(statement: &Stated) -> u32
+pub(crate) fn defined_count(statement: &Stated) -> u32
     ensures { result ≡ length (defined (stands_for statement.now)) }
 {
     u32::from(defined(statement).is_some())

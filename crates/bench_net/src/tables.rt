@@ -12,9 +12,6 @@ use crate::line::{NumberedLine, defines};
 use crate::sinks::{SinkRows, readers_of, sink_rows};
 use crate::{BenchFault, ScanCell};
 use std::alloc::{AllocError, Global};
-use std::sync::Wait;
-use std::thread;
-use std::thread::Threads;
 
 /// The tables of a circuit.
 #[derive(Drop)]
@@ -45,7 +42,7 @@ pub struct LineTables {
 }
 
 /// Returns the signals of the INPUT lines, in order.
-pub fn input_signals(alloc: Global, lines: &[NumberedLine]) -> Result<Vec<u32>, AllocError>
+pub(crate) fn input_signals(alloc: Global, lines: &[NumberedLine]) -> Result<Vec<u32>, AllocError>
     ensures { IfOk result (λ v. v.items ≡ filter_map input_number lines.now) }
 {
     lines
@@ -58,7 +55,7 @@ pub fn input_signals(alloc: Global, lines: &[NumberedLine]) -> Result<Vec<u32>, 
 }
 
 /// Returns the signals of the OUTPUT lines, in order.
-pub fn output_signals(alloc: Global, lines: &[NumberedLine]) -> Result<Vec<u32>, AllocError>
+pub(crate) fn output_signals(alloc: Global, lines: &[NumberedLine]) -> Result<Vec<u32>, AllocError>
     ensures { IfOk result (λ v. v.items ≡ filter_map output_number lines.now) }
 {
     lines
@@ -71,7 +68,7 @@ pub fn output_signals(alloc: Global, lines: &[NumberedLine]) -> Result<Vec<u32>,
 }
 
 /// Returns the flip-flop cells, in order.
-pub fn cells(alloc: Global, lines: &[NumberedLine]) -> Result<Vec<ScanCell>, AllocError>
+pub(crate) fn cells(alloc: Global, lines: &[NumberedLine]) -> Result<Vec<ScanCell>, AllocError>
     ensures { IfOk result (λ v. v.items ≡ filter_map cell_numbers lines.now) }
 {
     lines
@@ -84,7 +81,7 @@ pub fn cells(alloc: Global, lines: &[NumberedLine]) -> Result<Vec<ScanCell>, All
 }
 
 /// Returns for each signal the place, among all lines, of the line that defines it.
-pub fn definitions(alloc: Global, lines: &[NumberedLine]) -> Result<Vec<usize>, AllocError>
+pub(crate) fn definitions(alloc: Global, lines: &[NumberedLine]) -> Result<Vec<usize>, AllocError>
     ensures { IfOk result (λ places. places.items ≡ definition_places lines.now) }
 {
     lines
@@ -96,7 +93,11 @@ pub fn definitions(alloc: Global, lines: &[NumberedLine]) -> Result<Vec<usize>, 
 
 /// Returns the signals that take a bit of a test, in the order of the bits: inputs, then the cells'
 /// q.
-pub fn sources(alloc: Global, inputs: &[u32], cells: &[ScanCell]) -> Result<Vec<u32>, AllocError>
+pub(crate) fn sources(
+    alloc: Global,
+    inputs: &[u32],
+    cells: &[ScanCell],
+) -> Result<Vec<u32>, AllocError>
     ensures { IfOk result (λ sources.
         sources.items ≡ inputs.now ++ map (λ cell. cell.q) cells.now) }
 {
@@ -108,7 +109,7 @@ pub fn sources(alloc: Global, inputs: &[u32], cells: &[ScanCell]) -> Result<Vec<
 }
 
 /// Returns for each signal its place in a test, if it is a source.
-pub fn source_places(
+pub(crate) fn source_places(
     alloc: Global,
     sources: &[u32],
     signals: usize,
@@ -126,7 +127,7 @@ pub fn source_places(
 }
 
 /// Returns the tables that passes over the lines compute.
-fn line_tables(alloc: Global, lines: &[NumberedLine]) -> Result<LineTables, AllocError>
+pub fn line_tables(alloc: Global, lines: &[NumberedLine]) -> Result<LineTables, AllocError>
     requires { AreTableLines lines.now }
     ensures { IfOk result (AreLineTables lines.now) }
 {
@@ -151,22 +152,7 @@ fn line_tables(alloc: Global, lines: &[NumberedLine]) -> Result<LineTables, Allo
 
 /// Returns the tables of lines, given the number of each signal's line. It fails if a signal is on
 /// a cycle of gates or fed by one, with the lowest such line by its number.
-pub fn tables_of(alloc: Global, lines: &[NumberedLine], at: &[u64]) -> Result<Tables, BenchFault>
-    requires lines { AreTableLines lines.now }
-    requires at { length at.now ≡ signals_in lines.now }
-    ensures tables { IfOk result (AreTables lines.now) }
-    ensures fault { IfErr result
-        (IsLevelFault (gate_pins lines.now) (signals_in lines.now) at.now) }
-{
-    let of_lines = line_tables(alloc, lines)?;
-    let levels = levels_of(alloc, lines, at)?;
-    Ok(Tables { of_lines, levels })
-}
-
-/// Returns the tables of lines as [`tables_of`] does, with the same errors. One thread finds the
-/// levels while another one makes the other tables.
-pub fn tables_of_in_threads<R: Threads + Wait>(
-    rt: &R,
+pub(crate) fn tables_of(
     alloc: Global,
     lines: &[NumberedLine],
     at: &[u64],
@@ -177,12 +163,7 @@ pub fn tables_of_in_threads<R: Threads + Wait>(
     ensures fault { IfErr result
         (IsLevelFault (gate_pins lines.now) (signals_in lines.now) at.now) }
 {
-    let (of_lines, levels) = thread::join(
-        rt,
-        move || line_tables(alloc, lines),
-        move || levels_of(alloc, lines, at),
-    );
-    let of_lines = of_lines?;
-    let levels = levels?;
+    let of_lines = line_tables(alloc, lines)?;
+    let levels = levels_of(alloc, lines, at)?;
     Ok(Tables { of_lines, levels })
 }

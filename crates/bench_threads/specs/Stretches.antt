@@ -1,0 +1,69 @@
+-- The statements of a part of a file's lines, as a thread returns them.
+use Rattle.std.specs.Prelude.{◌≡◌, ℕ, ◌+◌, ◌≤◌, List, map, filter, flat_map, take}
+use Rattle.std.specs.Prelude.{Result, Some, IfOk, slice_get, count_by}
+use Rattle.std.specs.List.{All, slice_range}
+use Rattle.text_lines.specs.Lines.{lines, ends_line}
+use Rattle.text_lines.specs.Starts.{IsLineStart}
+use Rattle.bench_net.specs.declared.BenchFault.{BenchFault}
+use Rattle.bench_threads.specs.declared.stretch.Stretch.{Stretch}
+use Rattle.bench_threads.specs.declared.stretch.Numbered.{Numbered}
+use Rattle.bench_net.specs.declared.number.StatedLine.{StatedLine}
+use Rattle.bench_net.specs.Statement.{Name, defines}
+use Rattle.bench_net.specs.reader.Parsed.{stands_for}
+use Rattle.bench_net.specs.reader.Entries.{AreStatedFrom, AreNumberedLines, AreCounts, entries_of}
+use Rattle.bench_net.specs.reader.Entries.{names_in, reads_in}
+
+-- the number of the line that begins at a place, from 1
+abbrev pub line_at : List ℕ → ℕ → ℕ
+line_at text place = 1 + count_by ends_line (take place text)
+
+-- the statements of the file from one place to another, at which a line begins
+pub record AreStatedBetween (text : List ℕ) (start end : ℕ) (stated : List StatedLine) : Type 0
+  where
+    pub order : start ≤ end
+    pub until : IsLineStart text end
+    pub are : AreStatedFrom (line_at text start) (lines (slice_range text start end))
+        (entries_of stated)
+
+-- the numbers of a stretch are those of its names
+abbrev pub IsCounted : Stretch → Type 0
+IsCounted own = AreCounts (names_in own.stated.items) (reads_in own.stated.items) own.counts
+
+abbrev pub AreCounted : List Stretch → Type 0
+AreCounted stretches = All IsCounted stretches
+
+-- the result of a thread has such statements, and their numbers, unless its lines have an error
+abbrev pub HasStretch : List ℕ → Result Stretch BenchFault → Type 0
+HasStretch text part =
+    IfOk part (λ own. AreStatedBetween text own.start own.end own.stated.items × IsCounted own)
+
+-- each of several results has such statements
+abbrev pub HaveStretches : List ℕ → List (Result Stretch BenchFault) → Type 0
+HaveStretches text parts = (i : ℕ) (part : Result Stretch BenchFault)
+    → slice_get parts i ≡ Some part → HasStretch text part
+
+-- the statements of stretches, one after another
+abbrev pub joined : List Stretch → List StatedLine
+joined stretches = flat_map (λ own. own.stated.items) stretches
+
+-- the numbers of the lines that define a name
+abbrev pub line_numbers_in : List StatedLine → List ℕ
+line_numbers_in stated =
+    map (λ line. line.number) (filter (λ line. defines (stands_for line.statement)) stated)
+
+-- the lines over numbers of the stretch at a place
+pub record AreOfStretch (ns : List Name) (stretches : List Stretch) (place : ℕ) (own : Numbered)
+    : Type 0 where
+  pub stretch : Stretch
+  pub is : slice_get stretches place ≡ Some stretch
+  pub numbered : AreNumberedLines ns stretch.stated.items own.lines.items
+  pub at : own.at.items ≡ line_numbers_in stretch.stated.items
+
+-- the result of a thread has such lines, unless they have an error
+abbrev pub HasNumbered : List Name → List Stretch → ℕ → Result Numbered BenchFault → Type 0
+HasNumbered ns stretches place part = IfOk part (AreOfStretch ns stretches place)
+
+-- the results for the first stretches, in order
+abbrev pub HaveNumbered : List Name → List Stretch → List (Result Numbered BenchFault) → Type 0
+HaveNumbered ns stretches parts = (i : ℕ) (part : Result Numbered BenchFault)
+    → slice_get parts i ≡ Some part → HasNumbered ns stretches i part
