@@ -44,7 +44,7 @@ PARTS = {"picosoc16k": 8, "r100k64k": 32}
 
 # The functions whose first sample begins a phase. Those of no phase belong to the one before.
 PHASES = {
-    "read bench": r"bench_net::",
+    "read bench": r"bench_(net|threads)::",
     "read tests": r"patterns::(test_text|octet|in_threads|in_pieces|read_tests)|patterns::word_rows::\w*add",
     "faults and classes": r"fault_model::(classes|faults)::",
     "rows": r"block_sim::(flat::FlatCircuit::new|flat::lists_of|flat::add_|signal_order|order_walk|live|signal_places|gate_form)",

@@ -9,7 +9,8 @@ ghost use Rattle.job_loading.specs.Jobs.{AreTestsFor};
 use crate::texts::{
     BYTES_OF_A_SOURCE, WORKERS_APART, is_long, is_very_long, make_any_job_in_threads,
 };
-use bench_net::{Circuit, read_bench, read_bench_in_threads};
+use bench_net::{Circuit, read_bench};
+use bench_threads::read_bench_in_threads;
 use block_sim::Job;
 use fault_model::Model;
 use patterns::{Tests, read_tests_in_pieces};

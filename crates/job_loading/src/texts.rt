@@ -12,7 +12,8 @@ ghost use Rattle.job_loading.specs.Jobs.{IsGuessOf, IsPiecesFault, IsReadFault};
 
 use crate::fault::SimFault;
 use crate::run_job::{RunJob, make_run_in_threads};
-use bench_net::{BenchFault, Circuit, read_bench, read_bench_in_threads};
+use bench_net::{BenchFault, Circuit, read_bench};
+use bench_threads::read_bench_in_threads;
 use block_sim::Job;
 use fault_model::{Model, collapse, list_faults_in};
 use patterns::{TestFault, Tests, read_tests, read_tests_in_threads};
