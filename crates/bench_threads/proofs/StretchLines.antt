@@ -11,7 +11,6 @@ use Rattle.std.proofs.lemmas.List.Elements.{All-append, All-get_or, filter-appen
 use Rattle.text_lines.specs.Lines.{lines}
 use Rattle.text_lines.specs.Starts.{IsLineStart}
 use Rattle.text_lines.proofs.Public.{lines-cut}
-use Rattle.bench_threads.specs.declared.stretch.Stretch.{Stretch}
 use Rattle.bench_net.specs.declared.line.NumberedLine.{NumberedLine}
 use Rattle.bench_net.specs.declared.number.StatedLine.{StatedLine}
 use Rattle.bench_net.specs.Statement.{Name, Statement, defines}
@@ -21,9 +20,10 @@ use Rattle.bench_net.specs.reader.Parsed.{stands_for}
 use Rattle.bench_net.specs.reader.Entries.{AreNamesFrom, AreNumberedLines, AreStated, AreStatedFrom}
 use Rattle.bench_net.specs.reader.Entries.{Entry, defined_of, entries_of, entry_of, names_in}
 use Rattle.bench_net.specs.reader.Entries.{numbered_from, reads_in, read_of, statements_in}
+use Rattle.bench_net.proofs.Public.{complete_states, sound_states}
+use Rattle.bench_threads.specs.declared.stretch.Stretch.{Stretch}
 use Rattle.bench_threads.specs.Stretches.{AreCounted, AreStatedBetween, IsCounted, joined}
 use Rattle.bench_threads.specs.Stretches.{line_at, line_numbers_in}
-use Rattle.bench_net.proofs.Public.{complete_states, sound_states}
 
 -- ---- the statements of a text that is cut
 

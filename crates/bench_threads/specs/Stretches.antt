@@ -5,13 +5,13 @@ use Rattle.std.specs.List.{All, slice_range}
 use Rattle.text_lines.specs.Lines.{lines, ends_line}
 use Rattle.text_lines.specs.Starts.{IsLineStart}
 use Rattle.bench_net.specs.declared.BenchFault.{BenchFault}
-use Rattle.bench_threads.specs.declared.stretch.Stretch.{Stretch}
-use Rattle.bench_threads.specs.declared.stretch.Numbered.{Numbered}
 use Rattle.bench_net.specs.declared.number.StatedLine.{StatedLine}
 use Rattle.bench_net.specs.Statement.{Name, defines}
 use Rattle.bench_net.specs.reader.Parsed.{stands_for}
 use Rattle.bench_net.specs.reader.Entries.{AreStatedFrom, AreNumberedLines, AreCounts, entries_of}
 use Rattle.bench_net.specs.reader.Entries.{names_in, reads_in}
+use Rattle.bench_threads.specs.declared.stretch.Stretch.{Stretch}
+use Rattle.bench_threads.specs.declared.stretch.Numbered.{Numbered}
 
 -- the number of the line that begins at a place, from 1
 abbrev pub line_at : List ℕ → ℕ → ℕ

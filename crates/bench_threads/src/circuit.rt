@@ -17,8 +17,9 @@ use std::sync::Wait;
 use std::thread;
 use std::thread::Threads;
 
-/// Returns the tables of lines as `tables_of` of [`bench_net::tables`] does, with the same errors.
-/// One thread finds the levels while another one makes the other tables.
+/// Returns the tables of lines, given the number of each signal's line. One thread finds the levels
+/// while another one makes the other tables. It fails if a signal is on a cycle of gates or fed by
+/// one, with the lowest such line by its number.
 fn tables_of_in_threads<R: Threads + Wait>(
     rt: &R,
     alloc: Global,
@@ -41,8 +42,8 @@ fn tables_of_in_threads<R: Threads + Wait>(
     Ok(Tables { of_lines, levels })
 }
 
-/// Makes the circuit of numbered statements as `circuit_of` of [`bench_net::circuit`] does, with the
-/// same errors, in two threads.
+/// Makes the circuit of numbered statements as [`bench_net::read_bench`] does, with the same errors,
+/// in two threads.
 pub fn circuit_of_in_threads<R: Threads + Wait>(
     rt: &R,
     alloc: Global,

@@ -308,8 +308,8 @@ fn number_stretch(alloc: Global, file: &File, place: usize) -> Result<Numbered, 
 /// contract.
 trait StretchedFile {
     ghost use Rattle.std.specs.Prelude.{List};
-    ghost use Rattle.bench_threads.specs.declared.stretch.Stretch.{Stretch};
     ghost use Rattle.bench_net.specs.Statement.{Name};
+    ghost use Rattle.bench_threads.specs.declared.stretch.Stretch.{Stretch};
 
     /// The names that the stretches define.
     ghost names: { Self → List Name };
