@@ -1,5 +1,5 @@
 use Rattle.std.proofs.lemmas.Result.{err_from_is_err_and}
-use Rattle.std.proofs.Common.{◌∙◌, sym, ◌≡◌, ◌∙◌, List, arith, ap, refl, [], length}
+use Rattle.std.proofs.Common.{◌∙◌, sym, ◌≡◌, ◌∙◌, List, arith, ap, [], length}
 use Rattle.std.specs.Prelude.{false, ◌==◌, vec_len}
 use Rattle.std.proofs.lemmas.Bool.{false≢true, eq-eqb}
 use Rattle.bench_net.specs.declared.read.Lines.{Lines}
