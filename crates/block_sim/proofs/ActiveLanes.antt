@@ -17,11 +17,10 @@ use Rattle.fault_model.specs.Solution.{Test}
 use Rattle.fault_model.specs.Detection.{HasBit, LooksBack}
 use Rattle.fault_model.proofs.Public.{listed_model}
 use Rattle.block_sim.specs.Activation.{ActivatesAt}
-use Rattle.block_sim.specs.Origins.{IsStuckOf}
+use Rattle.flat_circuit.specs.Origins.{IsStuckOf}
 use Rattle.block_sim.specs.Parts.{BelongTogether, Parts}
-use Rattle.block_sim.specs.Words.{lane, test_of}
-use Rattle.block_sim.proofs.ListPlaces.{index_of}
-use Rattle.block_sim.proofs.Steps.{lane_of_zero, lanes_decide}
+use Rattle.flat_circuit.specs.Words.{lane, test_of}
+use Rattle.flat_circuit.proofs.Public.{index_of, lane_of_zero, lanes_decide}
 
 -- the lanes below the size of a group are the lanes of tests of the list
 pub listed_lanes : (count group size low k : ℕ) → 128 * group < count

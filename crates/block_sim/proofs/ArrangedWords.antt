@@ -1,74 +1,29 @@
 -- The facts in words in another order are true of the original circuit.
-use Rattle.std.proofs.Common.{◌≡◌, ◌+◌, ◌*◌, ℕ, sym, ◌∙◌, ap, subst, Bool, List, []}
+use Rattle.std.proofs.Common.{◌≡◌, ◌+◌, ◌*◌, ℕ, sym, ◌∙◌, ap, Bool, List, []}
 use Rattle.std.proofs.Common.{◌∷◌, refl, inl, inr, length}
 use Rattle.std.specs.Prelude.{Contains, None, Some, map, slice_index_or}
 use Rattle.bench_net.specs.declared.Sink.{Sink}
 use Rattle.bench_net.specs.Statement.{Name, Statement}
 use Rattle.bench_net.specs.Scan.{names, observers, signal}
-use Rattle.bench_net.specs.Circuit.{IsCircuit, IsWellFormed}
+use Rattle.bench_net.specs.Circuit.{IsWellFormed}
 use Rattle.patterns.specs.Tests.{TestList}
-use Rattle.fault_model.specs.declared.Model.{Model}
-use Rattle.fault_model.specs.Detection.{name_on}
-use Rattle.fault_model.specs.Fault.{Fault, faults}
+use Rattle.fault_model.specs.Fault.{Fault}
 use Rattle.fault_model.specs.Solution.{Solves, Test, shows}
-use Rattle.fault_model.specs.Reordered.{moved_fault, moved_line, place}
-use Rattle.fault_model.proofs.Public.{carries, circuit_reordered}
-use Rattle.fault_model.proofs.Public.{detected_same_at, looks_back_same, same_sinks, solved_same}
+use Rattle.fault_model.specs.Reordered.{moved_fault, place}
+use Rattle.fault_model.proofs.Public.{detected_same_at, looks_back_same, solved_same}
 use Rattle.list_lemmas.proofs.Members.{Among}
-use Rattle.block_sim.specs.declared.origin.Origin.{Origin}
-use Rattle.block_sim.specs.declared.words.Stuck.{Stuck}
-use Rattle.block_sim.specs.Arranged.{IsArranged}
-use Rattle.block_sim.specs.Origins.{IsStuckOf, Starts}
-use Rattle.block_sim.specs.Stuck.{stuck_fault}
-use Rattle.block_sim.specs.Regions.{AreLanesFor}
+use Rattle.flat_circuit.specs.Arranged.{IsArranged}
+use Rattle.block_sim.specs.Flips.{AreLanesFor}
 use Rattle.block_sim.specs.First.{AreDetectingLanes}
-use Rattle.block_sim.specs.BlockSpans.{group_of}
-use Rattle.block_sim.specs.declared.block_span.BlockSpan.{BlockSpan}
+use Rattle.flat_circuit.specs.BlockSpans.{group_of}
+use Rattle.flat_circuit.specs.declared.block_span.BlockSpan.{BlockSpan}
 use Rattle.block_sim.specs.Propagation.{AreShown}
 use Rattle.block_sim.specs.Responses.{AreResponses}
-use Rattle.block_sim.specs.Words.{AreWords, IsFaultFreeWord}
+use Rattle.flat_circuit.specs.Words.{AreWords, IsFaultFreeWord}
 use Rattle.block_sim.proofs.EndOfPropagation.{told_of_shown}
-use Rattle.block_sim.proofs.ResponseRows.{observed_named}
-use Rattle.block_sim.proofs.ArrangedSignals.{reordered, signals_there, well_there}
-
-pub circuit_there : (c d : List Statement) → IsCircuit c → IsArranged c d → IsCircuit d
-circuit_there c d is arranged =
-    circuit_reordered c d (reordered c d is.well_formed arranged).statements is
-
--- a fault of the circuit is on a line that carries a name
-pub carried_name : (c : List Statement) (f : Fault) (stuck : Stuck) → IsWellFormed c
-    → IsStuckOf c f stuck → (n : Name) × (name_on c stuck.line ≡ Some n)
-carried_name c f stuck well stands =
-    let named = carries f.model c f well stands.listed in
-    let line : stuck.line ≡ f.line = ap (λ (x : Fault). x.line) stands.is in
-    (named.0, ap (name_on c) line ∙ named.1)
-
--- a fault that moves between lists of statements moves between equal lists
-pub moved_there : (c d own : List Statement) (f : Fault) (stuck moved : Stuck) → own ≡ c
-    → stuck_fault moved ≡ moved_fault own d (stuck_fault stuck) → stuck_fault stuck ≡ f
-    → stuck_fault moved ≡ moved_fault c d f
-moved_there c d own f stuck moved same is stands =
-    is ∙ (ap (λ x. moved_fault x d (stuck_fault stuck)) same ∙ ap (moved_fault c d) stands)
-
-pub starts_there : (c d own : List Statement) (stuck : Stuck) (origin : Origin) → own ≡ c
-    → ((f : Fault) → IsStuckOf own f stuck → Starts own d f origin)
-    → (f : Fault) → IsStuckOf c f stuck → Starts c d f origin
-starts_there c d own stuck origin same starts =
-    subst (λ x. (f : Fault) → IsStuckOf x f stuck → Starts x d f origin) same starts
+use Rattle.flat_circuit.proofs.Public.{observed_named, reordered, signals_there, well_there}
 
 module _ (c d : List Statement) (well : IsWellFormed c) (arranged : IsArranged c d) where
-  -- a fault of the list moves to a fault of the list of the second circuit
-  pub listed_there : (m : Model) (f : Fault) → Contains (faults m c) f
-      → Contains (faults m d) (moved_fault c d f)
-  listed_there m f listed =
-      (same_sinks c d well (reordered c d well arranged)).listed m f listed
-
-  -- and its line carries a name in the second circuit
-  pub carries_there : (m : Model) (f : Fault) → Contains (faults m c) f
-      → (n : Name) × (name_on d (moved_line c d f.line) ≡ Some n) × Contains (names d) n
-  carries_there m f listed =
-      carries m d (moved_fault c d f) (well_there c d well arranged) (listed_there m f listed)
-
   solved : (t : Test) (v : Name → Bool) → Solves c t None v → Solves d t None v
   solved t v h = (solved_same c d well (reordered c d well arranged) t None v).0 h
 
@@ -131,18 +86,3 @@ module _ (c d : List Statement) (well : IsWellFormed c) (arranged : IsArranged c
         clear = λ k lt own none still at. detection.clear k lt own none still
             ((detected_same_at c d well same tests f (128 * group_of span + k)).0 at);
       }
-
--- the signal of the line, and its number in the second circuit
-pub carried_is : (c d : List Statement) (f : Fault) (origin : Origin) → IsWellFormed c
-    → IsArranged c d → Starts c d f origin
-    → (n : Name) × (name_on d (moved_line c d f.line) ≡ Some n) × Contains (names d) n
-    × (origin.carried ≡ signal d n)
-carried_is c d f origin well arranged starts =
-    let named = carries_there c d well arranged f.model f starts.listed in
-    let line : origin.fault.line ≡ moved_line c d f.line =
-    ap (λ (x : Fault). x.line) starts.moved in (
-      named.0,
-      named.1,
-      named.2,
-      starts.carried named.0 (ap (name_on d) line ∙ named.1),
-    )

@@ -15,12 +15,12 @@ use Rattle.fault_model.specs.Fault.{branch}
 use Rattle.fault_model.specs.Solution.{Test, Solves, shows}
 use Rattle.fault_model.proofs.Public.{detection_is_of_any_solution, has_solutions}
 use Rattle.fault_model.proofs.Public.{under_other, observes}
-use Rattle.block_sim.specs.Events.{IsLive, observed, through}
-use Rattle.block_sim.specs.Regions.{DetectsFlip, IsStem, LeadsTo, flip, here, lone_reader, onward}
+use Rattle.flat_circuit.specs.Readers.{IsLive, observed, through}
+use Rattle.flat_circuit.specs.Regions.{IsStem, LeadsTo, here, lone_reader, onward}
+use Rattle.block_sim.specs.Flips.{DetectsFlip, flip}
 use Rattle.block_sim.proofs.EnteredGates.{IsFree, same_where}
-use Rattle.block_sim.proofs.OnePin.{pin_law}
-use Rattle.block_sim.proofs.LevelsRise.{has_level, level_at, level_is, reads_rise}
-use Rattle.block_sim.proofs.Stems.{lone_within}
+use Rattle.flat_circuit.proofs.Public.{pin_law, has_level, level_at, level_is, reads_rise}
+use Rattle.flat_circuit.proofs.Public.{lone_within}
 
 -- one gate further
 pub leads_further : (c : List Statement) {s r : ℕ} (g : ℕ) → LeadsTo c s r

@@ -11,10 +11,11 @@ use Rattle.bench_net.specs.Scan.{signal, gate_of}
 use Rattle.bench_net.specs.Circuit.{IsWellFormed}
 use Rattle.fault_model.specs.Fault.{Fault}
 use Rattle.fault_model.specs.Solution.{Test, Solves, value}
-use Rattle.block_sim.specs.Words.{lane, lane_bits, pin_bits, test_of, AreWords}
-use Rattle.block_sim.specs.Events.{bits_of, HasEquation, Reads, IsElsewhere, IsLive, AreScheduled}
+use Rattle.flat_circuit.specs.Words.{lane, lane_bits, pin_bits, test_of, AreWords}
+use Rattle.flat_circuit.specs.Readers.{Reads, IsLive}
+use Rattle.block_sim.specs.Events.{bits_of, HasEquation, IsElsewhere, AreScheduled}
 use Rattle.block_sim.specs.Propagation.{IsBalanced}
-use Rattle.block_sim.proofs.WordsToSolutions.{lane_same}
+use Rattle.flat_circuit.proofs.Public.{lane_same}
 use Rattle.block_sim.proofs.SignalEquations.{each_equation, all_equations, equation_same}
 use Rattle.block_sim.proofs.SignalEquations.{equation_elsewhere, equation_kept, equation_here}
 use Rattle.block_sim.proofs.SignalEquations.{word_other}

@@ -18,9 +18,8 @@ use Rattle.fault_model.proofs.Public.{agree}
 use Rattle.bench_net.proofs.Public.{signal-name_of}
 use Rattle.list_lemmas.proofs.Members.{contained}
 use Rattle.list_lemmas.proofs.Places.{at_place, within_place}
-use Rattle.block_sim.proofs.ListPlaces.{index_of}
-use Rattle.block_sim.specs.Words.{lane, lane_bits, test_of, AreWords, IsFaultFreeWord}
-use Rattle.block_sim.proofs.Lanes.{lane_and, lane_not, lane_ones}
+use Rattle.flat_circuit.proofs.Public.{index_of, lane_and, lane_not, lane_ones}
+use Rattle.flat_circuit.specs.Words.{lane, lane_bits, test_of, AreWords, IsFaultFreeWord}
 
 pub lane_has_bit : (c : List Statement) (tests : List Test) (group k : ℕ) (row : List ℕ) (l : Line)
     (n : Name) (bit : Bool) → IsWellFormed c → AreWords c tests group None row → k < 128

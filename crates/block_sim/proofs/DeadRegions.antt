@@ -13,22 +13,21 @@ use Rattle.fault_model.specs.Fault.{Fault, faults}
 use Rattle.fault_model.specs.Reordered.{place}
 use Rattle.fault_model.specs.Solution.{Detects, Test}
 use Rattle.fault_model.proofs.Public.{carries}
-use Rattle.block_sim.specs.declared.block_span.BlockSpan.{BlockSpan}
-use Rattle.block_sim.specs.declared.origin.ListedClass.{ListedClass}
-use Rattle.block_sim.specs.Arranged.{IsArranged}
-use Rattle.block_sim.specs.Events.{IsLive}
-use Rattle.block_sim.specs.Origins.{IsListed}
+use Rattle.flat_circuit.specs.declared.block_span.BlockSpan.{BlockSpan}
+use Rattle.flat_circuit.specs.declared.origin.ListedClass.{ListedClass}
+use Rattle.flat_circuit.specs.Arranged.{IsArranged}
+use Rattle.flat_circuit.specs.Readers.{IsLive}
+use Rattle.block_sim.specs.Listed.{IsListed}
 use Rattle.block_sim.specs.Parts.{BelongTogether, Parts}
 use Rattle.block_sim.specs.First.{IsFirstOn}
-use Rattle.block_sim.specs.Regions.{DetectsFlip, IsStemOfLine, RunsTo, start_of, way_from}
-use Rattle.block_sim.proofs.ArrangedSignals.{reordered}
-use Rattle.block_sim.proofs.ArrangedWords.{circuit_there}
+use Rattle.flat_circuit.specs.Regions.{IsStemOfLine, RunsTo, way_from}
+use Rattle.block_sim.specs.Flips.{DetectsFlip, start_of}
+use Rattle.flat_circuit.proofs.Public.{reordered, circuit_there, data_observed, output_observed}
+use Rattle.flat_circuit.proofs.Public.{lead_law}
 use Rattle.block_sim.proofs.Arrivals.{dead_flip}
-use Rattle.block_sim.proofs.FaultStart.{data_observed, output_observed}
 use Rattle.block_sim.proofs.ObservedStems.{observed_flip}
 use Rattle.block_sim.proofs.Regions.{fault_law, region_law}
 use Rattle.block_sim.proofs.ReorderedGates.{same_flips}
-use Rattle.block_sim.proofs.Stems.{lead_law}
 
 -- a test that doesn't detect the complemented stem detects no fault of its region
 pub dead_fault : (c : List Statement) → IsWellFormed c → (m : Model) (f : Fault) (t : Test)

@@ -13,13 +13,13 @@ use Rattle.fault_model.specs.Detection.{DetectsAt}
 use Rattle.patterns.specs.declared.Outcome.{Outcome}
 use Rattle.patterns.specs.declared.Outcome.TheVariants.{Clear, Hit}
 use Rattle.patterns.specs.Tests.{size_of}
-use Rattle.block_sim.specs.declared.block_span.BlockSpan.{BlockSpan}
+use Rattle.flat_circuit.specs.declared.block_span.BlockSpan.{BlockSpan}
 use Rattle.block_sim.specs.First.{AreDetectingLanes, IsOutcome}
-use Rattle.block_sim.specs.Regions.{AreLanesFor}
-use Rattle.block_sim.specs.BlockSpans.{AreInSpan, IsInSpan, group_of, one_block}
+use Rattle.block_sim.specs.Flips.{AreLanesFor}
+use Rattle.flat_circuit.specs.BlockSpans.{AreInSpan, IsInSpan, group_of, one_block}
 use Rattle.block_sim.specs.ActiveGates.{HasActive, HasActiveIn}
-use Rattle.block_sim.specs.Words.{lane, test_of, IsLeastLane}
-use Rattle.block_sim.proofs.ListPlaces.{index_of}
+use Rattle.flat_circuit.specs.Words.{lane, test_of, IsLeastLane}
+use Rattle.flat_circuit.proofs.Public.{index_of}
 
 module _ (c : List Statement) (tests : List Test) (span : BlockSpan) (f : Fault) (lanes word : ℕ)
     (decides : AreLanesFor tests span c f lanes) (settled : ℕ → Type 0)

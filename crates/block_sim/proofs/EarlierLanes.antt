@@ -5,8 +5,8 @@ use Rattle.std.specs.Prelude.{◌==◌, bit_or}
 use Rattle.std.specs.Int.{bit_at}
 use Rattle.std.proofs.lemmas.Nat.Bits.{bit_at-suc, bit_at_lowest, bit_at_above, bit_at_cat_low}
 use Rattle.std.proofs.lemmas.Nat.Bits.{bit_at_cat_high}
-use Rattle.block_sim.specs.Words.{lane}
-use Rattle.block_sim.proofs.Lanes.{lane_or}
+use Rattle.flat_circuit.specs.Words.{lane}
+use Rattle.flat_circuit.proofs.Public.{lane_or}
 
 -- a word one up has 0 in lane 0, and in the next its lane
 up_first : (w : ℕ) → lane (w * 2 % 2 ^ 128) 0 ≡ false

@@ -18,21 +18,20 @@ use Rattle.fault_model.specs.Solution.{Test, Solves, Detects, shows}
 use Rattle.fault_model.proofs.Public.{detection_is_of_any_solution, has_solutions, under_other}
 use Rattle.fault_model.proofs.Public.{observes}
 use Rattle.block_sim.specs.First.{AreDetectingLanes}
-use Rattle.block_sim.specs.Regions.{AreLanesFor}
+use Rattle.block_sim.specs.Flips.{AreLanesFor}
 use Rattle.block_sim.proofs.DetectingTests.{told_of_lanes}
-use Rattle.block_sim.specs.Words.{lane, lane_bits, test_of, AreWords}
+use Rattle.flat_circuit.specs.Words.{lane, lane_bits, test_of, AreWords}
 use Rattle.block_sim.specs.ActiveGates.{AreInGroup, IsActiveIn, IsActiveBy, HasActiveIn}
-use Rattle.block_sim.specs.BlockSpans.{group_of}
-use Rattle.block_sim.specs.declared.block_span.BlockSpan.{BlockSpan}
-use Rattle.block_sim.specs.Events.{bits_of, HasEquation, Reads, IsElsewhere, observed}
+use Rattle.flat_circuit.specs.BlockSpans.{group_of}
+use Rattle.flat_circuit.specs.declared.block_span.BlockSpan.{BlockSpan}
+use Rattle.flat_circuit.specs.Readers.{Reads, observed}
+use Rattle.block_sim.specs.Events.{bits_of, HasEquation, IsElsewhere}
 use Rattle.block_sim.specs.Propagation.{IsPropagating, IsBalanced, Counts, IsFirstChange, AreSeen}
 use Rattle.block_sim.specs.Propagation.{AreShown, IsApart, HasTouched}
-use Rattle.block_sim.proofs.Lanes.{lane_xor, lane_zero, unlike}
-use Rattle.block_sim.proofs.WordsToSolutions.{lane_same}
+use Rattle.flat_circuit.proofs.Public.{lane_xor, lane_zero, unlike, lane_same, index_of}
 use Rattle.block_sim.proofs.Balanced.{balanced_solves, fault_free_holds}
-use Rattle.block_sim.proofs.LiveSignals.{counts_closed}
+use Rattle.block_sim.proofs.CountedSignals.{counts_closed}
 use Rattle.block_sim.proofs.TrueBelowLevel.{right_by_now}
-use Rattle.block_sim.proofs.ListPlaces.{index_of}
 
 pub idle_of : (at : List ℕ) (g : ℕ) → (slice_index_or at g 0 ≢ 0 → ⊥) → slice_index_or at g 0 ≡ 0
 idle_of at g never = go (cases_eq (slice_index_or at g 0) 0)

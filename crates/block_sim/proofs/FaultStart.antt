@@ -1,7 +1,7 @@
 -- The start of a fault: the lanes in which it is excited, and the first change.
 use Rattle.std.proofs.Common.{◌≡◌, ◌≢◌, ◌<◌, ℕ, suc, ◌+◌, ◌*◌, refl, sym, ◌∙◌, ap, subst, Bool}
 use Rattle.std.proofs.Common.{true, false, List, [], ◌∷◌, length, map, set, arith, inl, inr, ◌⊎◌}
-use Rattle.std.specs.Prelude.{Contains, Option, Some, None, slice_get, slice_index_or, bit_and}
+use Rattle.std.specs.Prelude.{Contains, Some, None, slice_get, slice_index_or, bit_and}
 use Rattle.std.specs.Prelude.{bit_xor, option_map}
 use Rattle.std.specs.Bool.{Decides}
 use Rattle.std.specs.List.{enumerate_from}
@@ -14,10 +14,10 @@ use Rattle.bench_net.specs.Statement.{Name, Statement, Gate}
 use Rattle.bench_net.specs.Scan.{names, signal, definition, gate_of, sources, observers, outputs}
 use Rattle.bench_net.specs.Scan.{cells}
 use Rattle.bench_net.specs.Circuit.{IsWellFormed}
-use Rattle.list_lemmas.proofs.Members.{Among, among, contained, among_append, among_left}
-use Rattle.list_lemmas.proofs.Members.{among_right, among_map, mapped_from}
+use Rattle.list_lemmas.proofs.Members.{Among, among, contained, among_append}
+use Rattle.list_lemmas.proofs.Members.{mapped_from}
 use Rattle.bench_net.proofs.Public.{name_of-signal}
-use Rattle.list_lemmas.proofs.Places.{among_numbered, numbered_at, at_place, within_place}
+use Rattle.list_lemmas.proofs.Places.{numbered_at, at_place, within_place}
 use Rattle.fault_model.specs.declared.Line.{Line}
 use Rattle.fault_model.specs.declared.Line.TheVariants as line
 use Rattle.fault_model.specs.Detection.{argument, name_on}
@@ -25,13 +25,13 @@ use Rattle.fault_model.specs.Fault.{Fault, branch, same_line}
 use Rattle.fault_model.specs.Solution.{Test, Solves, sees, under, value}
 use Rattle.fault_model.proofs.Public.{has_solutions, same_lines, under_other, under_own, observes}
 use Rattle.fault_model.proofs.Public.{defined_among, definition-signal, source_named}
-use Rattle.block_sim.specs.Words.{lane, lane_bits, word_over, pin_bits, test_of, AreWords}
+use Rattle.flat_circuit.specs.Words.{lane, lane_bits, word_over, pin_bits, test_of, AreWords}
 use Rattle.block_sim.specs.ActiveGates.{AreInGroup, IsActiveIn, IsActiveBy}
-use Rattle.block_sim.specs.Events.{bits_of, Reads}
+use Rattle.flat_circuit.specs.Readers.{Reads}
+use Rattle.block_sim.specs.Events.{bits_of}
 use Rattle.block_sim.specs.Propagation.{AreShown, IsApart, IsFirstChange}
 use Rattle.block_sim.proofs.SignalEquations.{equation_of, word_other}
-use Rattle.block_sim.proofs.ListPlaces.{index_of}
-use Rattle.block_sim.proofs.Steps.{changed_to, turned_lanes}
+use Rattle.flat_circuit.proofs.Public.{index_of, changed_to, turned_lanes}
 
 -- a line that has the stuck bit anyway
 under_same : (f : Fault) (l : Line) (bit : Bool) → (f.line ≡ l → bit ≡ f.stuck)
@@ -63,46 +63,6 @@ observer_carries c o at = go (among_append
         let place : slice_get (cells c) p.0.0 ≡ Some p.0.1 = numbered_at (cells c) p.0 p.1 in
         let it : (sink.Data p.0.0, p.0.1.1) ≡ o = p.2 in
         subst (λ x. name_on c (branch x.0) ≡ Some x.1) it (ap (option_map (λ qd. qd.1)) place)
-
--- an observer's line that carries a name is the branch of an observer of it
-pub output_observed : (c : List Statement) (i : ℕ) (n : Name) → name_on c (line.Out i) ≡ Some n
-    → Contains (observers c) (sink.Out i, n)
-output_observed c i n e =
-    contained (observers c) (
-      sink.Out i,
-      n,
-    ) (among_left _ _ (
-      sink.Out i,
-      n,
-    ) (among_map (λ at. (sink.Out at.0, at.1)) (enumerate_from 0 (outputs c)) (
-      i,
-      n,
-    ) (among_numbered (outputs c) i n e)))
-
-pub cell_observed : (c : List Statement) (i : ℕ) (q n : Name) → slice_get (cells c) i ≡ Some (q, n)
-    → Contains (observers c) (sink.Data i, n)
-cell_observed c i q n e =
-    contained (observers c) (
-      sink.Data i,
-      n,
-    ) (among_right _ _ (
-      sink.Data i,
-      n,
-    ) (among_map (λ at. (sink.Data at.0, at.1.1)) (enumerate_from 0 (cells c)) (
-      i,
-      (q, n),
-    ) (among_numbered (cells c) i (q, n) e)))
-
-some_mapped : {X Y : Type 0} (h : X → Y) (o : Option X) (y : Y) → option_map h o ≡ Some y
-    → (x : X) × (o ≡ Some x) × (h x ≡ y)
-some_mapped h None y e = let bad : None ≡ Some y = e in cc
-some_mapped h (Some x) y e = let is : Some (h x) ≡ Some y = e in (x, refl, cc)
-
-pub data_observed : (c : List Statement) (i : ℕ) (n : Name) → name_on c (line.Data i) ≡ Some n
-    → Contains (observers c) (sink.Data i, n)
-data_observed c i n e =
-    let p = some_mapped (λ (qd : Name × Name). qd.1) (slice_get (cells c) i) n e in
-    subst (λ m. Contains (observers c) (sink.Data i, m)) p.2 (cell_observed c i p.0.0 p.0.1 p.1)
 
 module _ (c : List Statement) (tests : List Test) (group : ℕ) (f : Fault) (good : List ℕ) (n : Name)
     (well : IsWellFormed c) (words : AreWords c tests group None good)

@@ -12,14 +12,15 @@ use Rattle.bench_net.specs.Circuit.{IsWellFormed}
 use Rattle.list_lemmas.proofs.Members.{among}
 use Rattle.fault_model.specs.Fault.{Fault}
 use Rattle.fault_model.specs.Solution.{Test}
-use Rattle.block_sim.specs.Words.{lane, test_of, AreWords}
-use Rattle.block_sim.specs.Events.{bits_of, HasEquation, Reads, IsElsewhere, IsLive, AreScheduled}
+use Rattle.flat_circuit.specs.Words.{lane, test_of, AreWords}
+use Rattle.flat_circuit.specs.Readers.{Reads, IsLive}
+use Rattle.block_sim.specs.Events.{bits_of, HasEquation, IsElsewhere, AreScheduled}
 use Rattle.block_sim.specs.Propagation.{IsPropagating, IsBalanced, Counts, IsRightIn, pending_gates}
 use Rattle.block_sim.specs.Propagation.{is_pending}
-use Rattle.block_sim.proofs.Lanes.{lane_zero}
+use Rattle.flat_circuit.proofs.Public.{lane_zero}
 use Rattle.block_sim.proofs.Balanced.{balanced_first}
 use Rattle.block_sim.proofs.PendingGates.{pending_cases}
-use Rattle.block_sim.proofs.LiveSignals.{counts_closed, reader_live}
+use Rattle.block_sim.proofs.CountedSignals.{counts_closed, reader_live}
 use Rattle.block_sim.proofs.TrueBelowLevel.{right_by_now}
 
 abbrev weight : Bool → ℕ

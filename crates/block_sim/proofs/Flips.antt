@@ -21,7 +21,8 @@ use Rattle.fault_model.specs.Detection.{HasBit}
 use Rattle.fault_model.proofs.Public.{Driven, IsOn, agree, branch_among, defined_among, driven}
 use Rattle.fault_model.proofs.Public.{has_solutions, listed_on, observes, pin_reads, signal_apart}
 use Rattle.fault_model.proofs.Public.{under_other, under_own}
-use Rattle.block_sim.specs.Regions.{Alters, DetectsFlip, IsReadBy, flip, complemented_at}
+use Rattle.flat_circuit.specs.Regions.{IsReadBy}
+use Rattle.block_sim.specs.Flips.{Alters, DetectsFlip, flip, complemented_at}
 use Rattle.block_sim.proofs.EnteredGates.{Enters, Follows, IsFree, IsOnlyFor, arg_named, free_pins}
 use Rattle.block_sim.proofs.EnteredGates.{free_stem, gate_named, map_alike, outside, same_where}
 use Rattle.block_sim.proofs.EnteredGates.{shows_alike}

@@ -5,8 +5,9 @@ use Rattle.bench_net.specs.Scan.{sources}
 use Rattle.bench_net.specs.Statement.{Statement}
 use Rattle.fault_model.specs.declared.Model.{Model}
 use Rattle.patterns.specs.Tests.{IsTestList, TestList}
-use Rattle.block_sim.specs.JobParts.{AreClassLists, IsJobUnder}
-use Rattle.block_sim.specs.declared.class_lists.ClassLists.{ClassLists}
+use Rattle.flat_circuit.specs.Classes.{AreClassLists}
+use Rattle.block_sim.specs.JobParts.{IsJobUnder}
+use Rattle.flat_circuit.specs.declared.class_lists.ClassLists.{ClassLists}
 
 -- a circuit, the lists of its classes, and tests of its width are the job of them under a model
 pub under : (m : Model) (c : List Statement) (tests : TestList) (lists : ClassLists) → IsCircuit c

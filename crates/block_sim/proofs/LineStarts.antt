@@ -20,12 +20,10 @@ use Rattle.fault_model.proofs.Public.{carries}
 use lib.Bits.{and_le_r}
 use Rattle.block_sim.specs.ActiveGates.{AreInGroup, HasActiveIn}
 use Rattle.block_sim.specs.Propagation.{IsFirstChange}
-use Rattle.block_sim.specs.Words.{lane, pin_bits, AreWords}
-use Rattle.block_sim.proofs.CarriedSignals.{pin_of, gate_within}
+use Rattle.flat_circuit.specs.Words.{lane, pin_bits, AreWords}
+use Rattle.flat_circuit.proofs.Public.{pin_of, gate_within, no_loop, some_lane}
 use Rattle.block_sim.proofs.FaultStart.{first_on_pin, pin_active, stem_change, turned_is}
 use Rattle.block_sim.proofs.PendingGates.{count_one}
-use Rattle.block_sim.proofs.Readers.{no_loop}
-use Rattle.block_sim.proofs.Steps.{some_lane}
 
 -- the signal that a fault's line carries, by its name and its number
 pub record IsCarried (c : List Statement) (f : Fault) (number : ℕ) : Type 0 where

@@ -17,20 +17,20 @@ use Rattle.fault_model.specs.Solution.{Test, value}
 use Rattle.event_queue.proofs.Public.{index_zero}
 use Rattle.block_sim.specs.declared.propagation_state.PropagationState.{PropagationState}
 use Rattle.block_sim.specs.PropagationState.{HasRoomFor, IsAsLarge, IsClear, IsTaken}
-use Rattle.block_sim.specs.Events.{AreScheduled, IsLive, IsObserved, IsRising, Reads}
+use Rattle.flat_circuit.specs.Readers.{IsLive, IsObserved, IsRising, Reads}
+use Rattle.block_sim.specs.Events.{AreScheduled}
 use Rattle.block_sim.specs.Moments.{Case, Leads, Moment, Spreads, left, moment}
 use Rattle.block_sim.specs.Propagation.{IsFirstChange, IsPropagating, AreSeen, pending_gates}
-use Rattle.block_sim.specs.Words.{lane, pin_bits}
+use Rattle.flat_circuit.specs.Words.{lane, pin_bits}
 use Rattle.block_sim.proofs.PendingGates.{pending_cleared, pending_higher}
 use Rattle.block_sim.proofs.FirstChange.{spreading_first, count_first}
 use Rattle.block_sim.proofs.SignalEquations.{gate_named}
-use Rattle.block_sim.proofs.Readers.{no_loop, reader_within}
+use Rattle.flat_circuit.proofs.Public.{no_loop, reader_within, restored}
 use Rattle.block_sim.proofs.SeenLanes.{seen_changed, seen_first, seen_like, seen_narrower}
 use Rattle.block_sim.proofs.SeenLanes.{from_none, with_none}
 use Rattle.block_sim.proofs.PropagationSteps.{pending_changed, pending_same, evaluated_changed}
 use Rattle.block_sim.proofs.PropagationSteps.{evaluated_same, level_done, spreading_cleared}
 use Rattle.block_sim.proofs.PropagationSteps.{spreading_narrower}
-use Rattle.block_sim.proofs.Steps.{restored}
 
 -- a moment, by all its parts
 abbrev pub moment_of : List ℕ → List ℕ → ℕ → ℕ → ℕ → ℕ → Moment

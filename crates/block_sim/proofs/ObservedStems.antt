@@ -10,8 +10,8 @@ use Rattle.fault_model.specs.declared.Line.TheVariants as line
 use Rattle.fault_model.specs.Fault.{branch}
 use Rattle.fault_model.specs.Solution.{Test}
 use Rattle.fault_model.proofs.Public.{has_solutions, observes, under_other}
-use Rattle.block_sim.specs.Events.{IsObserved}
-use Rattle.block_sim.specs.Regions.{DetectsFlip, flip}
+use Rattle.flat_circuit.specs.Readers.{IsObserved}
+use Rattle.block_sim.specs.Flips.{DetectsFlip, flip}
 use Rattle.block_sim.proofs.Flips.{not_itself, stem_stuck}
 
 pub observed_flip : (c : List Statement) (t : Test) (s : ℕ) → IsWellFormed c → IsObserved c s

@@ -6,8 +6,8 @@ use Rattle.std.specs.Bool.{Decides}
 use Rattle.std.specs.Int.{bit_at}
 use Rattle.std.proofs.lemmas.Bool.{and_parts, cases_lt, eqb-true, eq-eqb}
 use Rattle.fault_model.specs.Detection.{IsSecondOfPair}
-use Rattle.block_sim.specs.Words.{lane}
-use Rattle.block_sim.proofs.Lanes.{lane_and}
+use Rattle.flat_circuit.specs.Words.{lane}
+use Rattle.flat_circuit.proofs.Public.{lane_and}
 
 odd_second : (t : ℕ) → t % 2 ≡ 1 → IsSecondOfPair t
 odd_second t e = (t / 2, omega (arith, e))

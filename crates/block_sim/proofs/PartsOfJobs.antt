@@ -3,8 +3,9 @@ use Rattle.std.proofs.Common.{◌≡◌, ◌∙◌, ℕ, ap, Global, length, sub
 use Rattle.std.specs.Prelude.{map}
 use Rattle.bench_net.specs.Scan.{sources}
 use Rattle.patterns.specs.Tests.{IsTestList, TestList}
-use Rattle.block_sim.specs.Job.{AreFaultFree, IsJob}
-use Rattle.block_sim.specs.BlockSpans.{groups}
+use Rattle.flat_circuit.specs.GroupRows.{AreFaultFree}
+use Rattle.block_sim.specs.Job.{IsJob}
+use Rattle.flat_circuit.specs.BlockSpans.{groups}
 use Rattle.block_sim.specs.Parts.{Parts}
 use Rattle.block_sim.specs.declared.job.JobParts.{JobParts}
 

@@ -9,7 +9,8 @@ use Rattle.std.proofs.lemmas.Bool.{cases_eq, false≢true, ltb-true, lt-ltb, le-
 use Rattle.std.proofs.lemmas.Bool.{or_left, or_right, or_cases}
 use Rattle.bench_net.specs.Statement.{Statement}
 use Rattle.list_lemmas.proofs.Members.{Among, among}
-use Rattle.block_sim.specs.Events.{Reads, IsLive, AreScheduled}
+use Rattle.flat_circuit.specs.Readers.{Reads, IsLive}
+use Rattle.block_sim.specs.Events.{AreScheduled}
 use Rattle.block_sim.specs.Propagation.{is_pending}
 
 abbrev weight : Bool → ℕ

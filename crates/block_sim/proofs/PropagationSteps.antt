@@ -11,16 +11,17 @@ use Rattle.bench_net.specs.Circuit.{IsWellFormed}
 use Rattle.list_lemmas.proofs.Members.{among}
 use Rattle.fault_model.specs.Fault.{Fault}
 use Rattle.fault_model.specs.Solution.{Test, value}
-use Rattle.block_sim.specs.Words.{lane, pin_bits, test_of}
-use Rattle.block_sim.specs.Events.{bits_of, HasEquation, Reads, IsElsewhere, IsLive, AreScheduled}
+use Rattle.flat_circuit.specs.Words.{lane, pin_bits, test_of}
+use Rattle.flat_circuit.specs.Readers.{Reads, IsLive}
+use Rattle.block_sim.specs.Events.{bits_of, HasEquation, IsElsewhere, AreScheduled}
 use Rattle.block_sim.specs.Propagation.{IsPropagating, IsBalanced, Counts, IsRightIn, HasTouched}
 use Rattle.block_sim.specs.Propagation.{pending_gates}
 use Rattle.block_sim.proofs.Balanced.{balanced_same, balanced_changed}
 use Rattle.block_sim.proofs.SignalEquations.{word_other}
-use Rattle.block_sim.proofs.LiveSignals.{counts_closed, reader_live}
+use Rattle.block_sim.proofs.CountedSignals.{counts_closed, reader_live}
 use Rattle.block_sim.proofs.TrueBelowLevel.{right_by_now}
 use Rattle.block_sim.proofs.PendingGates.{pending_taken, pending_scheduled}
-use Rattle.block_sim.proofs.Steps.{lane_of_zero}
+use Rattle.flat_circuit.proofs.Public.{lane_of_zero}
 
 module _ (c : List Statement) (tests : List Test) (group : ℕ) (f : ℕ
     → Fault) (good : List ℕ) (lanes : ℕ) (lv : ℕ → ℕ) (start mask : ℕ) where

@@ -8,7 +8,8 @@ use Rattle.std.specs.List.{enumerate_from}
 use Rattle.std.proofs.lemmas.Bool.{false≢true}
 use Rattle.std.proofs.lemmas.List.{get_or-set_same, get_or-set_other}
 use Rattle.event_queue.proofs.Public.{index_zero}
-use Rattle.block_sim.proofs.CarriedSignals.{never}
+use Rattle.flat_circuit.proofs.Public.{never, lane_same, lane_and, lane_xor, unlike, lane_of_zero}
+use Rattle.flat_circuit.proofs.Public.{left_of, only_lanes, right_of, turned_lanes}
 use Rattle.bench_net.specs.declared.Kind.{Kind}
 use Rattle.bench_net.specs.Statement.{Name, Statement, Gate}
 use Rattle.bench_net.specs.Scan.{names, signal, definition, gate_of}
@@ -20,18 +21,16 @@ use Rattle.fault_model.specs.declared.Line.TheVariants as line
 use Rattle.fault_model.specs.Fault.{Fault}
 use Rattle.fault_model.specs.Solution.{Test, Solves, Detects, under, value}
 use Rattle.fault_model.proofs.Public.{agree, defined_among, definition-signal, signal_apart}
-use Rattle.block_sim.specs.Events.{bits_of, Reads}
-use Rattle.block_sim.specs.Regions.{DetectsFlip, HasCome, IsReadBy, LanesLaw, Passes}
-use Rattle.block_sim.specs.Regions.{complemented_at}
-use Rattle.block_sim.specs.Words.{lane, lane_bits, word_over, pin_bits, test_of, AreWords}
-use Rattle.block_sim.proofs.WordsToSolutions.{lane_same}
+use Rattle.flat_circuit.specs.Readers.{Reads}
+use Rattle.block_sim.specs.Events.{bits_of}
+use Rattle.flat_circuit.specs.Regions.{IsReadBy}
+use Rattle.block_sim.specs.Flips.{DetectsFlip, HasCome, LanesLaw, Passes, complemented_at}
+use Rattle.flat_circuit.specs.Words.{lane, lane_bits, word_over, pin_bits, test_of, AreWords}
 use Rattle.block_sim.proofs.EnteredGates.{free_pins, map_alike}
 use Rattle.block_sim.proofs.SignalEquations.{gate_named}
-use Rattle.block_sim.proofs.Lanes.{lane_and, lane_xor, unlike}
 use Rattle.block_sim.proofs.Outcomes.{first_of_told}
-use Rattle.block_sim.specs.BlockSpans.{group_of}
+use Rattle.flat_circuit.specs.BlockSpans.{group_of}
 use Rattle.block_sim.proofs.Regions.{step_law}
-use Rattle.block_sim.proofs.Steps.{lane_of_zero, left_of, only_lanes, right_of, turned_lanes}
 
 both_are : (a b : Bool) → a ≡ true → b ≡ true → (a && b) ≡ true
 both_are true b p q = q

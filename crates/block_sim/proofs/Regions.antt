@@ -19,11 +19,12 @@ use Rattle.fault_model.specs.Solution.{Test, Solves, Detects, value}
 use Rattle.fault_model.specs.Detection.{HasBit, name_on}
 use Rattle.fault_model.proofs.Public.{IsOn, defined_among, definition-signal, has_solutions}
 use Rattle.fault_model.proofs.Public.{listed_on, observes, same_lines, signal_apart, under_own}
-use Rattle.block_sim.specs.Regions.{Alters, Arrives, there, over, DetectsFlip, FaultLaw, IsReadBy}
-use Rattle.block_sim.specs.Regions.{ObserverLaw, Passes, RegionLaw, RunsTo, here, onward, StemLaw}
-use Rattle.block_sim.specs.Regions.{StepLaw, flip, start_of, complemented_at}
+use Rattle.flat_circuit.specs.Regions.{IsReadBy, RunsTo, here, onward}
+use Rattle.block_sim.specs.Flips.{Alters, Arrives, there, over, DetectsFlip, FaultLaw, ObserverLaw}
+use Rattle.block_sim.specs.Flips.{Passes, RegionLaw, StemLaw, StepLaw, flip, start_of}
+use Rattle.block_sim.specs.Flips.{complemented_at}
 use Rattle.block_sim.proofs.EnteredGates.{Enters, IsFree, arg_named, gate_named, same_where}
-use Rattle.block_sim.proofs.FaultStart.{data_observed, output_observed}
+use Rattle.flat_circuit.proofs.Public.{data_observed, output_observed}
 use Rattle.block_sim.proofs.Flips.{altered, bit_is, entered_back, entered_there, gate_turned}
 use Rattle.block_sim.proofs.Flips.{not_back, not_itself, pin_enters, stem_back, stem_enters}
 use Rattle.block_sim.proofs.Flips.{stem_stuck, stem_there, turned_of}

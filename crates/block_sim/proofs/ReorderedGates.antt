@@ -13,11 +13,11 @@ use Rattle.fault_model.specs.Reordered.{IsReordered, place, moved_fault, HasSame
 use Rattle.fault_model.proofs.Public.{same_signals, stands_back, defined_among, solved_same}
 use Rattle.fault_model.proofs.Public.{under_moved, same_bits, detected_same}
 use Rattle.block_sim.specs.ActiveGates.{IsActiveBy, HasActive, HasActiveIn}
-use Rattle.block_sim.specs.Regions.{flip, DetectsFlip, HasCome, TellsFirstFlips}
+use Rattle.block_sim.specs.Flips.{flip, DetectsFlip, HasCome, TellsFirstFlips}
 use Rattle.block_sim.specs.Ways.{HasActiveByFlip}
-use Rattle.block_sim.specs.Words.{test_of}
+use Rattle.flat_circuit.specs.Words.{test_of}
 use Rattle.block_sim.specs.Reordered.{HasSameActive, HasSameFlips}
-use Rattle.block_sim.specs.declared.block_span.BlockSpan.{BlockSpan}
+use Rattle.flat_circuit.specs.declared.block_span.BlockSpan.{BlockSpan}
 
 module _ (c d : List Statement) (well : IsWellFormed c) (is : IsReordered c d) where
   signals : HasSameSignals c d

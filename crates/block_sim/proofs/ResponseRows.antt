@@ -2,7 +2,7 @@
 use Rattle.std.proofs.Common.{◌≡◌, ◌<◌, ◌≤◌, ◌+◌, ◌*◌, ◌-◌, ◌∙◌, ℕ, Bool, List, [], ◌∷◌, ◌++◌}
 use Rattle.std.proofs.Common.{length, map, ap, refl, sym, subst, arith, inl, inr, ◌⊎◌, get_or}
 use Rattle.std.proofs.Common.{append_assoc}
-use Rattle.std.specs.Prelude.{All, Contains, Some, None, flat_map, slice_get, slice_index_or}
+use Rattle.std.specs.Prelude.{All, Some, None, flat_map, slice_get, slice_index_or}
 use Rattle.std.specs.List.{enumerate_from}
 use Rattle.std.proofs.lemmas.List.{length-append, length-map, map-append, get_or_append_left}
 use Rattle.std.proofs.lemmas.List.{get_or-append-add, get_or-map, same_lists}
@@ -17,14 +17,15 @@ use Rattle.bench_net.specs.Statement.{Name, Statement, Input, Output, Gate, Dff,
 use Rattle.bench_net.specs.Scan.{names, signal, observers, outputs, cells}
 use Rattle.bench_net.specs.Circuit.{IsCircuit, IsWellFormed, sink_count}
 use Rattle.bench_net.proofs.Public.{name_of-signal}
-use Rattle.list_lemmas.proofs.Members.{Among, among, contained, among_append, among_right}
+use Rattle.list_lemmas.proofs.Members.{Among, among}
 use Rattle.list_lemmas.proofs.Members.{mapped_from}
-use Rattle.list_lemmas.proofs.Places.{at_place, numbered_at, place_within}
+use Rattle.list_lemmas.proofs.Places.{place_within}
 use Rattle.fault_model.specs.Solution.{Test, Solves, shows}
 use Rattle.fault_model.proofs.Public.{agree}
 use Rattle.patterns.specs.Least.{below}
 use Rattle.block_sim.specs.Responses.{lane_row}
-use Rattle.block_sim.specs.Words.{AreWords, lane, lane_bits, test_of}
+use Rattle.flat_circuit.specs.Words.{AreWords, lane, lane_bits, test_of}
+use Rattle.flat_circuit.proofs.Public.{observed_named}
 
 -- ---- the observed signals
 
@@ -70,44 +71,6 @@ seconds {X} h g (x ∷ xs) (y ∷ ps) p q e =
     let heads : ◌≡◌ {A = ℕ × ℕ} (g x, h x) (p y, q y) = cc in
     let head : h x ≡ q y = ap (λ (pair : ℕ × ℕ). pair.1) heads in
     ap (λ n. n ∷ map h xs) head ∙ ap (λ ns. q y ∷ ns) (seconds h g xs ps p q tails)
-
--- an observed name is read by a statement
-output_read : (c : List Statement) (n : Name) → Among n (outputs c) → Among n (flat_map read c)
-output_read [] n a = a
-output_read (Input m ∷ c) n a = output_read c n a
-output_read (Output m ∷ c) n (inl e) = inl e
-output_read (Output m ∷ c) n (inr a) = inr (output_read c n a)
-output_read (Gate m kind args ∷ c) n a = among_right args (flat_map read c) n (output_read c n a)
-output_read (Dff q d ∷ c) n a = inr (output_read c n a)
-
-cell_read : (c : List Statement) (qd : Name × Name) → Among qd (cells c)
-    → Among qd.1 (flat_map read c)
-cell_read [] qd a = a
-cell_read (Input m ∷ c) qd a = cell_read c qd a
-cell_read (Output m ∷ c) qd a = inr (cell_read c qd a)
-cell_read (Gate m kind args ∷ c) qd a = among_right args (flat_map read c) qd.1 (cell_read c qd a)
-cell_read (Dff q d ∷ c) qd (inl e) = inl (ap (λ (x : Name × Name). x.1) e)
-cell_read (Dff q d ∷ c) qd (inr a) = inr (cell_read c qd a)
-
-pub observed_named : (c : List Statement) (o : Sink × Name) → IsWellFormed c → Among o (observers c)
-    → Contains (names c) o.1
-observed_named c o well a = well.all_defined o.1
-    (contained (flat_map read c) o.1 (go (among_append _ _ o a)))
-  where
-    go : Among o (map (λ at. (sink.Out at.0, at.1)) (enumerate_from 0 (outputs c)))
-        ⊎ Among o (map (λ at. (sink.Data at.0, at.1.1)) (enumerate_from 0 (cells c)))
-        → Among o.1 (flat_map read c)
-    go (inl h) =
-        let p = mapped_from (λ at. (sink.Out at.0, at.1)) (enumerate_from 0 (outputs c)) o h in
-        let it : (sink.Out p.0.0, p.0.1) ≡ o = p.2 in
-        subst (λ (x : Sink × Name). Among x.1 (flat_map read c)) it
-        (output_read c p.0.1 (at_place (outputs c) p.0.0 p.0.1
-        (numbered_at (outputs c) p.0 p.1)))
-    go (inr h) =
-        let p = mapped_from (λ at. (sink.Data at.0, at.1.1)) (enumerate_from 0 (cells c)) o h in
-        let it : (sink.Data p.0.0, p.0.1.1) ≡ o = p.2 in
-        subst (λ (x : Sink × Name). Among x.1 (flat_map read c)) it
-        (cell_read c p.0.1 (at_place (cells c) p.0.0 p.0.1 (numbered_at (cells c) p.0 p.1)))
 
 pub observed_within : (c : List Statement) (signals : List ℕ) → IsWellFormed c
     → signals ≡ map (λ (o : Sink × Name). signal c o.1) (observers c)

@@ -6,10 +6,10 @@ use Rattle.std.specs.Bool.{Decides}
 use Rattle.std.proofs.lemmas.List.{get_or-set_same, get_or-set_other}
 use Rattle.std.proofs.lemmas.Bool.{cases_eq, false≢true, or_left, or_right, or_cases}
 use Rattle.bench_net.specs.Statement.{Statement}
-use Rattle.block_sim.specs.Words.{lane}
-use Rattle.block_sim.specs.Events.{IsObserved}
+use Rattle.flat_circuit.specs.Words.{lane}
+use Rattle.flat_circuit.specs.Readers.{IsObserved}
 use Rattle.block_sim.specs.Propagation.{AreSeen}
-use Rattle.block_sim.proofs.Lanes.{lane_or, lane_zero}
+use Rattle.flat_circuit.proofs.Public.{lane_or, lane_zero}
 
 none_in_zero : (d k : ℕ) → d ≡ 0 → lane d k ≡ true → ⊥
 none_in_zero d k e h = false≢true (sym (lane_zero k) ∙ (ap (λ x. lane x k) (sym e) ∙ h))

@@ -9,11 +9,10 @@ use Rattle.list_lemmas.proofs.Places.{at_place}
 use Rattle.block_sim.specs.declared.propagation.Extent.{Extent}
 use Rattle.block_sim.specs.declared.propagation.Extent.TheVariants.{WholeBlock, FirstHits}
 use Rattle.block_sim.specs.Propagation.{IsSettled, LeavesSettled}
-use Rattle.block_sim.specs.Words.{lane}
+use Rattle.flat_circuit.specs.Words.{lane}
 use Rattle.block_sim.specs.declared.propagation.Followed.{Followed}
-use Rattle.block_sim.proofs.Lanes.{lane_and, lane_or}
-use Rattle.block_sim.proofs.ScheduledGates.{at_end}
-use Rattle.block_sim.proofs.Steps.{left_behind, left_of, left_out, only_lanes}
+use Rattle.flat_circuit.proofs.Public.{lane_and, lane_or, at_end, left_behind, left_of, left_out}
+use Rattle.flat_circuit.proofs.Public.{only_lanes}
 
 -- a settled lane stays settled as more lanes are seen
 pub settled_more : (extent : Extent) (seen more k : ℕ) → IsSettled extent seen k

@@ -17,9 +17,10 @@ use Rattle.fault_model.specs.Fault.{Fault}
 use Rattle.fault_model.specs.Solution.{Test, Solves, under, value, sees, pins_see}
 use Rattle.fault_model.proofs.Public.{pins_agree, under_other, IsSource, definition-signal}
 use Rattle.fault_model.proofs.Public.{defined_among, source_definition, source_named}
-use Rattle.block_sim.specs.Words.{lane, word_over, pin_bits}
-use Rattle.block_sim.specs.Events.{bits_of, HasEquation, Reads, IsElsewhere}
-use Rattle.block_sim.proofs.Equations.{nothing}
+use Rattle.flat_circuit.specs.Words.{lane, word_over, pin_bits}
+use Rattle.flat_circuit.specs.Readers.{Reads}
+use Rattle.block_sim.specs.Events.{bits_of, HasEquation, IsElsewhere}
+use Rattle.flat_circuit.proofs.Public.{nothing}
 
 module _ (c : List Statement) (t : Test) (f : Option Fault) (v : Name → Bool) where
   pub each_equation : Solves c t f v → (s : ℕ) → HasEquation c t f v s

@@ -13,8 +13,9 @@ use Rattle.fault_model.specs.declared.Line.TheVariants as line
 use Rattle.fault_model.specs.Fault.{Fault}
 use Rattle.fault_model.specs.Solution.{Test, Solves, under, value}
 use Rattle.fault_model.proofs.Public.{Driven, driven, pins_agree}
-use Rattle.block_sim.specs.Words.{lane, test_of}
-use Rattle.block_sim.specs.Events.{bits_of, HasEquation, Reads}
+use Rattle.flat_circuit.specs.Words.{lane, test_of}
+use Rattle.flat_circuit.specs.Readers.{Reads}
+use Rattle.block_sim.specs.Events.{bits_of, HasEquation}
 use Rattle.block_sim.specs.Propagation.{IsBalanced}
 
 module _ (c : List Statement) (counts : ℕ → Type 0) (closed : (g s : ℕ) → Reads c g s → counts g

@@ -9,10 +9,10 @@ use Rattle.fault_model.specs.declared.Line.{Line}
 use Rattle.fault_model.specs.declared.Line.TheVariants as line
 use Rattle.fault_model.specs.declared.Model.{Model}
 use Rattle.fault_model.specs.Fault.{Fault}
-use Rattle.block_sim.specs.Regions.{IsStem, IsStemOf, IsStemOfLine, LeadsTo, here, lone_reader}
-use Rattle.block_sim.specs.Regions.{onward}
+use Rattle.flat_circuit.specs.Regions.{IsStem, IsStemOf, IsStemOfLine, LeadsTo, here, lone_reader}
+use Rattle.flat_circuit.specs.Regions.{onward}
 use Rattle.block_sim.specs.Ways.{IsWay, IsWayOfLine, OneWayLaw, SomeWayLaw, steps}
-use Rattle.block_sim.proofs.Stems.{class_has_stem}
+use Rattle.flat_circuit.proofs.Public.{class_has_stem}
 
 -- one gate further there is one gate less to go
 pub one_less : (c : List Statement) {s r : ℕ} (g : ℕ) → IsStem c r → lone_reader c s ≡ Some g

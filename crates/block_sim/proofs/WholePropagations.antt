@@ -11,10 +11,11 @@ use Rattle.fault_model.specs.Solution.{Test}
 use Rattle.block_sim.specs.declared.propagation_state.PropagationState.{PropagationState}
 use Rattle.block_sim.specs.ActiveGates.{AreInGroup, HasActiveIn}
 use Rattle.block_sim.specs.PropagationState.{HasRoomFor, IsClear}
-use Rattle.block_sim.specs.Events.{AreScheduled, IsObserved, IsRising}
+use Rattle.flat_circuit.specs.Readers.{IsObserved, IsRising}
+use Rattle.block_sim.specs.Events.{AreScheduled}
 use Rattle.block_sim.specs.Moments.{Case, Leads, Spreads, moment}
 use Rattle.block_sim.specs.Propagation.{AreShown, IsFirstChange, IsPropagating}
-use Rattle.block_sim.specs.Words.{lane}
+use Rattle.flat_circuit.specs.Words.{lane}
 use Rattle.block_sim.proofs.EndOfPropagation.{active_touched, shown_from}
 use Rattle.block_sim.proofs.Moments.{case_of, first_left, first_seen, first_spreads}
 

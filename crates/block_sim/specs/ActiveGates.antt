@@ -9,7 +9,7 @@ use Rattle.fault_model.specs.declared.Line.TheVariants as line
 use Rattle.fault_model.specs.Fault.{Fault}
 use Rattle.fault_model.specs.Solution.{Test, Solves, sees}
 use Rattle.patterns.specs.Tests.{size_of}
-use Rattle.block_sim.specs.Words.{lane}
+use Rattle.flat_circuit.specs.Words.{lane}
 
 -- Under a test some pin of the gate sees another bit with the fault than without it. A transition
 -- fault counts as its line stuck at the fault's bit.

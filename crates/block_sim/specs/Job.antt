@@ -1,19 +1,12 @@
 -- The invariants of a job: its parts, and the fault-free words that it holds.
-use Rattle.std.specs.Prelude.{◌≡◌, ℕ, ◌<◌, All, List, length, Some, None, slice_get}
+use Rattle.std.specs.Prelude.{◌≡◌, ℕ, ◌<◌, All, List, length}
 use Rattle.bench_net.specs.Statement.{Statement}
-use Rattle.bench_net.specs.Scan.{names}
-use Rattle.fault_model.specs.Solution.{Test}
-use Rattle.block_sim.specs.Origins.{HaveRepresentatives}
+use Rattle.flat_circuit.specs.Origins.{HaveRepresentatives}
 use Rattle.block_sim.specs.Parts.{Parts, BelongTogether}
-use Rattle.block_sim.specs.Regions.{HaveStems}
-use Rattle.block_sim.specs.BlockSpans.{groups}
-use Rattle.block_sim.specs.declared.words.Stuck.{Stuck}
-use Rattle.block_sim.specs.Words.{AreWords}
-
--- the fault-free words of the first groups, one row of words for each group
-abbrev pub AreFaultFree : List Statement → List Test → List (List ℕ) → Type 0
-AreFaultFree c tests rows = (group : ℕ) (row : List ℕ) → slice_get rows group ≡ Some row
-    → (length row ≡ length (names c)) × AreWords c tests group None row
+use Rattle.flat_circuit.specs.Regions.{HaveStems}
+use Rattle.flat_circuit.specs.BlockSpans.{groups}
+use Rattle.flat_circuit.specs.declared.words.Stuck.{Stuck}
+use Rattle.flat_circuit.specs.GroupRows.{AreFaultFree}
 
 -- The parts belong together. The rows are the fault-free words of all groups, with the signals in
 -- the order of their places. Each class has its stem, a next class, and its representative.

@@ -4,7 +4,8 @@ use Rattle.bench_net.specs.Statement.{Statement}
 use Rattle.fault_model.specs.Fault.{Fault}
 use Rattle.fault_model.specs.Solution.{Test}
 use Rattle.block_sim.specs.declared.propagation_state.PropagationState.{PropagationState}
-use Rattle.block_sim.specs.Events.{IsElsewhere, IsRising}
+use Rattle.flat_circuit.specs.Readers.{IsRising}
+use Rattle.block_sim.specs.Events.{IsElsewhere}
 use Rattle.block_sim.specs.Propagation.{IsPropagating, AreSeen, HasTouched, pending_gates}
 
 -- The state of a simulation at a moment: the lanes in which each signal differs; for each gate 0,

@@ -11,8 +11,9 @@ use Rattle.fault_model.specs.Solution.{Test, Solves, shows}
 use Rattle.block_sim.specs.declared.propagation.Extent.{Extent}
 use Rattle.block_sim.specs.declared.propagation.Extent.TheVariants.{WholeBlock, FirstHits}
 use Rattle.block_sim.specs.declared.propagation.Followed.{Followed}
-use Rattle.block_sim.specs.Words.{lane, lane_bits, test_of, AreWords}
-use Rattle.block_sim.specs.Events.{bits_of, HasEquation, Reads, IsElsewhere, IsLive, IsObserved}
+use Rattle.flat_circuit.specs.Words.{lane, lane_bits, test_of, AreWords}
+use Rattle.flat_circuit.specs.Readers.{Reads, IsLive, IsObserved}
+use Rattle.block_sim.specs.Events.{bits_of, HasEquation, IsElsewhere}
 
 -- the equation of each signal that counts and does not wait holds in each lane of the mask
 abbrev pub IsBalanced : List Statement → (ℕ → Type 0) → List Test → ℕ → (ℕ → Fault) → List ℕ → ℕ

@@ -1,5 +1,6 @@
--- The facts that a simulation needs about a circuit whose statements stand in another order.
-use Rattle.std.specs.Prelude.{◌≡◌, ◌↔◌, ℕ, List, map, Contains, option_map}
+-- The facts that a simulation needs about a circuit whose statements stand in another order: the
+-- same stems, active gates and complemented signals.
+use Rattle.std.specs.Prelude.{◌↔◌, ℕ, List, map, Contains}
 use Rattle.bench_net.specs.Statement.{Statement}
 use Rattle.fault_model.specs.declared.Line.{Line}
 use Rattle.fault_model.specs.declared.Model.{Model}
@@ -7,20 +8,10 @@ use Rattle.fault_model.specs.Fault.{Fault, faults}
 use Rattle.fault_model.specs.Solution.{Test}
 use Rattle.fault_model.specs.Reordered.{place, moved_line, moved_fault}
 use Rattle.block_sim.specs.ActiveGates.{HasActive, HasActiveIn}
-use Rattle.block_sim.specs.Events.{Reads, IsObserved, IsLive}
-use Rattle.block_sim.specs.Regions.{lone_reader, IsStemOf, IsStemOfLine, DetectsFlip, HasCome}
-use Rattle.block_sim.specs.Regions.{TellsFirstFlips}
+use Rattle.flat_circuit.specs.Regions.{IsStemOf, IsStemOfLine}
+use Rattle.block_sim.specs.Flips.{DetectsFlip, HasCome, TellsFirstFlips}
 use Rattle.block_sim.specs.Ways.{IsWayOfLine, HasActiveByFlip}
-use Rattle.block_sim.specs.declared.block_span.BlockSpan.{BlockSpan}
-
--- the same gates read a signal, the same observers observe it, and it is live in both circuits or
--- in none
-pub record HasSameReaders (c d : List Statement) : Type 0 where
-  pub reads : (g s : ℕ) → Reads c g s → Reads d (place c d g) (place c d s)
-  pub reads_back : (g s : ℕ) → Reads d g (place c d s) → (h : ℕ) × (g ≡ place c d h) × Reads c h s
-  pub observed : (s : ℕ) → IsObserved c s ↔ IsObserved d (place c d s)
-  pub live : (s : ℕ) → IsLive c s ↔ IsLive d (place c d s)
-  pub lone : (s : ℕ) → lone_reader d (place c d s) ≡ option_map (place c d) (lone_reader c s)
+use Rattle.flat_circuit.specs.declared.block_span.BlockSpan.{BlockSpan}
 
 -- the region of a signal has the same stem, and so has the region of a fault of the list; the way
 -- to the stem has the same number of gates

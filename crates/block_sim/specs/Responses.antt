@@ -5,7 +5,7 @@ use Rattle.bench_net.specs.Statement.{Name, Statement}
 use Rattle.bench_net.specs.Scan.{observers}
 use Rattle.fault_model.specs.Solution.{Test, Solves, shows}
 use Rattle.patterns.specs.Tests.{TestList}
-use Rattle.block_sim.specs.Words.{lane}
+use Rattle.flat_circuit.specs.Words.{lane}
 
 -- The rows are the responses to tests. Each test has one row: for each observer, the outputs and
 -- then the cells' data pins, its bit in the fault-free solution.

@@ -10,9 +10,10 @@ use Rattle.fault_model.specs.Fault.{Fault}
 use Rattle.fault_model.specs.Solution.{Test}
 use Rattle.fault_model.specs.Collapse.{representatives}
 use Rattle.fault_model.specs.Detection.{HasBit}
-use Rattle.block_sim.specs.Regions.{Chain, IsStemOf, flip, here, onward}
-use Rattle.block_sim.specs.declared.block_span.BlockSpan.{BlockSpan}
-use Rattle.block_sim.specs.BlockSpans.{IsInSpan}
+use Rattle.flat_circuit.specs.Regions.{Chain, IsStemOf, here, onward}
+use Rattle.block_sim.specs.Flips.{flip}
+use Rattle.flat_circuit.specs.declared.block_span.BlockSpan.{BlockSpan}
+use Rattle.flat_circuit.specs.BlockSpans.{IsInSpan}
 use Rattle.block_sim.specs.ActiveGates.{IsActiveBy}
 
 -- the number of steps of a chain

@@ -6,15 +6,15 @@ ghost use Rattle.std.specs.Bool.{Decides};
 ghost use Rattle.fault_model.specs.Detection.{HasBit};
 ghost use Rattle.fault_model.specs.Fault.{Fault};
 ghost use Rattle.block_sim.specs.Activation.{ActivatesAt, IsActivated};
-ghost use Rattle.block_sim.specs.Origins.{IsStuckOf};
-ghost use Rattle.block_sim.specs.BlockSpans.{groups};
-ghost use Rattle.block_sim.specs.Words.{lane, test_of};
+ghost use Rattle.flat_circuit.specs.Origins.{IsStuckOf};
+ghost use Rattle.flat_circuit.specs.BlockSpans.{groups};
+ghost use Rattle.flat_circuit.specs.Words.{lane, test_of};
 
-use crate::block_lanes::lanes_below;
 use crate::job::Job;
 use crate::launch_condition::launch_lanes;
-use crate::origin::origin_of;
-use crate::words::Stuck;
+use flat_circuit::block_lanes::lanes_below;
+use flat_circuit::origin::origin_of;
+use flat_circuit::words::Stuck;
 
 /// Returns whether some test of a job activates the fault with this number in the job's list: the
 /// test gives the fault's line, in the fault-free circuit, the complement of the stuck bit. For a

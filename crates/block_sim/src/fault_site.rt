@@ -11,15 +11,15 @@ ghost use Rattle.fault_model.specs.Solution.{Test, value};
 ghost use Rattle.block_sim.specs.PropagationState.{HasRoomFor, IsAsLarge, IsClear};
 ghost use Rattle.block_sim.specs.Propagation.{AreShown, IsSettled};
 ghost use Rattle.block_sim.specs.ActiveGates.{AreInGroup, HasActiveIn};
-ghost use Rattle.block_sim.specs.Stuck.{stuck_fault};
-ghost use Rattle.block_sim.specs.Words.{lane, pin_bits, AreWords, HasWords};
+ghost use Rattle.flat_circuit.specs.Stuck.{stuck_fault};
+ghost use Rattle.flat_circuit.specs.Words.{lane, pin_bits, AreWords, HasWords};
 
-use crate::block_view::BlockView;
-use crate::line_signals::carried;
 use crate::propagation::{Extent, propagate};
 use crate::propagation_state::PropagationState;
-use crate::words::{Stuck, evaluate_stuck};
 use fault_model::Line;
+use flat_circuit::block_view::BlockView;
+use flat_circuit::line_signals::carried;
+use flat_circuit::words::{Stuck, evaluate_stuck};
 
 /// Returns the lanes, among the requested ones, in which some observer shows another bit with the
 /// fault than without it. If first hits are requested, it may leave out lanes: for each class that

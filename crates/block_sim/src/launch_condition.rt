@@ -15,15 +15,15 @@ ghost use Rattle.fault_model.specs.Fault.{Fault};
 ghost use Rattle.fault_model.specs.Detection.{HasBit, IsInitialized, IsSecondOfPair, LooksBack};
 ghost use Rattle.fault_model.specs.Detection.{name_on};
 ghost use Rattle.fault_model.specs.Solution.{Test};
-ghost use Rattle.block_sim.specs.Job.{AreFaultFree};
-ghost use Rattle.block_sim.specs.Origins.{IsStuckOf};
-ghost use Rattle.block_sim.specs.BlockSpans.{groups};
-ghost use Rattle.block_sim.specs.Words.{lane};
+ghost use Rattle.flat_circuit.specs.GroupRows.{AreFaultFree};
+ghost use Rattle.flat_circuit.specs.Origins.{IsStuckOf};
+ghost use Rattle.flat_circuit.specs.BlockSpans.{groups};
+ghost use Rattle.flat_circuit.specs.Words.{lane};
 
-use crate::block_view::GroupWords;
 use crate::job::Job;
-use crate::origin::origin_of;
-use crate::words::Stuck;
+use flat_circuit::block_view::GroupWords;
+use flat_circuit::origin::origin_of;
+use flat_circuit::words::Stuck;
 
 /// Returns the lanes of a group whose test before lets the fault be detected: all lanes for a
 /// stuck-at fault. For a transition fault, the test before must give the line the bit that the line

@@ -12,11 +12,12 @@ ghost use Rattle.fault_model.specs.Solution.{Test};
 ghost use Rattle.patterns.specs.declared.Outcome.{Outcome};
 ghost use Rattle.patterns.specs.Least.{Table};
 ghost use Rattle.block_sim.specs.First.{IsTrueOutcome, IsTrueTable, LeastIsFirst};
-ghost use Rattle.block_sim.specs.Regions.{FaultLaw, LanesLaw, LeadLaw, ObserverLaw};
-ghost use Rattle.block_sim.specs.Regions.{OneClassStemLaw, OneStemLaw, PinLaw, RegionLaw};
-ghost use Rattle.block_sim.specs.Regions.{SomeClassStemLaw, SomeStemLaw, StemLaw, StepLaw};
-ghost use Rattle.block_sim.specs.Reordered.{HasSameActive, HasSameFlips, HasSameReaders};
-ghost use Rattle.block_sim.specs.Reordered.{HasSameStems};
+ghost use Rattle.flat_circuit.specs.Regions.{LeadLaw, OneClassStemLaw, OneStemLaw, PinLaw};
+ghost use Rattle.flat_circuit.specs.Regions.{SomeClassStemLaw, SomeStemLaw};
+ghost use Rattle.block_sim.specs.Flips.{FaultLaw, LanesLaw, ObserverLaw, RegionLaw, StemLaw};
+ghost use Rattle.block_sim.specs.Flips.{StepLaw};
+ghost use Rattle.flat_circuit.specs.Reordered.{HasSameReaders};
+ghost use Rattle.block_sim.specs.Reordered.{HasSameActive, HasSameFlips, HasSameStems};
 ghost use Rattle.block_sim.specs.Ways.{OneWayLaw, SomeWayLaw};
 
 /// States that blocks give the first test that detects a fault. Take a table with the true outcome

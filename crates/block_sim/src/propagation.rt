@@ -15,19 +15,20 @@ ghost use Rattle.bench_net.specs.Circuit.{IsCircuit};
 ghost use Rattle.fault_model.specs.Fault.{Fault};
 ghost use Rattle.fault_model.specs.Solution.{Test};
 ghost use Rattle.block_sim.specs.PropagationState.{HasRoomFor, IsAsLarge, IsClear, IsTaken};
-ghost use Rattle.block_sim.specs.Events.{AreScheduled, IsObserved};
+ghost use Rattle.flat_circuit.specs.Readers.{IsObserved};
+ghost use Rattle.block_sim.specs.Events.{AreScheduled};
 ghost use Rattle.block_sim.specs.Moments.{Leads, moment, not_yet_taken};
 ghost use Rattle.block_sim.specs.Propagation.{AreShown, HaveHits, IsFirstChange, IsSettled};
 ghost use Rattle.block_sim.specs.Propagation.{LeavesSettled};
 ghost use Rattle.block_sim.specs.ActiveGates.{AreInGroup, HasActiveIn};
-ghost use Rattle.block_sim.specs.Words.{lane, HasWords};
+ghost use Rattle.flat_circuit.specs.Words.{lane, HasWords};
 
-use crate::block_lanes::lanes_below;
-use crate::block_view::BlockView;
-use crate::flat::FlatCircuit;
 use crate::propagation_state::PropagationState;
-use crate::words::evaluate_gate;
 use event_queue::Places;
+use flat_circuit::block_lanes::lanes_below;
+use flat_circuit::block_view::BlockView;
+use flat_circuit::flat::FlatCircuit;
+use flat_circuit::words::evaluate_gate;
 
 /// A followed class, the place where its result is kept, and the lanes in which its fault reached
 /// the start of the simulation.

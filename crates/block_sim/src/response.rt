@@ -9,9 +9,9 @@ ghost use Rattle.patterns.specs.Making.{with_test};
 ghost use Rattle.patterns.specs.Tests.{IsTestList, max_tests};
 ghost use Rattle.block_sim.specs.Responses.{AreResponses, lane_row};
 
-use crate::flat::FlatCircuit;
-use crate::words::evaluate;
 use bench_net::Circuit;
+use flat_circuit::flat::FlatCircuit;
+use flat_circuit::words::evaluate;
 use patterns::{PushFault, Tests};
 use std::alloc::{AllocError, Global};
 

@@ -12,7 +12,7 @@ use Rattle.fault_model.specs.Collapse.{representatives}
 use Rattle.fault_model.specs.Detection.{DetectsAt}
 use Rattle.fault_model.specs.Fault.{Fault, faults}
 use Rattle.block_sim.specs.Parts.{BelongTogether, Parts}
-use Rattle.block_sim.specs.Words.{lane}
+use Rattle.flat_circuit.specs.Words.{lane}
 use Rattle.compaction.specs.Detections.{AreRows, DetectionTable, HasBlocks, detects_by}
 use Rattle.compaction.specs.Steepest.{DetectsClasses}
 

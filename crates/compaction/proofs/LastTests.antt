@@ -17,8 +17,8 @@ use Rattle.fault_model.proofs.Public.{own_class}
 use Rattle.patterns.specs.Tests.{blocks}
 use Rattle.block_sim.specs.First.{AreDetecting}
 use Rattle.block_sim.specs.Parts.{BelongTogether, Parts}
-use Rattle.block_sim.specs.Words.{lane}
-use Rattle.block_sim.proofs.Public.{representative_at}
+use Rattle.flat_circuit.specs.Words.{lane}
+use Rattle.flat_circuit.proofs.Public.{representative_at}
 use Rattle.compaction.specs.Compaction.{IsLastForSome, is_first}
 use Rattle.compaction.specs.Marks.{AreLastMarks, AreLasting, IsLast, IsLastLane, IsLastOfClass}
 use Rattle.compaction.proofs.DetectedClasses.{class_count}

@@ -6,7 +6,7 @@ use Rattle.std.specs.declared.vec.Vec.{Vec}
 use Rattle.patterns.specs.Tests.{blocks}
 use Rattle.block_sim.specs.First.{AreDetecting}
 use Rattle.block_sim.specs.Parts.{Parts}
-use Rattle.block_sim.specs.Words.{lane}
+use Rattle.flat_circuit.specs.Words.{lane}
 
 -- the view that contracts have of detections: for each class the words of the blocks, and the
 -- number of tests

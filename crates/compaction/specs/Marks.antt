@@ -10,7 +10,7 @@ use Rattle.fault_model.specs.Detection.{DetectsAt}
 use Rattle.fault_model.specs.Collapse.{representatives}
 use Rattle.block_sim.specs.First.{IsFirst}
 use Rattle.block_sim.specs.Parts.{Parts}
-use Rattle.block_sim.specs.Words.{lane}
+use Rattle.flat_circuit.specs.Words.{lane}
 use Rattle.compaction.specs.Compaction.{Covers, IsFirstForSome, IsLastForSome, IsSublist}
 use Rattle.compaction.specs.Compaction.{at_marks}
 

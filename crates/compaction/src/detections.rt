@@ -2,7 +2,7 @@
 
 ghost use Rattle.std.specs.Prelude.{◌≡◌, ◌<◌, ◌/◌, ◌%◌, IfOk, length, slice_index_or};
 ghost use Rattle.block_sim.specs.Parts.{HasRoom};
-ghost use Rattle.block_sim.specs.Words.{lane};
+ghost use Rattle.flat_circuit.specs.Words.{lane};
 ghost use Rattle.compaction.specs.Detections.{AreRows, IsRow, detects_by};
 ghost use Rattle.compaction.specs.Steepest.{DetectsClasses};
 

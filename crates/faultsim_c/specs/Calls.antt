@@ -13,8 +13,8 @@ use Rattle.fault_model.specs.Fault.{Fault, faults}
 use Rattle.patterns.specs.Tests.{HasTests, blocks}
 use Rattle.block_sim.specs.First.{IsFirst}
 use Rattle.block_sim.specs.Parts.{BelongTogether, Parts}
-use Rattle.block_sim.specs.Regions.{IsStemOfClass}
-use Rattle.block_sim.specs.Words.{IsFaultFreeWord}
+use Rattle.flat_circuit.specs.Regions.{IsStemOfClass}
+use Rattle.flat_circuit.specs.Words.{IsFaultFreeWord}
 use Rattle.n_detect.specs.Detections.{IsCount}
 use Rattle.report.specs.declared.contents.Contents.{Contents}
 use Rattle.report.specs.declared.contents.Lines.{Lines}

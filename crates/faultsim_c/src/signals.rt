@@ -6,7 +6,7 @@ ghost use Rattle.std.specs.Prelude.{length, slice_get, ℕ};
 ghost use Rattle.bench_net.specs.Scan.{name_of, names, sources};
 ghost use Rattle.patterns.specs.Tests.{blocks};
 ghost use Rattle.block_sim.specs.Parts.{Parts};
-ghost use Rattle.block_sim.specs.Words.{IsFaultFreeWord};
+ghost use Rattle.flat_circuit.specs.Words.{IsFaultFreeWord};
 ghost use Rattle.faultsim_c.specs.Calls.{AreStemsOf, IsCopied, job_of};
 
 use crate::handle::{FsJob, put, take};

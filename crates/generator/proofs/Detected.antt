@@ -21,7 +21,7 @@ use Rattle.fault_model.proofs.Public.{faults_within, listed_model, own_class}
 use Rattle.patterns.specs.Tests.{max_pieces}
 use Rattle.block_sim.specs.First.{IsFirst}
 use Rattle.block_sim.specs.Parts.{BelongTogether, Parts}
-use Rattle.block_sim.proofs.Public.{representative_at}
+use Rattle.flat_circuit.proofs.Public.{representative_at}
 use Rattle.workers.specs.Verdict.{AreClassFirsts}
 use Rattle.generator.specs.Generated.{DetectsEarly, DetectsSome}
 use Rattle.generator.specs.Keeping.{AreKept, AreNeeded, HasFirst, HasMark, IsMarked, in_pairs}

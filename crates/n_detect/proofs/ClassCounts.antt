@@ -12,7 +12,8 @@ use Rattle.fault_model.specs.Detection.{DetectsAt}
 use Rattle.fault_model.proofs.Public.{classes_detected_same, own_class}
 use Rattle.patterns.specs.Least.{below}
 use Rattle.block_sim.specs.Parts.{BelongTogether, Parts}
-use Rattle.block_sim.proofs.Public.{representative_at, which_detect}
+use Rattle.flat_circuit.proofs.Public.{representative_at}
+use Rattle.block_sim.proofs.Public.{which_detect}
 use Rattle.n_detect.specs.Detections.{AreCounts, IsClassCount, IsCount}
 use Rattle.n_detect.proofs.RangeCounts.{all_blocks, no_fewer}
 

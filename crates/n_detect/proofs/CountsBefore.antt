@@ -11,8 +11,9 @@ use Rattle.fault_model.specs.Detection.{DetectsAt}
 use Rattle.patterns.specs.Least.{below}
 use Rattle.region_sim.specs.GroupLanes.{AreGroupLanes}
 use Rattle.block_sim.specs.Parts.{BelongTogether, Parts}
-use Rattle.block_sim.specs.Words.{lane}
-use Rattle.block_sim.proofs.Public.{representative_at, which_detect}
+use Rattle.flat_circuit.specs.Words.{lane}
+use Rattle.flat_circuit.proofs.Public.{representative_at}
+use Rattle.block_sim.proofs.Public.{which_detect}
 use Rattle.n_detect.specs.Detections.{IsClassCount}
 use Rattle.n_detect.specs.Share.{IsCountBefore}
 use Rattle.n_detect.proofs.RangeCounts.{all_blocks, no_fewer, no_fewer_of_more, one_group}

@@ -13,7 +13,7 @@ use Rattle.fault_model.specs.Fault.{Fault}
 use Rattle.fault_model.specs.Solution.{Test}
 use Rattle.fault_model.specs.Detection.{DetectsAt}
 use Rattle.patterns.specs.Least.{from_up, below}
-use Rattle.block_sim.specs.Words.{lane}
+use Rattle.flat_circuit.specs.Words.{lane}
 
 -- one number more at the front
 count_more : (p : ℕ → Bool) (a n : ℕ)

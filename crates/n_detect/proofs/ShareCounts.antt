@@ -2,7 +2,7 @@
 use Rattle.std.proofs.Common.{◌≡◌, ◌⊎◌, ◌<◌, ◌≤◌, ◌∙◌, ℕ, List, length, inl, inr, sym, arith}
 use Rattle.std.specs.Prelude.{All, Some, slice_get}
 use Rattle.std.proofs.lemmas.Option.{get_or_from_slice_get, slice_get_within}
-use Rattle.block_sim.specs.declared.origin.ListedClass.{ListedClass}
+use Rattle.flat_circuit.specs.declared.origin.ListedClass.{ListedClass}
 use Rattle.block_sim.specs.Parts.{BelongTogether, Parts}
 use Rattle.n_detect.specs.Detections.{IsClassCount}
 use Rattle.n_detect.specs.Share.{AreTallied, HasCounted, IsCountBefore, IsOpen, IsShareFor}

@@ -5,8 +5,8 @@ use Rattle.std.specs.Prelude.{All, None, Some, slice_get, unwrap_or}
 use Rattle.std.proofs.lemmas.Bool.{cases_eq}
 use Rattle.std.proofs.lemmas.Option.{get_or_from_slice_get, slice_get_within}
 use Rattle.list_lemmas.proofs.Places.{within_place}
-use Rattle.block_sim.specs.declared.origin.ListedClass.{ListedClass}
-use Rattle.block_sim.specs.Origins.{IsListed}
+use Rattle.flat_circuit.specs.declared.origin.ListedClass.{ListedClass}
+use Rattle.block_sim.specs.Listed.{IsListed}
 use Rattle.block_sim.specs.Parts.{Parts}
 use Rattle.n_detect.specs.Share.{AreTallied, IsCountBefore, IsOpen}
 use Rattle.n_detect.proofs.CountsBefore.{greatest_stays}

@@ -1,9 +1,9 @@
 //! The classes of one worker, and their counts.
 
 ghost use Rattle.std.specs.Prelude.{◌≡◌, ◌+◌, ◌*◌, ◌<◌, ◌≤◌, All, IfOk, length};
-ghost use Rattle.block_sim.specs.BlockSpans.{groups};
+ghost use Rattle.flat_circuit.specs.BlockSpans.{groups};
 ghost use Rattle.region_sim.specs.GroupLanes.{HaveGroupLanes};
-ghost use Rattle.block_sim.specs.Origins.{IsListed};
+ghost use Rattle.block_sim.specs.Listed.{IsListed};
 ghost use Rattle.block_sim.specs.Parts.{HasRoom};
 ghost use Rattle.n_detect.specs.Share.{AreOwners, AreTallied, HasAllClasses, HasCounted};
 ghost use Rattle.n_detect.specs.Share.{HasRowsOf, IsShareFor};

@@ -14,8 +14,8 @@ use Rattle.fault_model.specs.Fault.{Fault, faults}
 use Rattle.fault_model.specs.Collapse.{IsClassOf, representatives}
 use Rattle.fault_model.specs.Laws.{HasClasses}
 use Rattle.block_sim.specs.Parts.{BelongTogether, Parts}
-use Rattle.block_sim.specs.Regions.{IsStemOfClass}
-use Rattle.block_sim.proofs.Public.{class_has_stem, one_class_stem}
+use Rattle.flat_circuit.specs.Regions.{IsStemOfClass}
+use Rattle.flat_circuit.proofs.Public.{class_has_stem, one_class_stem}
 use Rattle.region_runs.specs.declared.parts.PartVerdict.{PartVerdict}
 use Rattle.region_runs.specs.declared.parts.PartVerdict.TheVariants.{First, OtherPart}
 use Rattle.region_runs.specs.Part.{ArePartVerdicts, IsPartVerdict}

@@ -14,12 +14,12 @@ use Rattle.fault_model.specs.Solution.{Test}
 use Rattle.bench_net.specs.Statement.{Statement}
 use Rattle.patterns.specs.declared.Outcome.TheVariants.{Clear, Hit}
 use Rattle.patterns.specs.Tests.{size_of}
-use Rattle.block_sim.specs.declared.origin.ListedClass.{ListedClass}
+use Rattle.flat_circuit.specs.declared.origin.ListedClass.{ListedClass}
 use Rattle.block_sim.specs.First.{IsOutcome, IsTrueOutcome, IsFirstIn, IsFirstOn}
-use Rattle.block_sim.specs.Origins.{IsListed}
+use Rattle.block_sim.specs.Listed.{IsListed}
 use Rattle.block_sim.specs.Parts.{Parts}
 use Rattle.region_sim.specs.RegionHits.{HasFirst, IsOpenAt}
-use Rattle.block_sim.specs.BlockSpans.{IsInSpan}
+use Rattle.flat_circuit.specs.BlockSpans.{IsInSpan}
 use Rattle.region_runs.specs.declared.stretch_run.BlockSweep.{BlockSweep}
 use Rattle.region_runs.specs.BlockSweeps.{HaveFirstsFrom, HaveFirstsAfter, between, classes_of}
 

@@ -13,10 +13,10 @@ use Rattle.bench_net.specs.Scan.{names}
 use Rattle.bench_net.specs.Statement.{Statement}
 use Rattle.fault_model.specs.Reordered.{HasSameSignals, IsReordered, place}
 use Rattle.fault_model.proofs.Public.{in_signal_order, same_signals}
-use Rattle.block_sim.specs.Arranged.{ArePlaces, IsArranged}
+use Rattle.flat_circuit.specs.Arranged.{ArePlaces, IsArranged}
 use Rattle.block_sim.specs.Parts.{Parts}
-use Rattle.block_sim.specs.Regions.{IsStemOfClass}
-use Rattle.block_sim.proofs.Public.{one_class_stem}
+use Rattle.flat_circuit.specs.Regions.{IsStemOfClass}
+use Rattle.flat_circuit.proofs.Public.{one_class_stem}
 use Rattle.region_runs.specs.ClassOrder.{AreVisits, AreVisitsTo}
 use Rattle.region_runs.specs.Part.{AreAllByRegion, ArePartOf, IsOfPart}
 use Rattle.region_runs.specs.SortedPlaces.{AreSortedPlaces, GoesFirst}

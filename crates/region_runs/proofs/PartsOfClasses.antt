@@ -8,8 +8,8 @@ use Rattle.bench_net.specs.Statement.{Statement}
 use Rattle.fault_model.specs.declared.Model.{Model}
 use Rattle.fault_model.specs.Solution.{Test}
 use Rattle.block_sim.specs.First.{IsFirst}
-use Rattle.block_sim.specs.Regions.{IsStemOfClass}
-use Rattle.block_sim.proofs.Public.{class_has_stem, one_class_stem}
+use Rattle.flat_circuit.specs.Regions.{IsStemOfClass}
+use Rattle.flat_circuit.proofs.Public.{class_has_stem, one_class_stem}
 use Rattle.std.proofs.Math.Nat.{mod-lt, mul_comm, mul-le-mul_left, suc-mul}
 use Rattle.patterns.specs.Tests.{blocks}
 use Rattle.std.proofs.Math.Seq.{take-add}

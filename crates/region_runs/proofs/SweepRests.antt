@@ -11,7 +11,7 @@ use Rattle.patterns.specs.Least.{Table, least}
 use Rattle.patterns.specs.Tests.{blocks}
 use Rattle.patterns.specs.declared.Outcome.{Outcome}
 use Rattle.patterns.specs.declared.Outcome.TheVariants.{Clear, Hit}
-use Rattle.block_sim.specs.declared.origin.ListedClass.{ListedClass}
+use Rattle.flat_circuit.specs.declared.origin.ListedClass.{ListedClass}
 use Rattle.block_sim.specs.First.{IsTrueOutcome}
 use Rattle.block_sim.specs.Parts.{BelongTogether, Parts}
 use Rattle.region_sim.specs.OpenPlaces.{AreSettled}

@@ -3,13 +3,13 @@
 use Rattle.std.specs.Prelude.{◌≡◌, ◌⊎◌, ◌<◌, ◌≤◌, ◌+◌, ℕ, List, Option, Some, None, All, length}
 use Rattle.std.specs.Prelude.{map, slice_get}
 use Rattle.patterns.specs.Tests.{blocks}
-use Rattle.block_sim.specs.declared.origin.ListedClass.{ListedClass}
-use Rattle.block_sim.specs.declared.block_span.BlockSpan.{BlockSpan}
-use Rattle.block_sim.specs.Origins.{IsListed}
+use Rattle.flat_circuit.specs.declared.origin.ListedClass.{ListedClass}
+use Rattle.flat_circuit.specs.declared.block_span.BlockSpan.{BlockSpan}
+use Rattle.block_sim.specs.Listed.{IsListed}
 use Rattle.block_sim.specs.Parts.{Parts}
 use Rattle.region_sim.specs.RegionHits.{HasFirst, IsOpenAt}
 use Rattle.block_sim.specs.First.{IsFirstOn}
-use Rattle.block_sim.specs.BlockSpans.{unit_of}
+use Rattle.flat_circuit.specs.BlockSpans.{unit_of}
 use Rattle.workers.specs.Stops.{Stops}
 use Rattle.region_runs.specs.declared.stretch_run.BlockSweep.{BlockSweep}
 

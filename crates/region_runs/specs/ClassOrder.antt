@@ -2,7 +2,7 @@
 use Rattle.std.specs.Prelude.{◌≡◌, ◌<◌, ◌≤◌, ℕ, List, All, length, slice_index}
 use Rattle.bench_net.specs.Scan.{names}
 use Rattle.block_sim.specs.Parts.{Parts}
-use Rattle.block_sim.specs.Regions.{IsStemOfClass}
+use Rattle.flat_circuit.specs.Regions.{IsStemOfClass}
 use Rattle.region_runs.specs.Part.{stretch_size}
 
 -- the first n classes, by their own numbers, with the visits to the stems of their regions

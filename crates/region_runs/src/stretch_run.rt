@@ -6,7 +6,7 @@ ghost use Rattle.std.specs.Prelude.{false, length, slice_get, true};
 ghost use Rattle.patterns.specs.Least.{Table, least};
 ghost use Rattle.patterns.specs.Tests.{blocks};
 ghost use Rattle.block_sim.specs.First.{IsTrueOutcome, IsFirstOn};
-ghost use Rattle.block_sim.specs.Origins.{IsListed};
+ghost use Rattle.block_sim.specs.Listed.{IsListed};
 ghost use Rattle.block_sim.specs.Parts.{BelongTogether, Parts};
 ghost use Rattle.region_sim.specs.RegionHits.{ServesRegions};
 ghost use Rattle.workers.specs.Schedule.{IsTableOf};

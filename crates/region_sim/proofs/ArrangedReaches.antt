@@ -7,10 +7,10 @@ use Rattle.fault_model.specs.Solution.{Test}
 use Rattle.fault_model.specs.Reordered.{moved_fault}
 use Rattle.fault_model.proofs.Public.{detected_same}
 use Rattle.region_sim.specs.declared.region.Reach.TheVariants.{Observed}
-use Rattle.block_sim.specs.Arranged.{IsArranged}
+use Rattle.flat_circuit.specs.Arranged.{IsArranged}
 use Rattle.region_sim.specs.Reached.{IsReached}
-use Rattle.block_sim.specs.Words.{test_of}
-use Rattle.block_sim.proofs.Public.{reordered}
+use Rattle.flat_circuit.specs.Words.{test_of}
+use Rattle.flat_circuit.proofs.Public.{reordered}
 
 module _ (c d : List Statement) (well : IsWellFormed c) (arranged : IsArranged c d) where
   -- the same tests of a group detect a fault

@@ -20,14 +20,14 @@ use Rattle.fault_model.specs.Detection.{HasBit, name_on}
 use Rattle.fault_model.proofs.Public.{agree, carries as carries_named, detection_is_of_any_solution}
 use Rattle.fault_model.proofs.Public.{has_solutions, pins_agree, under_other}
 use Rattle.event_queue.proofs.Public.{index_zero}
-use Rattle.block_sim.specs.Regions.{Alters, DetectsFlip, HasCome, start_of}
+use Rattle.block_sim.specs.Flips.{Alters, DetectsFlip, HasCome, start_of}
 use Rattle.block_sim.specs.Propagation.{AreShown}
-use Rattle.block_sim.specs.Words.{lane, lane_bits, pin_bits, test_of, AreWords}
-use Rattle.block_sim.proofs.Public.{pins_named, Enters, arg_named}
+use Rattle.flat_circuit.specs.Words.{lane, lane_bits, pin_bits, test_of, AreWords}
+use Rattle.flat_circuit.proofs.Public.{pins_named, lane_xor, lane_zero, unlike}
+use Rattle.block_sim.proofs.Public.{Enters, arg_named, stem_stuck, stem_there, turned_of}
 use Rattle.block_sim.proofs.Public.{gate_named_of_entered_gates as gate_named, outside}
 use Rattle.block_sim.proofs.Public.{gate_named_of_signal_equations as equated_gate_named, altered}
 use Rattle.block_sim.proofs.Public.{entered_back, entered_there, not_itself, pin_enters, stem_back}
-use Rattle.block_sim.proofs.Public.{stem_stuck, stem_there, turned_of, lane_xor, lane_zero, unlike}
 use Rattle.block_sim.proofs.Public.{observer_law}
 
 pub unlike_differs : (a b x : Bool) → unlike a b ≡ x → a ≢ x → b ≡ true

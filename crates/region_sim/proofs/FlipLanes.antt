@@ -14,15 +14,16 @@ use Rattle.fault_model.specs.declared.Line.TheVariants as line
 use Rattle.fault_model.specs.Solution.{Test, Detects}
 use Rattle.fault_model.specs.Detection.{HasBit}
 use Rattle.fault_model.proofs.Public.{detection_is_of_any_solution, has_solutions}
-use Rattle.block_sim.specs.Regions.{DetectsFlip, TellsFirstFlips, flip, flips}
+use Rattle.block_sim.specs.Flips.{DetectsFlip, TellsFirstFlips, flip, flips}
 use Rattle.block_sim.specs.declared.propagation.Followed.{Followed}
 use Rattle.block_sim.specs.Propagation.{AreShown, IsFirstChange}
 use Rattle.block_sim.specs.ActiveGates.{HasActiveIn}
-use Rattle.block_sim.specs.BlockSpans.{AreInSpan, IsInSpan, group_of}
-use Rattle.block_sim.specs.declared.block_span.BlockSpan.{BlockSpan}
+use Rattle.flat_circuit.specs.BlockSpans.{AreInSpan, IsInSpan, group_of}
+use Rattle.flat_circuit.specs.declared.block_span.BlockSpan.{BlockSpan}
 use Rattle.block_sim.specs.Ways.{HasActiveByFlip}
-use Rattle.block_sim.specs.Words.{lane, lane_bits, test_of, AreWords}
-use Rattle.block_sim.proofs.Public.{bit_is, lane_xor, unlike, index_of, first_on_stem}
+use Rattle.flat_circuit.specs.Words.{lane, lane_bits, test_of, AreWords}
+use Rattle.flat_circuit.proofs.Public.{lane_xor, unlike, index_of}
+use Rattle.block_sim.proofs.Public.{bit_is, first_on_stem}
 
 turned_bit : (a l : Bool) → l ≡ true → unlike a l ≡ not a
 turned_bit true l e = ap not e

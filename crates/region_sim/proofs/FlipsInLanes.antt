@@ -14,9 +14,9 @@ use Rattle.fault_model.specs.declared.Line.TheVariants as line
 use Rattle.fault_model.specs.Solution.{Test, Detects}
 use Rattle.fault_model.specs.Detection.{HasBit}
 use Rattle.fault_model.proofs.Public.{detection_is_of_any_solution, has_solutions}
-use Rattle.block_sim.specs.Regions.{DetectsFlip, flip, flips}
+use Rattle.block_sim.specs.Flips.{DetectsFlip, flip, flips}
 use Rattle.block_sim.specs.Propagation.{AreShown}
-use Rattle.block_sim.specs.Words.{lane, lane_bits, test_of, AreWords}
+use Rattle.flat_circuit.specs.Words.{lane, lane_bits, test_of, AreWords}
 use Rattle.region_sim.proofs.FlipLanes.{has_bit}
 use Rattle.block_sim.proofs.Public.{bit_is}
 

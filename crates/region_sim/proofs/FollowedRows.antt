@@ -7,13 +7,13 @@ use Rattle.std.proofs.lemmas.Bool.{cases_eq, cases_lt}
 use Rattle.std.proofs.lemmas.List.{length-append, length-set}
 use Rattle.list_lemmas.proofs.Members.{Among, among, among_append, among_left, among_right}
 use Rattle.list_lemmas.proofs.Members.{contained}
-use Rattle.block_sim.specs.declared.block_span.BlockSpan.{BlockSpan}
-use Rattle.block_sim.specs.declared.origin.ListedClass.{ListedClass}
+use Rattle.flat_circuit.specs.declared.block_span.BlockSpan.{BlockSpan}
+use Rattle.flat_circuit.specs.declared.origin.ListedClass.{ListedClass}
 use Rattle.region_sim.specs.OpenPlaces.{AreSettled}
 use Rattle.block_sim.specs.Parts.{Parts}
 use Rattle.region_sim.specs.RegionHits.{HasFirst, IsOpenAt}
 use Rattle.block_sim.specs.First.{IsFirstOn}
-use Rattle.block_sim.proofs.Public.{set_here, set_there}
+use Rattle.flat_circuit.proofs.Public.{set_here, set_there}
 
 -- the place is that of an entry
 abbrev pub IsPlaceOf : {X : Type 0} → (X → ℕ) → List X → ℕ → Type 0

@@ -2,7 +2,7 @@
 use Rattle.std.proofs.Common.{◌≡◌, ◌+◌, ◌<◌, ◌≤◌, ℕ, sym, ◌∙◌, ap, subst, List, length, arith}
 use Rattle.std.specs.Prelude.{◌⊎◌, None, Option, Some, slice_get}
 use Rattle.wide_words.specs.Wide.{number}
-use Rattle.block_sim.specs.declared.origin.ListedClass.{ListedClass}
+use Rattle.flat_circuit.specs.declared.origin.ListedClass.{ListedClass}
 use Rattle.region_sim.specs.declared.unit_simulation.UnitClass.{UnitClass}
 use Rattle.block_sim.specs.Parts.{Parts}
 use Rattle.region_sim.specs.UnitHits.{AreClassesAt, AreClassesOpen, HaveArrivedInUnit}

@@ -10,18 +10,19 @@ use Rattle.bench_net.specs.Statement.{Statement}
 use Rattle.fault_model.specs.Fault.{Fault}
 use Rattle.fault_model.specs.Solution.{Test, Detects}
 use Rattle.fault_model.specs.Detection.{DetectsAt}
-use Rattle.block_sim.specs.declared.block_span.BlockSpan.{BlockSpan}
-use Rattle.block_sim.specs.declared.origin.ListedClass.{ListedClass}
+use Rattle.flat_circuit.specs.declared.block_span.BlockSpan.{BlockSpan}
+use Rattle.flat_circuit.specs.declared.origin.ListedClass.{ListedClass}
 use Rattle.region_sim.specs.declared.simulation.Approach.{Approach}
 use Rattle.region_sim.specs.declared.simulation.Approach.TheVariants.{Known, Stem}
-use Rattle.block_sim.specs.BlockSpans.{group_of}
+use Rattle.flat_circuit.specs.BlockSpans.{group_of}
 use Rattle.region_sim.specs.GroupLanes.{AreAmongLanes, AreApproaches, AreGroupLanes, HasWholeGroup}
 use Rattle.region_sim.specs.GroupLanes.{HaveGroupLanes, IsAmongLanes, IsApproachInLanes, lanes_seen}
 use Rattle.block_sim.specs.Parts.{Parts}
-use Rattle.block_sim.specs.Regions.{AreLanesFor, DetectsFlip}
+use Rattle.block_sim.specs.Flips.{AreLanesFor, DetectsFlip}
 use Rattle.region_sim.specs.Simulation.{HasArrived}
-use Rattle.block_sim.specs.Words.{lane, test_of}
-use Rattle.block_sim.proofs.Public.{lane_or, index_of, set_here, set_there, lanes_both, lanes_first}
+use Rattle.flat_circuit.specs.Words.{lane, test_of}
+use Rattle.flat_circuit.proofs.Public.{lane_or, index_of, set_here, set_there}
+use Rattle.block_sim.proofs.Public.{lanes_both, lanes_first}
 use Rattle.block_sim.proofs.Public.{lanes_second}
 
 -- a word that decides in which of its lanes a fault is detected decides which tests detect it

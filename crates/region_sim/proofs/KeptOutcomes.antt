@@ -9,7 +9,7 @@ use Rattle.list_lemmas.proofs.Members.{Among, among, among_append, among_left, a
 use Rattle.list_lemmas.proofs.Members.{contained}
 use Rattle.bench_net.specs.Scan.{names}
 use Rattle.bench_net.specs.Circuit.{IsWellFormed}
-use Rattle.block_sim.specs.declared.block_span.BlockSpan.{BlockSpan}
+use Rattle.flat_circuit.specs.declared.block_span.BlockSpan.{BlockSpan}
 use Rattle.block_sim.specs.First.{TellsFirst}
 use Rattle.region_sim.specs.declared.simulation.Memo.{Memo}
 use Rattle.region_sim.specs.declared.simulation.Memo.TheVariants.{Nothing}
@@ -17,11 +17,11 @@ use Rattle.block_sim.specs.declared.propagation.Followed.{Followed}
 use Rattle.block_sim.specs.declared.propagation_state.PropagationState.{PropagationState}
 use Rattle.block_sim.specs.PropagationState.{HasRoomFor, IsAsLarge, IsAtRest, IsClear}
 use Rattle.block_sim.specs.Parts.{Parts}
-use Rattle.block_sim.specs.Regions.{TellsFirstFlips}
+use Rattle.block_sim.specs.Flips.{TellsFirstFlips}
 use Rattle.region_sim.specs.Simulation.{AreFollowed, AreTrueBut, AreTrueMemos, HasArrived}
 use Rattle.region_sim.specs.Simulation.{IsFollowed, IsTrueMemo, TellsFirstIn}
-use Rattle.block_sim.specs.BlockSpans.{AreInSpan, group_of}
-use Rattle.block_sim.specs.Words.{lane}
+use Rattle.flat_circuit.specs.BlockSpans.{AreInSpan, group_of}
+use Rattle.flat_circuit.specs.Words.{lane}
 use Rattle.block_sim.proofs.Public.{lanes_first, lanes_law}
 
 -- the first test that detects a class that reached a stem in some lanes

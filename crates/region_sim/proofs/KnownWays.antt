@@ -10,8 +10,8 @@ use Rattle.bench_net.specs.Statement.{Statement}
 use Rattle.region_sim.specs.declared.simulation.Memo.{Memo}
 use Rattle.region_sim.specs.declared.simulation.Memo.TheVariants.{Nothing}
 use Rattle.fault_model.specs.Solution.{Test}
-use Rattle.block_sim.specs.declared.block_span.BlockSpan.{BlockSpan}
-use Rattle.block_sim.specs.BlockSpans.{IsSpan, span_from}
+use Rattle.flat_circuit.specs.declared.block_span.BlockSpan.{BlockSpan}
+use Rattle.flat_circuit.specs.BlockSpans.{IsSpan, span_from}
 use Rattle.block_sim.specs.Ways.{HasActiveByFlip}
 use Rattle.region_sim.specs.KnownWays.{is_between, is_on, known_ways}
 

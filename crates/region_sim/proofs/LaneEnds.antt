@@ -15,8 +15,9 @@ use Rattle.fault_model.specs.Solution.{Test, Solves, Detects, shows}
 use Rattle.fault_model.proofs.Public.{detection_is_of_any_solution, has_solutions, observes}
 use Rattle.fault_model.proofs.Public.{under_other}
 use Rattle.block_sim.specs.ActiveGates.{IsActiveBy}
-use Rattle.block_sim.specs.Events.{IsElsewhere, IsObserved, IsRising, Reads, observed}
-use Rattle.block_sim.proofs.Public.{unlike}
+use Rattle.flat_circuit.specs.Readers.{IsObserved, IsRising, Reads, observed}
+use Rattle.block_sim.specs.Events.{IsElsewhere}
+use Rattle.flat_circuit.proofs.Public.{unlike}
 use Rattle.region_sim.proofs.OneLane.{IsLane, differing, kept_bit, right_by_now, turned_back}
 
 module _ (c : List Statement) (well : IsWellFormed c) (rising : IsRising c) (t : Test) (f : Fault)

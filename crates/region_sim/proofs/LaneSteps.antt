@@ -11,9 +11,11 @@ use Rattle.fault_model.specs.declared.Line.TheVariants as line
 use Rattle.fault_model.specs.Fault.{Fault}
 use Rattle.fault_model.specs.Solution.{Test, Solves, under, value}
 use Rattle.fault_model.proofs.Public.{pins_agree}
-use Rattle.block_sim.specs.Events.{HasEquation, IsElsewhere, IsLive, IsRising, Reads}
+use Rattle.flat_circuit.specs.Readers.{IsLive, IsRising, Reads}
+use Rattle.block_sim.specs.Events.{HasEquation, IsElsewhere}
 use Rattle.block_sim.specs.Propagation.{Counts}
-use Rattle.block_sim.proofs.Public.{unlike, reader_live, each_equation, equation_elsewhere}
+use Rattle.flat_circuit.proofs.Public.{unlike}
+use Rattle.block_sim.proofs.Public.{reader_live, each_equation, equation_elsewhere}
 use Rattle.region_sim.proofs.OneLane.{IsLane, bit_cases, differing, equation_like, kept_bit}
 use Rattle.region_sim.proofs.OneLane.{right_by_now, same_bit, self}
 

@@ -17,10 +17,11 @@ use Rattle.fault_model.specs.Solution.{Test, Solves, Detects, value, pins_see}
 use Rattle.fault_model.specs.Detection.{HasBit, name_on}
 use Rattle.fault_model.proofs.Public.{agree, carries as carries_named}
 use Rattle.fault_model.proofs.Public.{has_solutions, pins_agree, under_other}
-use Rattle.block_sim.specs.Regions.{Alters, DetectsFlip, start_of}
+use Rattle.block_sim.specs.Flips.{Alters, DetectsFlip, start_of}
 use Rattle.block_sim.proofs.Public.{Enters, arg_named, gate_named_of_entered_gates as gate_named}
 use Rattle.block_sim.proofs.Public.{outside, altered, entered_back, entered_there, not_itself}
-use Rattle.block_sim.proofs.Public.{stem_back, stem_stuck, stem_there, turned_of, unlike}
+use Rattle.flat_circuit.proofs.Public.{unlike}
+use Rattle.block_sim.proofs.Public.{stem_back, stem_stuck, stem_there, turned_of}
 use Rattle.block_sim.proofs.Public.{observer_law}
 use Rattle.region_sim.proofs.FaultLanes.{unlike_differs, unlike_turns}
 

@@ -14,9 +14,11 @@ use Rattle.fault_model.specs.declared.Line.TheVariants as line
 use Rattle.fault_model.specs.Fault.{Fault}
 use Rattle.fault_model.specs.Solution.{Test, Solves, under, value}
 use Rattle.fault_model.proofs.Public.{Driven, driven, pins_agree}
-use Rattle.block_sim.specs.Events.{HasEquation, IsElsewhere, IsLive, IsRising, Reads}
+use Rattle.flat_circuit.specs.Readers.{IsLive, IsRising, Reads}
+use Rattle.block_sim.specs.Events.{HasEquation, IsElsewhere}
 use Rattle.block_sim.specs.Propagation.{Counts}
-use Rattle.block_sim.proofs.Public.{unlike, counts_closed, reader_live, each_equation}
+use Rattle.flat_circuit.proofs.Public.{unlike}
+use Rattle.block_sim.proofs.Public.{counts_closed, reader_live, each_equation}
 use Rattle.block_sim.proofs.Public.{equation_elsewhere, equation_same}
 
 -- the bits of a valuation, but complemented where a signal differs

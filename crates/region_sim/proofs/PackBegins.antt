@@ -14,10 +14,11 @@ use Rattle.list_lemmas.proofs.Places.{at_place, place_within}
 use Rattle.wide_words.specs.Lanes.{Layout, lane_in, slot_of}
 use Rattle.region_sim.specs.declared.pack.Slot.{Slot}
 use Rattle.block_sim.specs.declared.propagation.Followed.{Followed}
-use Rattle.block_sim.specs.Events.{AreScheduled, IsLive, Reads}
+use Rattle.flat_circuit.specs.Readers.{IsLive, Reads}
+use Rattle.block_sim.specs.Events.{AreScheduled}
 use Rattle.region_sim.specs.Pack.{AreStarted, HaveLane, IsIn, stem_at}
-use Rattle.block_sim.specs.Words.{lane}
-use Rattle.block_sim.proofs.Public.{lane_or, lane_zero, mapped_at, at_end}
+use Rattle.flat_circuit.specs.Words.{lane}
+use Rattle.flat_circuit.proofs.Public.{lane_or, lane_zero, mapped_at, at_end}
 use Rattle.region_sim.proofs.PackRanges.{in_range, range_from}
 
 -- Of the first slots, as many as the number, the stems differ, each in the lanes of its own slot in

@@ -8,11 +8,11 @@ use Rattle.std.specs.List.{list_all}
 use Rattle.bench_net.specs.declared.Kind.{Kind}
 use Rattle.fault_model.specs.Solution.{is_odd, value}
 use Rattle.wide_words.specs.Lanes.{IsLayout, Layout, lane_in, slot_of, slots}
-use Rattle.block_sim.specs.declared.gate_form.GateForm.{GateForm}
-use Rattle.block_sim.specs.GateForms.{IsFormOf, inverted_if}
+use Rattle.flat_circuit.specs.declared.gate_form.GateForm.{GateForm}
+use Rattle.flat_circuit.specs.GateForms.{IsFormOf, inverted_if}
 use Rattle.region_sim.specs.Pack.{wide_bit}
-use Rattle.block_sim.specs.Words.{lane}
-use Rattle.block_sim.proofs.Public.{unlike}
+use Rattle.flat_circuit.specs.Words.{lane}
+use Rattle.flat_circuit.proofs.Public.{unlike}
 
 -- the lane of a group that a lane of a wide word copies is one of 128
 pub in_group : (layout : Layout) → IsLayout layout → (k : ℕ) → lane_in layout k < 128

@@ -10,11 +10,11 @@ use Rattle.wide_words.specs.Lanes.{IsLayout, Layout, lane_in, slot_of}
 use Rattle.block_sim.specs.declared.propagation.Followed.{Followed}
 use Rattle.region_sim.specs.declared.pack.Slot.{Slot}
 use Rattle.region_sim.specs.Pack.{AreKeptAfter, HaveHitsIn, IsIn}
-use Rattle.block_sim.specs.Words.{lane}
+use Rattle.flat_circuit.specs.Words.{lane}
 use Rattle.region_sim.proofs.OneLane.{bit_cases}
 use Rattle.region_sim.proofs.PackRanges.{in_range}
 use Rattle.region_sim.proofs.PackSlots.{lanes_rise}
-use Rattle.block_sim.proofs.Public.{left_of, right_of}
+use Rattle.flat_circuit.proofs.Public.{left_of, right_of}
 
 -- the least number that passes is below a bound, or none is
 found_below : (p : ℕ → Bool) (n : ℕ) → ((m : ℕ) × (m < n) × (p m ≡ true))

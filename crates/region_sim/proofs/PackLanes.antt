@@ -13,8 +13,8 @@ use Rattle.bench_net.specs.Circuit.{IsWellFormed}
 use Rattle.fault_model.specs.Fault.{Fault, branch}
 use Rattle.fault_model.specs.Solution.{Test, Detects, Solves}
 use Rattle.block_sim.specs.ActiveGates.{IsActiveBy}
-use Rattle.block_sim.specs.Events.{AreScheduled, HasEquation, IsElsewhere, IsLive, IsObserved}
-use Rattle.block_sim.specs.Events.{IsRising, Reads}
+use Rattle.flat_circuit.specs.Readers.{IsLive, IsObserved, IsRising, Reads}
+use Rattle.block_sim.specs.Events.{AreScheduled, HasEquation, IsElsewhere}
 use Rattle.block_sim.specs.Propagation.{is_pending}
 use Rattle.region_sim.proofs.LaneEnds.{lane_active, lane_detects, lane_misses}
 use Rattle.region_sim.proofs.LaneSteps.{lane_evaluated}

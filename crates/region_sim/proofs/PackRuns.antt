@@ -17,15 +17,17 @@ use Rattle.fault_model.specs.Detection.{HasBit}
 use Rattle.fault_model.specs.Solution.{Test, Detects, value}
 use Rattle.fault_model.proofs.Public.{IsSource, source_definition}
 use Rattle.wide_words.specs.Lanes.{IsLayout, Layout, lane_in, slot_of}
-use Rattle.block_sim.specs.Events.{AreScheduled, HasEquation, IsRising, Reads}
+use Rattle.flat_circuit.specs.Readers.{IsRising, Reads}
+use Rattle.block_sim.specs.Events.{AreScheduled, HasEquation}
 use Rattle.region_sim.specs.Pack.{AreGateRows, AreGateWords, AreHitIn, AreRows, HasActiveByPack}
 use Rattle.region_sim.specs.Pack.{IsIn, TellsPack, stem_at}
 use Rattle.block_sim.specs.Propagation.{is_pending}
-use Rattle.block_sim.specs.Regions.{DetectsFlip, flip}
-use Rattle.block_sim.specs.Words.{AreWords, lane, lane_bits}
+use Rattle.block_sim.specs.Flips.{DetectsFlip, flip}
+use Rattle.flat_circuit.specs.Words.{AreWords, lane, lane_bits}
 use Rattle.region_sim.specs.declared.pack.Slot.{Slot}
 use Rattle.block_sim.specs.declared.propagation.Followed.{Followed}
-use Rattle.block_sim.proofs.Public.{free_pins, gate_at, nothing, bit_is, unlike, place_within}
+use Rattle.flat_circuit.proofs.Public.{gate_at, nothing, unlike}
+use Rattle.block_sim.proofs.Public.{free_pins, bit_is, place_within}
 use Rattle.block_sim.proofs.Public.{pending_higher, equation_elsewhere}
 use Rattle.block_sim.proofs.Public.{gate_named_of_signal_equations as gate_named}
 use Rattle.region_sim.proofs.OneLane.{bit_cases, differing, self}

@@ -14,8 +14,9 @@ use Rattle.block_sim.specs.declared.propagation.Followed.{Followed}
 use Rattle.region_sim.specs.declared.pack.Slot.{Slot}
 use Rattle.region_sim.specs.Pack.{AreKeptAfter, HasLaneBeside, HaveHitsIn, HaveLane}
 use Rattle.block_sim.specs.Propagation.{HaveHits}
-use Rattle.block_sim.specs.Words.{lane}
-use Rattle.block_sim.proofs.Public.{lane_and, lane_or, lane_xor, unlike, at_end, left_of, right_of}
+use Rattle.flat_circuit.specs.Words.{lane}
+use Rattle.flat_circuit.proofs.Public.{lane_and, lane_or, lane_xor, unlike, at_end, left_of}
+use Rattle.flat_circuit.proofs.Public.{right_of}
 use Rattle.region_sim.proofs.PackGates.{in_group}
 
 either : (b : Bool) → (b ≡ true) ⊎ (b ≡ false)

@@ -13,13 +13,15 @@ use Rattle.fault_model.specs.declared.Line.TheVariants as line
 use Rattle.fault_model.specs.Solution.{Test, Solves}
 use Rattle.fault_model.proofs.Public.{observes, under_own}
 use Rattle.wide_words.specs.Lanes.{IsLayout, Layout, lane_in, slot_of}
-use Rattle.block_sim.specs.Events.{HasEquation, IsElsewhere, IsObserved, IsRising}
+use Rattle.flat_circuit.specs.Readers.{IsObserved, IsRising}
+use Rattle.block_sim.specs.Events.{HasEquation, IsElsewhere}
 use Rattle.region_sim.specs.Pack.{AreRows, AreStarted, stem_at}
-use Rattle.block_sim.specs.Regions.{flip}
-use Rattle.block_sim.specs.Words.{lane, lane_bits, test_of}
+use Rattle.block_sim.specs.Flips.{flip}
+use Rattle.flat_circuit.specs.Words.{lane, lane_bits, test_of}
 use Rattle.region_sim.specs.declared.pack.Slot.{Slot}
 use Rattle.block_sim.specs.declared.propagation.Followed.{Followed}
-use Rattle.block_sim.proofs.Public.{stem_stuck, index_of, mapped_at, unlike}
+use Rattle.flat_circuit.proofs.Public.{index_of, mapped_at, unlike}
+use Rattle.block_sim.proofs.Public.{stem_stuck}
 use Rattle.region_sim.proofs.OneLane.{IsLane, differing, lane_first, turned_bit}
 use Rattle.region_sim.proofs.PackGates.{in_group, slot_low}
 use Rattle.region_sim.proofs.PackLanes.{ArePropagating, Lanes, LanesMoment}

@@ -11,11 +11,12 @@ use Rattle.bench_net.specs.Scan.{signal}
 use Rattle.bench_net.specs.Circuit.{IsWellFormed}
 use Rattle.fault_model.specs.Solution.{value}
 use Rattle.wide_words.specs.Lanes.{Layout, lane_in, slot_of}
-use Rattle.block_sim.specs.Events.{AreScheduled, IsObserved}
-use Rattle.block_sim.specs.GateForms.{inverted_if}
+use Rattle.flat_circuit.specs.Readers.{IsObserved}
+use Rattle.block_sim.specs.Events.{AreScheduled}
+use Rattle.flat_circuit.specs.GateForms.{inverted_if}
 use Rattle.region_sim.specs.Pack.{IsEvaluated, wide_bit}
-use Rattle.block_sim.specs.Words.{lane}
-use Rattle.block_sim.proofs.Public.{lane_and, lane_or, unlike}
+use Rattle.flat_circuit.specs.Words.{lane}
+use Rattle.flat_circuit.proofs.Public.{lane_and, lane_or, unlike}
 use Rattle.block_sim.proofs.Public.{gate_named_of_signal_equations as gate_named}
 use Rattle.region_sim.proofs.PackGates.{unlike_is}
 use Rattle.region_sim.proofs.PackWords.{differs_in, has_word, is_some, none_is, some_is}

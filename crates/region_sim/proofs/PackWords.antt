@@ -5,8 +5,8 @@ use Rattle.std.specs.Prelude.{All, Contains, slice_index_or, ◌==◌}
 use Rattle.std.proofs.lemmas.Bool.{eq-eqb, eqb-true, false≢true}
 use Rattle.list_lemmas.proofs.Members.{among}
 use Rattle.list_lemmas.proofs.Places.{place_within, placed}
-use Rattle.block_sim.specs.Words.{lane}
-use Rattle.block_sim.proofs.Public.{lane_zero, index_of}
+use Rattle.flat_circuit.specs.Words.{lane}
+use Rattle.flat_circuit.proofs.Public.{lane_zero, index_of}
 
 -- whether a signal differs in a lane
 abbrev pub differs_in : List ℕ → ℕ → ℕ → Bool

@@ -16,13 +16,13 @@ use Rattle.bench_net.specs.Circuit.{IsWellFormed}
 use Rattle.fault_model.specs.Reordered.{IsReordered, place}
 use Rattle.fault_model.specs.Solution.{Test}
 use Rattle.wide_words.specs.Lanes.{IsLayout, Layout, lane_in, slot_of, slots}
-use Rattle.block_sim.specs.declared.block_span.BlockSpan.{BlockSpan}
-use Rattle.block_sim.specs.declared.origin.ListedClass.{ListedClass}
+use Rattle.flat_circuit.specs.declared.block_span.BlockSpan.{BlockSpan}
+use Rattle.flat_circuit.specs.declared.origin.ListedClass.{ListedClass}
 use Rattle.region_sim.specs.declared.pack.Slot.{Slot}
 use Rattle.block_sim.specs.declared.propagation.Followed.{Followed}
 use Rattle.block_sim.specs.ActiveGates.{IsActiveBy}
-use Rattle.block_sim.specs.Events.{IsObserved}
-use Rattle.block_sim.specs.BlockSpans.{AreInSpan, IsSpan, group_of}
+use Rattle.flat_circuit.specs.Readers.{IsObserved}
+use Rattle.flat_circuit.specs.BlockSpans.{AreInSpan, IsSpan, group_of}
 use Rattle.region_sim.specs.OpenPlaces.{AreSettled}
 use Rattle.region_sim.specs.Pack.{HasActiveByPack, IsIn, TellsPack, stem_at}
 use Rattle.block_sim.specs.Parts.{Parts}
@@ -31,10 +31,10 @@ use Rattle.region_sim.specs.RegionHits.{AreSlotsConcluded, HasAdded, HasFirst, H
 use Rattle.region_sim.specs.RegionHits.{HaveFirstsBut, IsFollowedAt, IsFoundOrFollowed, IsGathered}
 use Rattle.region_sim.specs.RegionHits.{IsInSlot, IsPart}
 use Rattle.block_sim.specs.First.{IsFirstOn}
-use Rattle.block_sim.specs.Regions.{DetectsFlip, TellsFirstFlips, flip}
+use Rattle.block_sim.specs.Flips.{DetectsFlip, TellsFirstFlips, flip}
 use Rattle.region_sim.specs.Simulation.{HasArrived}
 use Rattle.block_sim.specs.Ways.{HasActiveByFlip}
-use Rattle.block_sim.specs.Words.{AreWords, lane, test_of}
+use Rattle.flat_circuit.specs.Words.{AreWords, lane, test_of}
 use Rattle.region_sim.proofs.FlipLanes.{has_bit}
 use Rattle.region_sim.proofs.KeptOutcomes.{arrived_first, arrived_within, followed_more}
 use Rattle.region_sim.proofs.PackGates.{in_group}

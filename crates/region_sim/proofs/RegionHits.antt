@@ -13,22 +13,22 @@ use Rattle.bench_net.specs.Statement.{Statement}
 use Rattle.fault_model.specs.Detection.{DetectsAt}
 use Rattle.fault_model.specs.Fault.{Fault}
 use Rattle.fault_model.specs.Solution.{Test}
-use Rattle.block_sim.specs.declared.origin.ListedClass.{ListedClass}
-use Rattle.block_sim.specs.declared.block_span.BlockSpan.{BlockSpan}
+use Rattle.flat_circuit.specs.declared.origin.ListedClass.{ListedClass}
+use Rattle.flat_circuit.specs.declared.block_span.BlockSpan.{BlockSpan}
 use Rattle.block_sim.specs.declared.propagation.Followed.{Followed}
 use Rattle.block_sim.specs.First.{TellsFirst, IsFirstIn, IsFirstOn}
 use Rattle.region_sim.specs.OpenPlaces.{AreSettled}
-use Rattle.block_sim.specs.Origins.{IsListed}
+use Rattle.block_sim.specs.Listed.{IsListed}
 use Rattle.block_sim.specs.Parts.{Parts}
 use Rattle.region_sim.specs.RegionHits.{AreConcluded, AreFollowedAt, AreOpen, HasFirst, HaveFirsts}
 use Rattle.region_sim.specs.RegionHits.{HaveFirstsBut, HaveStem, IsFollowedAt, IsFoundOrFollowed}
 use Rattle.region_sim.specs.RegionHits.{IsTestOf, open_between, open_classes}
-use Rattle.block_sim.specs.Regions.{TellsFirstFlips}
+use Rattle.block_sim.specs.Flips.{TellsFirstFlips}
 use Rattle.region_sim.specs.Simulation.{AreFollowed, HasArrived, TellsFirstIn}
-use Rattle.block_sim.specs.BlockSpans.{IsInSpan, IsSpan, group_of}
+use Rattle.flat_circuit.specs.BlockSpans.{IsInSpan, IsSpan, group_of}
 use Rattle.region_sim.proofs.FollowedRows as rows_followed
 use Rattle.region_sim.proofs.KeptOutcomes.{arrived_first}
-use Rattle.block_sim.proofs.Public.{set_here, set_there}
+use Rattle.flat_circuit.proofs.Public.{set_here, set_there}
 
 -- ---- the test of the least lane is the first one
 pub first_of_lane : (c : List Statement) (tests : List Test) (span : BlockSpan) (f : Fault)

@@ -12,12 +12,13 @@ use Rattle.bench_net.specs.Scan.{names}
 use Rattle.bench_net.specs.Circuit.{IsWellFormed}
 use Rattle.fault_model.specs.Fault.{Fault}
 use Rattle.fault_model.specs.Solution.{Test}
-use Rattle.block_sim.specs.Events.{IsLive}
-use Rattle.block_sim.specs.Regions.{DetectsFlip, HasCome, IsReadBy, Passes, lone_reader}
+use Rattle.flat_circuit.specs.Readers.{IsLive}
+use Rattle.flat_circuit.specs.Regions.{IsReadBy, lone_reader}
+use Rattle.block_sim.specs.Flips.{DetectsFlip, HasCome, Passes}
 use Rattle.region_sim.specs.Sensitized.{AreKnownFlips, CarriesFlip, IsPathTo, on_from}
-use Rattle.block_sim.specs.Words.{lane, test_of, AreWords}
-use Rattle.block_sim.proofs.Public.{dead_flip, pin_law, lanes_both, lanes_first, step_law}
-use Rattle.block_sim.proofs.Public.{lane_of_zero, only_lanes}
+use Rattle.flat_circuit.specs.Words.{lane, test_of, AreWords}
+use Rattle.flat_circuit.proofs.Public.{pin_law, lane_of_zero, only_lanes}
+use Rattle.block_sim.proofs.Public.{dead_flip, lanes_both, lanes_first, step_law}
 
 -- the stem itself
 pub carried_live : (c : List Statement) (tests : List Test) (group mask stem : ℕ)

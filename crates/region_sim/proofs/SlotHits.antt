@@ -5,7 +5,7 @@ use Rattle.std.proofs.Common.{take, drop, Option, Some, None}
 use Rattle.std.specs.Prelude.{slice_get, slice_range}
 use Rattle.std.proofs.lemmas.Bool.{cases_lt}
 use Rattle.wide_words.specs.Lanes.{Layout}
-use Rattle.block_sim.specs.declared.block_span.BlockSpan.{BlockSpan}
+use Rattle.flat_circuit.specs.declared.block_span.BlockSpan.{BlockSpan}
 use Rattle.region_sim.specs.declared.pack.Slot.{Slot}
 use Rattle.block_sim.specs.declared.propagation.Followed.{Followed}
 use Rattle.region_sim.specs.RegionHits.{AreConcluded, AreSlotsConcluded, IsFollowedAt, IsInSlot}

@@ -18,15 +18,16 @@ use Rattle.wide_words.specs.Layouts.{both_layout}
 use Rattle.wide_words.specs.Wide.{number}
 use Rattle.wide_words.specs.declared.wide.Wide.{Wide}
 use Rattle.region_sim.specs.declared.unit_start.WideReach.TheVariants.{Observed}
-use Rattle.block_sim.specs.Arranged.{IsArranged}
-use Rattle.block_sim.specs.Regions.{DetectsFlip}
+use Rattle.flat_circuit.specs.Arranged.{IsArranged}
+use Rattle.block_sim.specs.Flips.{DetectsFlip}
 use Rattle.block_sim.specs.Parts.{Parts}
 use Rattle.block_sim.specs.First.{IsFirstOn}
 use Rattle.region_sim.specs.Units.{ArrivesInUnit, HaveCome, IsTestInUnit, IsWideReached}
 use Rattle.region_sim.specs.Units.{TellsFirstInUnit, TellsUnit, group_in, lane_test, unit_span}
 use Rattle.region_sim.specs.Units.{unit_test}
-use Rattle.block_sim.specs.Words.{lane}
-use Rattle.block_sim.proofs.Public.{reordered, lanes_both, lanes_first, lanes_second, same_flips}
+use Rattle.flat_circuit.specs.Words.{lane}
+use Rattle.flat_circuit.proofs.Public.{reordered}
+use Rattle.block_sim.proofs.Public.{lanes_both, lanes_first, lanes_second, same_flips}
 
 -- the test of a lane, by its number
 pub lane_number : (tests : List Test) (group k : ℕ)

@@ -17,23 +17,23 @@ use Rattle.fault_model.specs.declared.Line.TheVariants as line
 use Rattle.wide_words.specs.Lanes.{lane_in, slot_of}
 use Rattle.wide_words.specs.Layouts.{both_layout, both_sized}
 use Rattle.wide_words.specs.Wide.{number}
-use Rattle.block_sim.specs.declared.origin.ListedClass.{ListedClass}
+use Rattle.flat_circuit.specs.declared.origin.ListedClass.{ListedClass}
 use Rattle.region_sim.specs.declared.pack.Slot.{Slot}
 use Rattle.block_sim.specs.declared.propagation.Followed.{Followed}
 use Rattle.region_sim.specs.declared.unit_simulation.UnitClass.{UnitClass}
 use Rattle.block_sim.specs.ActiveGates.{IsActiveBy}
-use Rattle.block_sim.specs.Events.{IsObserved}
+use Rattle.flat_circuit.specs.Readers.{IsObserved}
 use Rattle.region_sim.specs.OpenPlaces.{AreSettled}
 use Rattle.region_sim.specs.Pack.{AreRows, AreSlots, HasActiveByPack, TellsPack, stem_at}
 use Rattle.block_sim.specs.Parts.{Parts}
 use Rattle.region_sim.specs.RegionHits.{HasFirst, HaveFirsts}
 use Rattle.block_sim.specs.First.{IsFirstOn}
-use Rattle.block_sim.specs.Regions.{DetectsFlip, flip}
+use Rattle.block_sim.specs.Flips.{DetectsFlip, flip}
 use Rattle.region_sim.specs.UnitHits.{AreClassesAt, AreParted, AreUnitConcluded, HaveArrivedInUnit}
 use Rattle.region_sim.specs.UnitHits.{HaveFirstsBeside, IsClassAt}
 use Rattle.region_sim.specs.Units.{group_in, lane_test, unit_span, unit_test}
 use Rattle.block_sim.specs.Ways.{HasActiveByFlip}
-use Rattle.block_sim.specs.Words.{lane}
+use Rattle.flat_circuit.specs.Words.{lane}
 use Rattle.region_sim.proofs.FlipLanes.{has_bit}
 use Rattle.region_sim.proofs.PackGates.{in_group}
 use Rattle.region_sim.proofs.PackedRegions.{stem_is}

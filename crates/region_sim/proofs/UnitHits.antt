@@ -8,7 +8,7 @@ use Rattle.std.proofs.lemmas.List.{length-set}
 use Rattle.wide_words.specs.Wide.{number}
 use Rattle.region_sim.specs.declared.unit_simulation.UnitClass.{UnitClass}
 use Rattle.region_sim.specs.Units.{IsTestInUnit}
-use Rattle.block_sim.proofs.Public.{set_here, set_there}
+use Rattle.flat_circuit.proofs.Public.{set_here, set_there}
 use Rattle.region_sim.proofs.RegionHits.{member_at}
 
 pub record AreUnitTold (group seen : ℕ) (classes : List UnitClass) (n : ℕ)

@@ -1,9 +1,9 @@
 -- Lanes of a unit.
 use Rattle.std.proofs.Common.{◌≡◌, ℕ, refl, ◌∙◌, ap, Bool, true, false, ◌&&◌}
 use Rattle.std.specs.Prelude.{bit_and}
-use Rattle.block_sim.specs.GateForms.{inverted_if}
-use Rattle.block_sim.specs.Words.{lane}
-use Rattle.block_sim.proofs.Public.{lane_and, unlike}
+use Rattle.flat_circuit.specs.GateForms.{inverted_if}
+use Rattle.flat_circuit.specs.Words.{lane}
+use Rattle.flat_circuit.proofs.Public.{lane_and, unlike}
 
 and_true : (b : Bool) → (b && true) ≡ b
 and_true true = refl

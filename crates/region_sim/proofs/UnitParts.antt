@@ -12,8 +12,8 @@ use Rattle.region_sim.specs.declared.unit_simulation.UnitClass.{UnitClass}
 use Rattle.region_sim.specs.declared.pack.Slot.{Slot}
 use Rattle.region_sim.specs.Pack.{IsIn, IsWithin}
 use Rattle.region_sim.specs.UnitHits.{ArePartsAdded, IsPartIn}
-use Rattle.block_sim.specs.Words.{lane}
-use Rattle.block_sim.proofs.Public.{lane_zero, pushed_get, at_end}
+use Rattle.flat_circuit.specs.Words.{lane}
+use Rattle.flat_circuit.proofs.Public.{lane_zero, pushed_get, at_end}
 use Rattle.region_sim.proofs.RegionHits.{member_at}
 use Rattle.region_sim.proofs.SlotHits.{get_left, get_right}
 

@@ -16,13 +16,15 @@ use Rattle.wide_words.specs.Lanes.{IsLayout, Layout, lane_in, slot_of}
 use Rattle.wide_words.specs.Wide.{number}
 use Rattle.wide_words.specs.declared.wide.Wide.{Wide}
 use Rattle.region_sim.specs.declared.unit_gate.Turned.TheVariants.{Signal}
-use Rattle.block_sim.specs.Events.{IsLive}
-use Rattle.block_sim.specs.GateForms.{inverted_if}
+use Rattle.flat_circuit.specs.Readers.{IsLive}
+use Rattle.flat_circuit.specs.GateForms.{inverted_if}
 use Rattle.region_sim.specs.Pack.{AreRows}
-use Rattle.block_sim.specs.Regions.{DetectsFlip, IsReadBy, Passes, complemented_at, lone_reader}
+use Rattle.flat_circuit.specs.Regions.{IsReadBy, lone_reader}
+use Rattle.block_sim.specs.Flips.{DetectsFlip, Passes, complemented_at}
 use Rattle.region_sim.specs.Units.{AreKnownInUnit, CarryFlip, free_bit, lane_test, turned_bits}
-use Rattle.block_sim.specs.Words.{lane, lane_bits}
-use Rattle.block_sim.proofs.Public.{dead_flip, pin_law, passes_is, step_law}
+use Rattle.flat_circuit.specs.Words.{lane, lane_bits}
+use Rattle.flat_circuit.proofs.Public.{pin_law}
+use Rattle.block_sim.proofs.Public.{dead_flip, passes_is, step_law}
 use Rattle.block_sim.proofs.Public.{gate_named_of_signal_equations as gate_named}
 use Rattle.region_sim.proofs.PackGates.{in_group, slot_low}
 use Rattle.region_sim.proofs.PackRuns.{over}

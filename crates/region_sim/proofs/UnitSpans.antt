@@ -1,8 +1,8 @@
 -- The blocks of a unit.
 use Rattle.std.proofs.Common.{◌≡◌, ◌+◌, ◌*◌, ◌/◌, ◌%◌, ℕ, ap, ◌∙◌, arith, true, false}
 use Rattle.std.specs.Prelude.{Bool, if◌then◌else◌}
-use Rattle.block_sim.specs.declared.block_span.BlockSpan.{BlockSpan}
-use Rattle.block_sim.specs.BlockSpans.{begins_unit, span_of, unit_of}
+use Rattle.flat_circuit.specs.declared.block_span.BlockSpan.{BlockSpan}
+use Rattle.flat_circuit.specs.BlockSpans.{begins_unit, span_of, unit_of}
 use Rattle.region_sim.specs.Units.{unit_span}
 
 abbrev whole_unit : ℕ → BlockSpan

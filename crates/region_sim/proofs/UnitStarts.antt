@@ -27,13 +27,14 @@ use Rattle.region_sim.specs.declared.unit_gate.Turned.TheVariants as turned
 use Rattle.region_sim.specs.declared.unit_region.WideArrival.{WideArrival}
 use Rattle.region_sim.specs.declared.unit_start.WideReach.{WideReach}
 use Rattle.region_sim.specs.declared.unit_start.WideReach.TheVariants.{Observed, Stem}
-use Rattle.block_sim.specs.GateForms.{inverted_if}
+use Rattle.flat_circuit.specs.GateForms.{inverted_if}
 use Rattle.region_sim.specs.Pack.{AreRows}
-use Rattle.block_sim.specs.Regions.{start_of}
+use Rattle.block_sim.specs.Flips.{start_of}
 use Rattle.region_sim.specs.Units.{HaveCome, CarryFlip, free_bit, lane_test, turned_bits}
 use Rattle.block_sim.specs.Ways.{IsWay, IsWayOfLine}
-use Rattle.block_sim.specs.Words.{lane, lane_bits}
-use Rattle.block_sim.proofs.Public.{gate_within, Enters, pin_enters, unlike, lanes_both}
+use Rattle.flat_circuit.specs.Words.{lane, lane_bits}
+use Rattle.flat_circuit.proofs.Public.{gate_within, unlike}
+use Rattle.block_sim.proofs.Public.{Enters, pin_enters, lanes_both}
 use Rattle.block_sim.proofs.Public.{lanes_first, lanes_second, fault_law}
 use Rattle.block_sim.proofs.Public.{gate_named_of_signal_equations as gate_named}
 use Rattle.region_sim.proofs.OneFault.{observer_reached, pin_reached, stem_reached}

@@ -4,14 +4,14 @@ use Rattle.std.specs.Bool.{Decides}
 use Rattle.fault_model.specs.Collapse.{representatives}
 use Rattle.fault_model.specs.Detection.{DetectsAt}
 use Rattle.fault_model.specs.Fault.{Fault}
-use Rattle.block_sim.specs.declared.block_span.BlockSpan.{BlockSpan}
-use Rattle.block_sim.specs.declared.origin.ListedClass.{ListedClass}
+use Rattle.flat_circuit.specs.declared.block_span.BlockSpan.{BlockSpan}
+use Rattle.flat_circuit.specs.declared.origin.ListedClass.{ListedClass}
 use Rattle.region_sim.specs.declared.simulation.Approach.{Approach}
 use Rattle.region_sim.specs.declared.simulation.Approach.TheVariants.{Known, Stem}
-use Rattle.block_sim.specs.BlockSpans.{IsInSpan, group_of}
+use Rattle.flat_circuit.specs.BlockSpans.{IsInSpan, group_of}
 use Rattle.block_sim.specs.Parts.{Parts}
 use Rattle.region_sim.specs.Simulation.{HasArrived}
-use Rattle.block_sim.specs.Words.{lane}
+use Rattle.flat_circuit.specs.Words.{lane}
 
 -- the lanes of a word that are 1 are the lanes whose test of the group detects the representative
 -- of the class

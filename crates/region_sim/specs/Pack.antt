@@ -13,10 +13,10 @@ use Rattle.region_sim.specs.declared.pack.Pack.{Pack}
 use Rattle.region_sim.specs.declared.pack.Slot.{Slot}
 use Rattle.block_sim.specs.declared.propagation.Followed.{Followed}
 use Rattle.block_sim.specs.ActiveGates.{IsActiveBy}
-use Rattle.block_sim.specs.Events.{IsLive, IsObserved, Reads}
-use Rattle.block_sim.specs.GateForms.{inverted_if}
-use Rattle.block_sim.specs.Regions.{DetectsFlip, flip}
-use Rattle.block_sim.specs.Words.{AreWords, lane, test_of}
+use Rattle.flat_circuit.specs.Readers.{IsLive, IsObserved, Reads}
+use Rattle.flat_circuit.specs.GateForms.{inverted_if}
+use Rattle.block_sim.specs.Flips.{DetectsFlip, flip}
+use Rattle.flat_circuit.specs.Words.{AreWords, lane, test_of}
 
 -- The bit of a signal in a lane of a wide word: its fault-free bit under the lane's test, inverted
 -- where the signal differs. For each slot there are the fault-free words of its group.

@@ -5,10 +5,10 @@ use Rattle.std.specs.Bool.{Decides}
 use Rattle.bench_net.specs.Statement.{Statement}
 use Rattle.fault_model.specs.Fault.{Fault}
 use Rattle.fault_model.specs.Solution.{Test, Detects}
-use Rattle.block_sim.specs.Words.{lane, test_of}
+use Rattle.flat_circuit.specs.Words.{lane, test_of}
 use Rattle.region_sim.specs.declared.region.Reach.{Reach}
 use Rattle.region_sim.specs.declared.region.Reach.TheVariants.{Observed, Stem}
-use Rattle.block_sim.specs.Regions.{HasCome}
+use Rattle.block_sim.specs.Flips.{HasCome}
 
 -- The end of following a fault on a group: an observer, with the lanes in which the fault is
 -- detected there; or a signal, with the lanes in which the fault has reached it.

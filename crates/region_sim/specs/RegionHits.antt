@@ -7,22 +7,22 @@ use Rattle.bench_net.specs.Statement.{Statement}
 use Rattle.bench_net.specs.Scan.{names}
 use Rattle.fault_model.specs.Reordered.{place}
 use Rattle.wide_words.specs.Lanes.{Layout, lane_in, slot_of}
-use Rattle.block_sim.specs.declared.origin.ListedClass.{ListedClass}
-use Rattle.block_sim.specs.declared.block_span.BlockSpan.{BlockSpan}
+use Rattle.flat_circuit.specs.declared.origin.ListedClass.{ListedClass}
+use Rattle.flat_circuit.specs.declared.block_span.BlockSpan.{BlockSpan}
 use Rattle.block_sim.specs.declared.propagation.Followed.{Followed}
 use Rattle.region_sim.specs.declared.pack.Pack.{Pack}
 use Rattle.region_sim.specs.declared.pack.Slot.{Slot}
 use Rattle.block_sim.specs.declared.propagation_state.PropagationState.{PropagationState}
 use Rattle.region_sim.specs.declared.sensitized.Sensitized.{Sensitized}
 use Rattle.region_sim.specs.declared.unit_simulation.Unit.{Unit as UnitRoom}
-use Rattle.block_sim.specs.Events.{IsObserved}
+use Rattle.flat_circuit.specs.Readers.{IsObserved}
 use Rattle.region_sim.specs.Pack.{IsPackClear, IsWithin}
 use Rattle.block_sim.specs.Parts.{Parts}
 use Rattle.region_sim.specs.Sensitized.{IsReady}
 use Rattle.region_sim.specs.Simulation.{AreFollowed, HasArrived}
-use Rattle.block_sim.specs.BlockSpans.{IsInSpan, group_of}
+use Rattle.flat_circuit.specs.BlockSpans.{IsInSpan, group_of}
 use Rattle.region_sim.specs.Units.{HasUnitRoom}
-use Rattle.block_sim.specs.Words.{lane}
+use Rattle.flat_circuit.specs.Words.{lane}
 use Rattle.block_sim.specs.First.{IsFirstOn}
 
 -- the test of the least lane of a word that is 1, or none where none is

@@ -8,14 +8,15 @@ use Rattle.fault_model.specs.Solution.{Test}
 use Rattle.fault_model.specs.Reordered.{place}
 use Rattle.block_sim.specs.declared.propagation_state.PropagationState.{PropagationState}
 use Rattle.region_sim.specs.declared.sensitized.Sensitized.{Sensitized}
-use Rattle.block_sim.specs.declared.block_span.BlockSpan.{BlockSpan}
-use Rattle.block_sim.specs.declared.block_view.BlockView.{BlockView}
-use Rattle.block_sim.specs.Arranged.{IsArranged}
+use Rattle.flat_circuit.specs.declared.block_span.BlockSpan.{BlockSpan}
+use Rattle.flat_circuit.specs.declared.block_view.BlockView.{BlockView}
+use Rattle.flat_circuit.specs.Arranged.{IsArranged}
 use Rattle.block_sim.specs.PropagationState.{IsAtRest}
 use Rattle.block_sim.specs.Parts.{Parts, BelongTogether}
-use Rattle.block_sim.specs.Regions.{DetectsFlip, lone_reader}
-use Rattle.block_sim.specs.BlockSpans.{IsInSpan, group_of}
-use Rattle.block_sim.specs.Words.{lane, test_of, AreWords}
+use Rattle.flat_circuit.specs.Regions.{lone_reader}
+use Rattle.block_sim.specs.Flips.{DetectsFlip}
+use Rattle.flat_circuit.specs.BlockSpans.{IsInSpan, group_of}
+use Rattle.flat_circuit.specs.Words.{lane, test_of, AreWords}
 
 -- For each lane of a mask: the test detects the complemented signal exactly if the word has a 1 and
 -- the test detects the complemented stem.

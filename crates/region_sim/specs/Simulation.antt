@@ -12,11 +12,11 @@ use Rattle.region_sim.specs.declared.simulation.Memo.{Memo}
 use Rattle.region_sim.specs.declared.simulation.Memo.TheVariants.{Nothing, Pending}
 use Rattle.region_sim.specs.declared.simulation.Memo.TheVariants as memo
 use Rattle.block_sim.specs.declared.propagation.Followed.{Followed}
-use Rattle.block_sim.specs.declared.block_span.BlockSpan.{BlockSpan}
+use Rattle.flat_circuit.specs.declared.block_span.BlockSpan.{BlockSpan}
 use Rattle.block_sim.specs.First.{IsTrueOutcome, TellsFirst}
 use Rattle.block_sim.specs.Parts.{Parts}
-use Rattle.block_sim.specs.Regions.{AreLanesFor, HasCome}
-use Rattle.block_sim.specs.BlockSpans.{group_of}
+use Rattle.block_sim.specs.Flips.{AreLanesFor, HasCome}
+use Rattle.flat_circuit.specs.BlockSpans.{group_of}
 
 -- the true outcome of a class of the job on a block
 abbrev pub IsOutcomeIn : Parts → ℕ → ℕ → Outcome → Type 0

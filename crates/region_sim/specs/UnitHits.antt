@@ -6,7 +6,7 @@ use Rattle.std.specs.Prelude.{vec_capacity}
 use Rattle.wide_words.specs.Lanes.{lane_in, slot_of}
 use Rattle.wide_words.specs.Layouts.{both_layout}
 use Rattle.wide_words.specs.Wide.{number}
-use Rattle.block_sim.specs.declared.origin.ListedClass.{ListedClass}
+use Rattle.flat_circuit.specs.declared.origin.ListedClass.{ListedClass}
 use Rattle.region_sim.specs.declared.pack.Pack.{Pack}
 use Rattle.region_sim.specs.declared.pack.Slot.{Slot}
 use Rattle.block_sim.specs.declared.propagation.Followed.{Followed}
@@ -17,7 +17,7 @@ use Rattle.block_sim.specs.Parts.{Parts}
 use Rattle.region_sim.specs.RegionHits.{HasFirst, IsOpenAt}
 use Rattle.block_sim.specs.First.{IsFirstOn}
 use Rattle.region_sim.specs.Units.{ArrivesInUnit, IsTestInUnit, unit_span}
-use Rattle.block_sim.specs.Words.{lane}
+use Rattle.flat_circuit.specs.Words.{lane}
 
 -- the place is that of a class that came to the stem
 abbrev pub IsClassAt : List UnitClass → ℕ → Type 0

@@ -16,7 +16,7 @@ use Rattle.wide_words.specs.Lanes.{Layout, lane_in, slot_of}
 use Rattle.wide_words.specs.Layouts.{both_layout, one_of}
 use Rattle.wide_words.specs.Wide.{number}
 use Rattle.wide_words.specs.declared.wide.Wide.{Wide}
-use Rattle.block_sim.specs.declared.block_span.BlockSpan.{BlockSpan}
+use Rattle.flat_circuit.specs.declared.block_span.BlockSpan.{BlockSpan}
 use Rattle.region_sim.specs.declared.unit_gate.Turned.{Turned}
 use Rattle.region_sim.specs.declared.unit_gate.Turned.TheVariants.{Signal, Pin}
 use Rattle.region_sim.specs.declared.unit_region.UnitRegion.{UnitRegion}
@@ -25,12 +25,12 @@ use Rattle.region_sim.specs.declared.unit_approach.UnitApproach.{UnitApproach}
 use Rattle.region_sim.specs.declared.unit_approach.UnitApproach.TheVariants.{Known, AtStem}
 use Rattle.region_sim.specs.declared.unit_approach.UnitView.{UnitView}
 use Rattle.region_sim.specs.declared.unit_start.WideReach.TheVariants.{Observed, Stem}
-use Rattle.block_sim.specs.GateForms.{inverted_if}
-use Rattle.block_sim.specs.Arranged.{IsArranged}
+use Rattle.flat_circuit.specs.GateForms.{inverted_if}
+use Rattle.flat_circuit.specs.Arranged.{IsArranged}
 use Rattle.region_sim.specs.Pack.{AreRows, HaveCounts}
 use Rattle.block_sim.specs.Parts.{BelongTogether, Parts}
-use Rattle.block_sim.specs.Regions.{DetectsFlip}
-use Rattle.block_sim.specs.Words.{lane, test_of}
+use Rattle.block_sim.specs.Flips.{DetectsFlip}
+use Rattle.flat_circuit.specs.Words.{lane, test_of}
 
 -- the fault-free bit of a signal in a lane of a wide word
 abbrev pub free_bit : Layout → (ℕ → List ℕ) → ℕ → ℕ → Bool

@@ -7,14 +7,14 @@ ghost use Rattle.bench_net.specs.Scan.{names};
 ghost use Rattle.fault_model.specs.Fault.{faults};
 ghost use Rattle.fault_model.specs.Solution.{Test};
 ghost use Rattle.block_sim.specs.PropagationState.{HasRoomFor, IsAsLarge, IsClear};
-ghost use Rattle.block_sim.specs.Origins.{Carries};
+ghost use Rattle.flat_circuit.specs.Origins.{Carries};
 ghost use Rattle.region_sim.specs.Reached.{IsReached};
-ghost use Rattle.block_sim.specs.Regions.{IsStem, IsStemOf, IsStemOfLine, lone_reader};
+ghost use Rattle.flat_circuit.specs.Regions.{IsStem, IsStemOf, IsStemOfLine, lone_reader};
 ghost use Rattle.region_sim.specs.Sensitized.{AreKnownFlips, AreSensitized, CarriesFlip};
 ghost use Rattle.region_sim.specs.Sensitized.{HasRoomForRegions, IsPathTo, IsSameRegion, on_from};
-ghost use Rattle.block_sim.specs.Stuck.{stuck_fault};
+ghost use Rattle.flat_circuit.specs.Stuck.{stuck_fault};
 ghost use Rattle.block_sim.specs.Ways.{IsWay, IsWayOfLine};
-ghost use Rattle.block_sim.specs.Words.{lane, AreWords, HasWords};
+ghost use Rattle.flat_circuit.specs.Words.{lane, AreWords, HasWords};
 
 use crate::known_words::KnownWords;
 use crate::region::{Arrival, Reach, cross, set_out};

@@ -8,12 +8,13 @@ ghost use Rattle.fault_model.specs.Reordered.{place};
 ghost use Rattle.wide_words.specs.Layouts.{both_layout};
 ghost use Rattle.wide_words.specs.Wide.{number};
 ghost use Rattle.wide_words.specs.declared.wide.Wide.{Wide};
-ghost use Rattle.block_sim.specs.Events.{IsObserved};
-ghost use Rattle.block_sim.specs.Origins.{IsListed, IsStuckOf};
+ghost use Rattle.flat_circuit.specs.Readers.{IsObserved};
+ghost use Rattle.flat_circuit.specs.Origins.{IsStuckOf};
+ghost use Rattle.block_sim.specs.Listed.{IsListed};
 ghost use Rattle.region_sim.specs.Units.{IsSameUnitRegion, IsUnitApproach, IsUnitRegion};
 ghost use Rattle.region_sim.specs.Units.{IsUnitViewOf, unit_rows};
 ghost use Rattle.block_sim.specs.Ways.{IsWayOfClass};
-ghost use Rattle.block_sim.specs.Words.{lane};
+ghost use Rattle.flat_circuit.specs.Words.{lane};
 
 use crate::unit_region::UnitRegion;
 use crate::unit_start::{WideReach, follow_to_stem};

@@ -8,11 +8,11 @@ ghost use Rattle.bench_net.specs.Circuit.{IsCircuit};
 ghost use Rattle.bench_net.specs.Scan.{gate_of, names};
 ghost use Rattle.fault_model.specs.Solution.{is_odd, value};
 ghost use Rattle.wide_words.specs.Wide.{number};
-ghost use Rattle.block_sim.specs.GateForms.{IsFormOf, inverted_if};
-ghost use Rattle.block_sim.specs.SlotWords.{AreWithin};
+ghost use Rattle.flat_circuit.specs.GateForms.{IsFormOf, inverted_if};
+ghost use Rattle.flat_circuit.specs.SlotWords.{AreWithin};
 ghost use Rattle.region_sim.specs.Pack.{HaveCounts};
 ghost use Rattle.region_sim.specs.Units.{free_bit, is_turned, turned_bits};
-ghost use Rattle.block_sim.specs.Words.{lane};
+ghost use Rattle.flat_circuit.specs.Words.{lane};
 
 use block_sim::flat::{FlatCircuit, FlatGate};
 use block_sim::wide_lanes::in_each_wide_lane;

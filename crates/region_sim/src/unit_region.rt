@@ -11,7 +11,7 @@ ghost use Rattle.wide_words.specs.Lanes.{Layout};
 ghost use Rattle.wide_words.specs.Wide.{number};
 ghost use Rattle.wide_words.specs.declared.wide.Wide.{Wide};
 ghost use Rattle.region_sim.specs.Pack.{AreRows, HaveCounts};
-ghost use Rattle.block_sim.specs.Regions.{IsStemOf, lone_reader};
+ghost use Rattle.flat_circuit.specs.Regions.{IsStemOf, lone_reader};
 ghost use Rattle.region_sim.specs.Sensitized.{IsPathTo, on_from};
 ghost use Rattle.region_sim.specs.Units.{AreKnownInUnit, CarryFlip, HasUnitRoom, IsSameUnitRegion};
 ghost use Rattle.region_sim.specs.Units.{IsUnitRegion};

@@ -8,10 +8,11 @@ ghost use Rattle.fault_model.specs.Fault.{faults};
 ghost use Rattle.fault_model.specs.Solution.{Test};
 ghost use Rattle.wide_words.specs.Wide.{number};
 ghost use Rattle.wide_words.specs.declared.wide.Wide.{Wide};
-ghost use Rattle.block_sim.specs.Origins.{Carries};
+ghost use Rattle.flat_circuit.specs.Origins.{Carries};
 ghost use Rattle.region_sim.specs.Pack.{AreRows, HaveCounts};
-ghost use Rattle.block_sim.specs.Regions.{IsStemOfLine, start_of};
-ghost use Rattle.block_sim.specs.Stuck.{stuck_fault};
+ghost use Rattle.flat_circuit.specs.Regions.{IsStemOfLine};
+ghost use Rattle.block_sim.specs.Flips.{start_of};
+ghost use Rattle.flat_circuit.specs.Stuck.{stuck_fault};
 ghost use Rattle.region_sim.specs.Units.{IsSameUnitRegion, IsUnitRegion, IsWideReached};
 ghost use Rattle.block_sim.specs.Ways.{IsWay, IsWayOfLine};
 

@@ -14,7 +14,7 @@ use Rattle.fault_model.specs.Fault.{Fault, faults}
 use Rattle.fault_model.specs.Solution.{Test}
 use Rattle.fault_model.proofs.Public.{carries, listed_model}
 use Rattle.block_sim.specs.Activation.{IsActivated}
-use Rattle.block_sim.specs.Origins.{Carries}
+use Rattle.flat_circuit.specs.Origins.{Carries}
 use Rattle.undetected.specs.Activated.{stem_fault}
 
 module _ (c : List Statement) (l k : Line) (n : Name) (on : name_on c l ≡ Some n)

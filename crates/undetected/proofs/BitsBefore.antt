@@ -16,7 +16,7 @@ use Rattle.fault_model.specs.Fault.{Fault}
 use Rattle.fault_model.specs.Solution.{Test}
 use Rattle.fault_model.proofs.Public.{has_solutions}
 use Rattle.block_sim.specs.Activation.{ActivatesAt}
-use Rattle.block_sim.specs.Words.{IsFaultFreeWord, lane}
+use Rattle.flat_circuit.specs.Words.{IsFaultFreeWord, lane}
 use Rattle.undetected.proofs.WordLanes.{lane_and, lane_ones, later_ones}
 
 -- a lane has the bit of the stem under the lane's test

@@ -7,8 +7,8 @@ ghost use Rattle.bench_net.specs.Scan.{names};
 ghost use Rattle.fault_model.specs.declared.Line.TheVariants as line;
 ghost use Rattle.fault_model.specs.Detection.{HasBit, IsInitialized, IsSecondOfPair, LooksBack};
 ghost use Rattle.patterns.specs.Tests.{blocks};
-ghost use Rattle.block_sim.specs.BlockSpans.{groups};
-ghost use Rattle.block_sim.specs.Words.{lane};
+ghost use Rattle.flat_circuit.specs.BlockSpans.{groups};
+ghost use Rattle.flat_circuit.specs.Words.{lane};
 ghost use Rattle.undetected.specs.Activated.{IsActivatedIn, IsActivatedInGroup, stem_fault};
 
 use block_sim::Job;

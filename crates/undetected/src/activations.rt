@@ -8,8 +8,8 @@ ghost use Rattle.fault_model.specs.declared.Line.TheVariants as line;
 ghost use Rattle.fault_model.specs.Detection.{name_on};
 ghost use Rattle.fault_model.specs.Fault.{Fault};
 ghost use Rattle.block_sim.specs.Activation.{IsActivated};
-ghost use Rattle.block_sim.specs.BlockSpans.{groups};
-ghost use Rattle.block_sim.specs.Origins.{Carries};
+ghost use Rattle.flat_circuit.specs.BlockSpans.{groups};
+ghost use Rattle.flat_circuit.specs.Origins.{Carries};
 ghost use Rattle.undetected.specs.Activated.{AreActivated, AreActivatedBefore, AreActivations};
 ghost use Rattle.undetected.specs.Activated.{end_at};
 

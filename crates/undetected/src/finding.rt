@@ -5,7 +5,7 @@ ghost use Rattle.std.specs.Prelude.{length, slice_get};
 ghost use Rattle.bench_net.specs.Scan.{names};
 ghost use Rattle.fault_model.specs.Fault.{Fault};
 ghost use Rattle.block_sim.specs.First.{IsFirst};
-ghost use Rattle.block_sim.specs.Flat.{AreLive};
+ghost use Rattle.flat_circuit.specs.Flat.{AreLive};
 ghost use Rattle.block_sim.specs.Parts.{BelongTogether};
 ghost use Rattle.workers.specs.Verdict.{AreFirsts};
 ghost use Rattle.undetected.specs.Activated.{AreActivations};

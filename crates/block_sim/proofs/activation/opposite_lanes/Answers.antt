@@ -14,12 +14,11 @@ use Rattle.fault_model.specs.Fault.{Fault}
 use Rattle.fault_model.specs.Reordered.{moved_line}
 use Rattle.fault_model.specs.Solution.{Test}
 use Rattle.fault_model.proofs.Public.{same_bits}
-use Rattle.block_sim.specs.declared.origin.Origin.{Origin}
-use Rattle.block_sim.specs.Arranged.{IsArranged}
-use Rattle.block_sim.specs.Origins.{IsStuckOf, Starts}
-use Rattle.block_sim.specs.Words.{AreWords, lane, test_of}
-use Rattle.block_sim.proofs.ArrangedSignals.{reordered, well_there}
-use Rattle.block_sim.proofs.ArrangedWords.{carried_is, starts_there}
+use Rattle.flat_circuit.specs.declared.origin.Origin.{Origin}
+use Rattle.flat_circuit.specs.Arranged.{IsArranged}
+use Rattle.flat_circuit.specs.Origins.{IsStuckOf, Starts}
+use Rattle.flat_circuit.specs.Words.{AreWords, lane, test_of}
+use Rattle.flat_circuit.proofs.Public.{reordered, well_there, carried_is, starts_there}
 use Rattle.block_sim.proofs.BitBefore.{fits_where, lane_has_bit}
 use Rattle.block_sim.proofs.activation.opposite_lanes.Goals as goal
 

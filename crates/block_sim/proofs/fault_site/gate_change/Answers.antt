@@ -2,10 +2,9 @@ use Rattle.std.proofs.Common.{◌≡◌, ℕ, ap, arith, List, sym, ◌∙◌}
 use Rattle.std.specs.Prelude.{Option, Some, slice_index_or, unwrap_or}
 use Rattle.bench_net.specs.declared.Kind.{Kind}
 use Rattle.fault_model.specs.Solution.{value}
-use Rattle.block_sim.specs.Stuck.{stuck_fault}
-use Rattle.block_sim.specs.Words.{pin_bits}
-use Rattle.block_sim.proofs.Equations.{pins_within, pins_few, pins_some}
-use Rattle.block_sim.proofs.Steps.{only_lanes, changed_to}
+use Rattle.flat_circuit.specs.Stuck.{stuck_fault}
+use Rattle.flat_circuit.specs.Words.{pin_bits}
+use Rattle.flat_circuit.proofs.Public.{pins_within, pins_few, pins_some, only_lanes, changed_to}
 use Rattle.block_sim.proofs.fault_site.gate_change.Goals as goal
 
 pub evaluate_stuck-word-requires-clause-pins_in : goal.evaluate_stuck-word-requires-clause-pins_in

@@ -4,14 +4,13 @@ use Rattle.bench_net.specs.declared.Sink.TheVariants as sink
 use Rattle.fault_model.specs.Detection.{name_on}
 use Rattle.block_sim.specs.PropagationState.{IsAsLarge}
 use Rattle.block_sim.specs.Propagation.{IsSettled}
-use Rattle.block_sim.specs.Stuck.{stuck_fault}
-use Rattle.block_sim.proofs.FaultStart.{shown_none, shown_at_observer, turned_is, output_observed}
-use Rattle.block_sim.proofs.FaultStart.{data_observed}
-use Rattle.block_sim.proofs.Lanes.{lane_zero}
+use Rattle.flat_circuit.specs.Stuck.{stuck_fault}
+use Rattle.flat_circuit.proofs.Public.{output_observed, data_observed, lane_zero, only_lanes}
+use Rattle.flat_circuit.proofs.Public.{lane_of_zero}
+use Rattle.block_sim.proofs.FaultStart.{shown_none, shown_at_observer, turned_is}
 use Rattle.block_sim.proofs.LineStarts.{is_carried, is_on_name, pin_counted, starts_on_pin}
 use Rattle.block_sim.proofs.LineStarts.{starts_on_stem}
 use Rattle.block_sim.proofs.Moments.{large_enough}
-use Rattle.block_sim.proofs.Steps.{only_lanes, lane_of_zero}
 use Rattle.block_sim.proofs.fault_site.propagate_fault.Goals as goal
 
 pub carried-signal-requires-clause-named : goal.carried-signal-requires-clause-named

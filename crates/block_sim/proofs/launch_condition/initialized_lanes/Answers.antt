@@ -8,11 +8,10 @@ use Rattle.fault_model.specs.Detection.{IsInitialized}
 use Rattle.fault_model.specs.Fault.{Fault}
 use Rattle.fault_model.specs.Reordered.{moved_line}
 use Rattle.fault_model.proofs.Public.{same_bits}
-use Rattle.block_sim.specs.Origins.{IsStuckOf}
-use Rattle.block_sim.specs.Words.{lane}
+use Rattle.flat_circuit.specs.Origins.{IsStuckOf}
+use Rattle.flat_circuit.specs.Words.{lane}
 use Rattle.block_sim.proofs.BitBefore.{fits_where, masked_look_back}
-use Rattle.block_sim.proofs.ArrangedSignals.{reordered, well_there}
-use Rattle.block_sim.proofs.ArrangedWords.{carried_is, starts_there}
+use Rattle.flat_circuit.proofs.Public.{reordered, well_there, carried_is, starts_there}
 use Rattle.std.proofs.lemmas.Option.{slice_get-get_or}
 use Rattle.block_sim.proofs.launch_condition.initialized_lanes.Goals as goal
 use Rattle.block_sim.proofs.launch_condition.initialized_lanes.Goals.{then-stuck, else-stuck}

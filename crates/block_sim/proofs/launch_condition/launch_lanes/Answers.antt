@@ -3,8 +3,8 @@ use Rattle.fault_model.specs.Fault.{Fault}
 use Rattle.std.specs.Prelude.{bit_and}
 use Rattle.std.specs.Bool.{Decides}
 use Rattle.fault_model.specs.Detection.{IsInitialized, IsSecondOfPair, LooksBack}
-use Rattle.block_sim.specs.Words.{lane}
-use Rattle.block_sim.proofs.Lanes.{lane_ones}
+use Rattle.flat_circuit.specs.Words.{lane}
+use Rattle.flat_circuit.proofs.Public.{lane_ones}
 use Rattle.block_sim.proofs.Pairs.{both_decide}
 use Rattle.block_sim.proofs.launch_condition.launch_lanes.Goals as goal
 

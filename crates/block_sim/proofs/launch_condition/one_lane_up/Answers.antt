@@ -1,6 +1,6 @@
 use Rattle.std.proofs.Common.{◌≡◌, ◌+◌, ◌*◌, ◌%◌, ◌/◌, suc, arith, subst}
 use Rattle.std.specs.Prelude.{bit_or}
-use Rattle.block_sim.specs.Words.{lane}
+use Rattle.flat_circuit.specs.Words.{lane}
 use Rattle.block_sim.proofs.EarlierLanes.{before_first, before_later}
 use Rattle.block_sim.proofs.launch_condition.one_lane_up.Goals as goal
 

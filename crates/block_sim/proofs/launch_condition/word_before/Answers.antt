@@ -1,8 +1,8 @@
 use Rattle.std.proofs.Common.{◌≡◌, ◌<◌, ◌+◌, ◌-◌, ◌∙◌, suc, ap, arith, subst, length, map}
 use Rattle.std.specs.Prelude.{None}
-use Rattle.block_sim.specs.Words.{lane, AreWords}
+use Rattle.flat_circuit.specs.Words.{lane, AreWords}
 use Rattle.block_sim.proofs.BitBefore.{bits_before}
-use Rattle.block_sim.proofs.Rows.{each_row}
+use Rattle.flat_circuit.proofs.Public.{each_row}
 use Rattle.block_sim.proofs.launch_condition.word_before.Goals as goal
 use Rattle.block_sim.proofs.launch_condition.word_before.Goals.{then-group-eq0, else-group-eq0}
 

@@ -1,4 +1,4 @@
-use Rattle.block_sim.proofs.Stems as stems
+use Rattle.flat_circuit.proofs.Public as stems
 use Rattle.block_sim.proofs.laws.class_stems.Goals as goal
 
 pub returns-clause-one : goal.returns-clause-one

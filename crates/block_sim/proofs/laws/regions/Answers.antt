@@ -1,7 +1,6 @@
-use Rattle.block_sim.proofs.OnePin as one
 use Rattle.block_sim.proofs.RegionLanes as lanes
 use Rattle.block_sim.proofs.Regions as law
-use Rattle.block_sim.proofs.Stems as stems
+use Rattle.flat_circuit.proofs.Public as low
 use Rattle.block_sim.proofs.laws.regions.Goals as goal
 
 pub returns-clause-step : goal.returns-clause-step
@@ -23,13 +22,13 @@ pub returns-clause-lanes : goal.returns-clause-lanes
 returns-clause-lanes c = lanes.lanes_law
 
 pub returns-clause-pin : goal.returns-clause-pin
-returns-clause-pin c = one.pin_law
+returns-clause-pin c = low.pin_law
 
 pub returns-clause-one_stem : goal.returns-clause-one_stem
-returns-clause-one_stem c = stems.one_stem_law
+returns-clause-one_stem c = low.one_stem_law
 
 pub returns-clause-some_stem : goal.returns-clause-some_stem
-returns-clause-some_stem c = stems.some_stem_law
+returns-clause-some_stem c = low.some_stem_law
 
 pub returns-clause-lead : goal.returns-clause-lead
-returns-clause-lead c = stems.lead_law
+returns-clause-lead c = low.lead_law

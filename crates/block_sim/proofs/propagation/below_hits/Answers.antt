@@ -4,7 +4,7 @@ use lib.Bits.{and_le_r}
 use Rattle.list_lemmas.proofs.Members.{among}
 use Rattle.list_lemmas.proofs.Places.{place_within, placed, within_place}
 use Rattle.block_sim.specs.declared.propagation.Followed.{Followed}
-use Rattle.block_sim.proofs.ListPlaces.{index_of}
+use Rattle.flat_circuit.proofs.Public.{index_of}
 use Rattle.block_sim.proofs.SettledLanes.{one_hit, one_open}
 use Rattle.block_sim.proofs.propagation.below_hits.Goals as goal
 

@@ -1,5 +1,5 @@
 use Rattle.std.proofs.Common.{arith}
-use Rattle.block_sim.proofs.Steps.{some_lane}
+use Rattle.flat_circuit.proofs.Public.{some_lane}
 use Rattle.block_sim.proofs.propagation.change.Goals as goal
 
 pub returns-then-schedule_fanout-clause-some : goal.returns-then-schedule_fanout-clause-some

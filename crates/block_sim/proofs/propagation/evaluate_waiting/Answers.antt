@@ -1,10 +1,10 @@
 use Rattle.std.proofs.Common.{◌≡◌, ◌<◌, ℕ, sym, ◌∙◌, ap, arith}
 use Rattle.std.specs.Prelude.{None, slice_index_or, bit_and, bit_xor}
 use Rattle.fault_model.specs.Solution.{value}
-use Rattle.block_sim.specs.Words.{lane, pin_bits}
-use Rattle.block_sim.proofs.Equations.{pins_within, pins_few, pins_some}
+use Rattle.flat_circuit.specs.Words.{lane, pin_bits}
+use Rattle.flat_circuit.proofs.Public.{pins_within, pins_few, pins_some, no_change, only_lanes}
+use Rattle.flat_circuit.proofs.Public.{changed_to}
 use Rattle.block_sim.proofs.Moments.{idle_still, leads_changed, leads_same}
-use Rattle.block_sim.proofs.Steps.{no_change, only_lanes, changed_to}
 use Rattle.block_sim.proofs.propagation.evaluate_waiting.Goals as goal
 
 pub evaluate_gate-word-requires-clause-pins_in : goal.evaluate_gate-word-requires-clause-pins_in

@@ -1,7 +1,7 @@
 use Rattle.std.proofs.Common.{◌<◌, ◌∙◌, ap, arith, length, refl, sym, subst, ◌+◌}
 use Rattle.std.specs.Prelude.{slice_index_or}
 use Rattle.std.proofs.lemmas.List.{length-set}
-use Rattle.block_sim.proofs.Readers.{reader_within}
+use Rattle.flat_circuit.proofs.Public.{reader_within}
 use Rattle.block_sim.proofs.ScheduledGates.{HasScheduled, scheduled_none, scheduled_added}
 use Rattle.block_sim.proofs.ScheduledGates.{scheduled_all}
 use Rattle.block_sim.proofs.propagation.schedule_fanout.Goals as goal

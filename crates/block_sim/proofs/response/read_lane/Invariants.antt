@@ -1,6 +1,6 @@
 use Rattle.std.proofs.Common.{◌≡◌, ℕ, ◌<◌, Bool, get_or}
 use Rattle.std.specs.Prelude.{slice_index_or}
-use Rattle.block_sim.specs.Words.{lane}
+use Rattle.flat_circuit.specs.Words.{lane}
 use Rattle.block_sim.proofs.response.read_lane.Given as goal
 
 abbrev pub invariant-loop-place : goal.invariant-loop-place

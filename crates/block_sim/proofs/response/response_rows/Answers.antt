@@ -3,7 +3,7 @@ use Rattle.bench_net.specs.declared.Sink.{Sink}
 use Rattle.bench_net.specs.Statement.{Name}
 use Rattle.bench_net.specs.Scan.{observers, signal}
 use Rattle.fault_model.specs.Reordered.{place}
-use Rattle.block_sim.proofs.ArrangedSignals.{sources_there, well_there}
+use Rattle.flat_circuit.proofs.Public.{sources_there, well_there}
 use Rattle.block_sim.proofs.ArrangedWords.{observed_there, responses_there}
 use Rattle.block_sim.proofs.ResponseRows.{observed_within}
 use Rattle.block_sim.proofs.response.response_rows.Goals as goal

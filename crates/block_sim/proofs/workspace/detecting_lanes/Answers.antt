@@ -6,15 +6,15 @@ use Rattle.patterns.specs.Tests.{TestList}
 use Rattle.fault_model.specs.Fault.{Fault, faults}
 use Rattle.fault_model.specs.Reordered.{moved_fault, place}
 use Rattle.block_sim.specs.Propagation.{AreShown, IsSettled}
-use Rattle.block_sim.specs.Regions.{AreLanesFor}
-use Rattle.block_sim.specs.BlockSpans.{AreInSpan, IsInSpan, one_block}
+use Rattle.block_sim.specs.Flips.{AreLanesFor}
+use Rattle.flat_circuit.specs.BlockSpans.{AreInSpan, IsInSpan, one_block}
 use Rattle.block_sim.specs.ActiveGates.{HasActive, HasActiveIn}
-use Rattle.block_sim.specs.Stuck.{stuck_fault}
-use Rattle.block_sim.specs.Words.{lane}
-use Rattle.block_sim.proofs.ArrangedSignals.{reordered, room_there}
-use Rattle.block_sim.proofs.ArrangedWords.{carried_name, circuit_there, listed_there, moved_there}
+use Rattle.flat_circuit.specs.Stuck.{stuck_fault}
+use Rattle.flat_circuit.specs.Words.{lane}
+use Rattle.flat_circuit.proofs.Public.{reordered, carried_name, circuit_there, listed_there}
+use Rattle.flat_circuit.proofs.Public.{moved_there, lanes_decide}
+use Rattle.block_sim.proofs.ArrangedRoom.{room_there}
 use Rattle.block_sim.proofs.ArrangedWords.{told_there}
-use Rattle.block_sim.proofs.Steps.{lanes_decide}
 use Rattle.fault_model.specs.Detection.{name_on}
 use Rattle.block_sim.proofs.DetectingTests.{active_on_block}
 use Rattle.block_sim.proofs.ReorderedGates.{same_active}

@@ -2,7 +2,7 @@ use Rattle.std.proofs.Common.{refl, arith, [], ◌∷◌}
 use Rattle.block_sim.specs.declared.propagation.Followed.{Followed}
 use Rattle.block_sim.specs.Propagation.{HaveHits}
 use Rattle.block_sim.proofs.DetectingTests.{outcome_of_lanes}
-use Rattle.block_sim.proofs.Lanes.{lane_ones}
+use Rattle.flat_circuit.proofs.Public.{lane_ones}
 use Rattle.block_sim.proofs.workspace.first_hit.Goals as goal
 
 pub returns-clause-outcome : goal.returns-clause-outcome

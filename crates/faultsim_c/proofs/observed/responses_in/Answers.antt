@@ -6,7 +6,7 @@ use Rattle.std.proofs.lemmas.List.{length-set}
 use Rattle.std.proofs.lemmas.Nat.{div-mul-add, mod-mul-add}
 use Rattle.bench_net.specs.Statement.{Statement}
 use Rattle.patterns.specs.Tests.{blocks}
-use Rattle.block_sim.specs.Words.{IsFaultFreeWord}
+use Rattle.flat_circuit.specs.Words.{IsFaultFreeWord}
 use Rattle.faultsim_c.specs.Calls.{observed}
 use Rattle.faultsim_c.proofs.Tables.{next}
 use Rattle.faultsim_c.proofs.observed.responses_in.Goals as goal

@@ -2,7 +2,7 @@ use Rattle.std.proofs.Common.{◌≡◌, ◌<◌, ◌+◌, ◌*◌, ℕ, sym, ap
 use Rattle.std.specs.Prelude.{length, unwrap_or}
 use Rattle.std.specs.Bool.{Decides}
 use Rattle.fault_model.specs.Detection.{DetectsAt}
-use Rattle.block_sim.specs.Words.{lane}
+use Rattle.flat_circuit.specs.Words.{lane}
 use Rattle.n_detect.proofs.ClassCounts.{counted_all, counted_most}
 use Rattle.n_detect.proofs.RangeCounts.{one_block}
 use Rattle.n_detect.proofs.class.count_class.Goals as goal

@@ -3,8 +3,8 @@ use Rattle.std.specs.Prelude.{None, Some, slice_get, slice_index_or}
 use Rattle.std.proofs.lemmas.Option.{get_or_from_slice_get, slice_get-get_or, slice_get_within}
 use Rattle.list_lemmas.proofs.Members.{among}
 use Rattle.list_lemmas.proofs.Places.{placed}
-use Rattle.block_sim.specs.declared.origin.ListedClass.{ListedClass}
-use Rattle.block_sim.specs.Origins.{IsListed}
+use Rattle.flat_circuit.specs.declared.origin.ListedClass.{ListedClass}
+use Rattle.block_sim.specs.Listed.{IsListed}
 use Rattle.n_detect.specs.Share.{IsOpen}
 use Rattle.n_detect.proofs.EachPushed.{push_each}
 use Rattle.n_detect.proofs.RowsOf.{row_more, row_skipped}

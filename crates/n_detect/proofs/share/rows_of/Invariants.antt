@@ -1,7 +1,7 @@
 use Rattle.std.proofs.Common.{◌≡◌, ◌<◌, ℕ}
 use Rattle.std.specs.Prelude.{Some, slice_get}
-use Rattle.block_sim.specs.declared.origin.ListedClass.{ListedClass}
-use Rattle.block_sim.specs.Origins.{IsListed}
+use Rattle.flat_circuit.specs.declared.origin.ListedClass.{ListedClass}
+use Rattle.block_sim.specs.Listed.{IsListed}
 use Rattle.n_detect.specs.Share.{IsOpen}
 use Rattle.n_detect.proofs.share.rows_of.Given as goal
 

@@ -1,8 +1,8 @@
 use Rattle.std.proofs.Common.{◌≡◌, ◌∙◌, ◌+◌, ℕ, Bool, true, false, refl, sym, subst, inl, inr}
 use Rattle.std.proofs.Common.{arith}
 use Rattle.std.specs.Prelude.{if◌then◌else◌, length}
-use Rattle.block_sim.specs.declared.block_span.BlockSpan.{BlockSpan}
-use Rattle.block_sim.specs.BlockSpans.{begins_unit, span_of, unit_of}
+use Rattle.flat_circuit.specs.declared.block_span.BlockSpan.{BlockSpan}
+use Rattle.flat_circuit.specs.BlockSpans.{begins_unit, span_of, unit_of}
 use Rattle.region_sim.specs.RegionHits.{HaveFirsts}
 use Rattle.region_runs.specs.BlockSweeps.{IsWhole, between}
 use Rattle.region_runs.proofs.stretch_run.region_from.Goals as goal

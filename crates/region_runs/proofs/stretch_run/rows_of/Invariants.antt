@@ -1,5 +1,5 @@
 use Rattle.std.proofs.Common.{◌≡◌, All, take}
-use Rattle.block_sim.specs.Origins.{IsListed}
+use Rattle.block_sim.specs.Listed.{IsListed}
 use Rattle.region_runs.specs.BlockSweeps.{classes_of}
 use Rattle.region_runs.proofs.stretch_run.rows_of.Given as goal
 

@@ -2,7 +2,7 @@ use Rattle.std.proofs.Common.{◌+◌, ◌*◌, Some, arith, refl, set, subst, s
 use Rattle.std.specs.Prelude.{None}
 use Rattle.std.proofs.lemmas.List.{length-map}
 use Rattle.std.proofs.lemmas.Option.{slice_get_within}
-use Rattle.block_sim.specs.declared.origin.ListedClass.{ListedClass}
+use Rattle.flat_circuit.specs.declared.origin.ListedClass.{ListedClass}
 use Rattle.region_runs.proofs.StretchRuns.{found_block, found_clear, found_hit}
 use Rattle.region_runs.proofs.StretchRuns.{undetected_here}
 use Rattle.region_runs.proofs.PassedPieces.{passed_block, passed_gate}

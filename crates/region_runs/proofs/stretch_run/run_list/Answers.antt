@@ -1,7 +1,7 @@
 use Rattle.std.proofs.Common.{◌≡◌, ◌++◌, ◌∙◌, All, ap, arith, length, subst, sym}
 use Rattle.patterns.specs.Tests.{TestList, blocks}
 use Rattle.region_sim.specs.OpenPlaces.{AreNextOpen}
-use Rattle.block_sim.specs.Origins.{IsListed}
+use Rattle.block_sim.specs.Listed.{IsListed}
 use Rattle.region_runs.specs.BlockSweeps.{AreDeadFrom, classes_of}
 use Rattle.region_runs.specs.StretchRuns.{AreFoundUpTo, HasEnded}
 use Rattle.region_runs.proofs.DeadClasses.{has_ended, live_next, live_none}

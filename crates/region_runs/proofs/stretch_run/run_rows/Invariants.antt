@@ -1,6 +1,6 @@
 use Rattle.std.proofs.Common.{◌<◌, ◌≤◌, ◌-◌, ℕ, length}
 use Rattle.patterns.specs.Tests.{blocks}
-use Rattle.block_sim.specs.declared.origin.ListedClass.{ListedClass}
+use Rattle.flat_circuit.specs.declared.origin.ListedClass.{ListedClass}
 use Rattle.region_sim.specs.RegionHits.{HasFirst, IsOpenAt, ServesRegions}
 use Rattle.region_runs.specs.StretchRuns.{AreFoundUpTo, ArePassed}
 use Rattle.region_sim.specs.OpenPlaces.{AreNextOpen}

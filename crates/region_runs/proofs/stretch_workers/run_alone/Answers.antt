@@ -1,5 +1,5 @@
 use Rattle.std.proofs.Common.{◌≡◌, ◌∙◌, ◌<◌, All, ap, arith, length, subst, sym}
-use Rattle.block_sim.specs.Origins.{IsListed}
+use Rattle.block_sim.specs.Listed.{IsListed}
 use Rattle.region_runs.specs.StretchRuns.{AreFoundUpTo}
 use Rattle.region_sim.specs.OpenPlaces.{AreNextOpen}
 use Rattle.region_runs.specs.BlockSweeps.{classes_of}

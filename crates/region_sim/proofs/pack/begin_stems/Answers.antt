@@ -9,7 +9,7 @@ use Rattle.wide_words.proofs.Public.{some_lane}
 use Rattle.wide_words.specs.Wide.{number}
 use Rattle.wide_words.specs.declared.wide.Wide.{Wide}
 use Rattle.region_sim.specs.declared.pack.Slot.{Slot}
-use Rattle.block_sim.proofs.Public.{index_of}
+use Rattle.flat_circuit.proofs.Public.{index_of}
 use Rattle.region_sim.proofs.PackBegins.{HaveBegun, all_begun, begun_idle, begun_more}
 use Rattle.region_sim.proofs.pack.begin_stems.Goals as goal
 use Rattle.region_sim.proofs.pack.begin_stems.Goals.{then-not-is_none, else-not-is_none}

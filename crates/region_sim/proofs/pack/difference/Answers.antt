@@ -4,10 +4,10 @@ use Rattle.bench_net.specs.declared.Kind.{Kind}
 use Rattle.fault_model.specs.Solution.{value}
 use Rattle.wide_words.specs.Lanes.{lane_in, slot_of}
 use Rattle.wide_words.specs.Wide.{number}
-use Rattle.block_sim.specs.GateForms.{inverted_if}
+use Rattle.flat_circuit.specs.GateForms.{inverted_if}
 use Rattle.region_sim.specs.Pack.{wide_bit}
-use Rattle.block_sim.specs.Words.{lane}
-use Rattle.block_sim.proofs.Public.{pins_within, pins_some, lane_xor, unlike}
+use Rattle.flat_circuit.specs.Words.{lane}
+use Rattle.flat_circuit.proofs.Public.{pins_within, pins_some, lane_xor, unlike}
 use Rattle.region_sim.proofs.PackGates.{and_value, in_group, slot_low, xor_value}
 use Rattle.region_sim.proofs.pack.difference.Goals as goal
 

@@ -5,7 +5,7 @@ use Rattle.std.proofs.lemmas.Bool.{cases_eq, false≢true}
 use Rattle.std.proofs.lemmas.List.{get_or-set_same, set-get_or}
 use Rattle.wide_words.proofs.Public.{some_lane}
 use Rattle.wide_words.specs.Wide.{number}
-use Rattle.block_sim.specs.Words.{lane}
+use Rattle.flat_circuit.specs.Words.{lane}
 use Rattle.region_sim.proofs.pack.evaluate_waiting.Goals as goal
 
 pub returns-then-is_none-clause-evaluated : goal.returns-then-is_none-clause-evaluated

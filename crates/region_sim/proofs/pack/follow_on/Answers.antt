@@ -1,7 +1,7 @@
 use Rattle.std.proofs.Common.{◌≡◌, ◌∙◌, ◌||◌, Bool, true, false, ap, refl, sym}
 use Rattle.wide_words.specs.Wide.{number}
-use Rattle.block_sim.specs.Words.{lane}
-use Rattle.block_sim.proofs.Public.{lane_or, lane_zero}
+use Rattle.flat_circuit.specs.Words.{lane}
+use Rattle.flat_circuit.proofs.Public.{lane_or, lane_zero}
 use Rattle.region_sim.proofs.PackKept.{kept_hit, kept_narrow}
 use Rattle.region_sim.proofs.pack.follow_on.Goals as goal
 

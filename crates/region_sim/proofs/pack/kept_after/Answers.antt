@@ -5,10 +5,10 @@ use Rattle.wide_words.specs.declared.wide.Wide.{Wide}
 use Rattle.wide_words.specs.Lanes.{lane_in, slots}
 use Rattle.wide_words.specs.Wide.{number}
 use Rattle.std.proofs.lemmas.Bool.{false≢true}
-use Rattle.block_sim.proofs.Public.{lane_zero, index_of, some_lane}
+use Rattle.flat_circuit.proofs.Public.{lane_zero, index_of, some_lane}
 use Rattle.region_sim.specs.declared.pack.Slot.{Slot}
 use Rattle.region_sim.specs.Pack.{AreKeptAfter}
-use Rattle.block_sim.specs.Words.{lane}
+use Rattle.flat_circuit.specs.Words.{lane}
 use Rattle.region_sim.proofs.PackSlots.{kept_narrowed, kept_none, kept_stale, lane_of_slot}
 use Rattle.region_sim.proofs.pack.kept_after.Goals as goal
 use Rattle.region_sim.proofs.pack.kept_after.Goals.{then-part-ne0, else-part-ne0}

@@ -2,8 +2,8 @@ use Rattle.std.proofs.Common.{◌≡◌, ◌∙◌, ap, subst, sym, true}
 use Rattle.std.specs.Bool.{Decides}
 use Rattle.wide_words.specs.Wide.{number}
 use Rattle.region_sim.specs.Pack.{HaveHitsIn}
-use Rattle.block_sim.specs.Words.{lane}
-use Rattle.block_sim.proofs.Public.{lane_xor, unlike}
+use Rattle.flat_circuit.specs.Words.{lane}
+use Rattle.flat_circuit.proofs.Public.{lane_xor, unlike}
 use Rattle.region_sim.proofs.PackSlots.{kept_own, unlike_none}
 use Rattle.region_sim.proofs.pack.kept_in_slot.Goals as goal
 

@@ -1,9 +1,9 @@
 use Rattle.std.proofs.Common.{◌≡◌, ◌<◌, ◌-◌, ◌+◌, ◌∙◌, ap, arith, length}
 use Rattle.wide_words.specs.Wide.{number}
-use Rattle.block_sim.specs.GateForms.{inverted_if}
+use Rattle.flat_circuit.specs.GateForms.{inverted_if}
 use Rattle.region_sim.specs.Pack.{wide_bit}
-use Rattle.block_sim.specs.Words.{lane}
-use Rattle.block_sim.proofs.Public.{at_last, lane_and, all_first, all_last, all_more}
+use Rattle.flat_circuit.specs.Words.{lane}
+use Rattle.flat_circuit.proofs.Public.{at_last, lane_and, all_first, all_last, all_more}
 use Rattle.region_sim.proofs.pack.lanes_of_all.Goals as goal
 
 pub loop-place-init : goal.loop-place-init

@@ -2,7 +2,7 @@ use Rattle.std.proofs.Common.{◌≡◌, ◌<◌, ℕ, true}
 use Rattle.std.specs.Prelude.{Some, slice_get}
 use Rattle.block_sim.specs.declared.propagation.Followed.{Followed}
 use Rattle.region_sim.specs.Pack.{HaveLane}
-use Rattle.block_sim.specs.Words.{lane}
+use Rattle.flat_circuit.specs.Words.{lane}
 use Rattle.region_sim.proofs.pack.lanes_of_classes.Given as goal
 
 abbrev pub invariant-loop-one : goal.invariant-loop-one

@@ -1,8 +1,8 @@
 use Rattle.std.proofs.Common.{◌≡◌, ◌<◌, ◌-◌, ◌+◌, ◌∙◌, ap, arith, length, ◌≤◌}
 use Rattle.std.specs.Prelude.{slice_index_or}
 use Rattle.wide_words.specs.Wide.{number}
-use Rattle.block_sim.specs.Words.{lane}
-use Rattle.block_sim.proofs.Public.{lane_xor, odd_first, odd_last, odd_more, odd_only}
+use Rattle.flat_circuit.specs.Words.{lane}
+use Rattle.flat_circuit.proofs.Public.{lane_xor, odd_first, odd_last, odd_more, odd_only}
 use Rattle.region_sim.proofs.pack.lanes_of_odd.Goals as goal
 
 pub loop-place-init : goal.loop-place-init

@@ -2,7 +2,7 @@ use Rattle.std.proofs.Common.{◌≡◌, ◌<◌, ◌≤◌, ℕ, length, map, t
 use Rattle.std.specs.Prelude.{slice_index_or}
 use Rattle.fault_model.specs.Solution.{is_odd}
 use Rattle.wide_words.specs.Wide.{number}
-use Rattle.block_sim.specs.Words.{lane}
+use Rattle.flat_circuit.specs.Words.{lane}
 use Rattle.region_sim.proofs.pack.lanes_of_odd.Given as goal
 
 abbrev pub invariant-loop-place : goal.invariant-loop-place

@@ -6,11 +6,12 @@ use Rattle.std.proofs.lemmas.Bool.{false≢true}
 use Rattle.std.proofs.lemmas.List.{length-set}
 use Rattle.bench_net.specs.Scan.{names, signal}
 use Rattle.wide_words.specs.Wide.{number}
-use Rattle.block_sim.specs.Events.{IsObserved, Reads}
+use Rattle.flat_circuit.specs.Readers.{IsObserved, Reads}
 use Rattle.region_sim.specs.Pack.{AreHitIn, AreSlots, HasActiveByPack, TellsPack}
 use Rattle.block_sim.specs.Propagation.{is_pending}
-use Rattle.block_sim.specs.Words.{lane}
-use Rattle.block_sim.proofs.Public.{lane_zero, count_at_most, reader_within}
+use Rattle.flat_circuit.specs.Words.{lane}
+use Rattle.flat_circuit.proofs.Public.{lane_zero, reader_within}
+use Rattle.block_sim.proofs.Public.{count_at_most}
 use Rattle.block_sim.proofs.Public.{gate_named_of_signal_equations as gate_named}
 use Rattle.region_sim.proofs.OneLane.{bit_cases, self}
 use Rattle.region_sim.proofs.PackRuns.{gate_rows, goes_on, listed, more_hits, one_less, or_on}

@@ -4,10 +4,10 @@ use Rattle.bench_net.specs.Circuit.{IsWellFormed}
 use Rattle.bench_net.specs.Scan.{names}
 use Rattle.fault_model.specs.Solution.{Test}
 use Rattle.wide_words.specs.Wide.{number}
-use Rattle.block_sim.specs.Events.{IsRising}
+use Rattle.flat_circuit.specs.Readers.{IsRising}
 use Rattle.region_sim.specs.Pack.{AreHitIn, AreRows, HasActiveByPack}
 use Rattle.block_sim.specs.Propagation.{is_pending}
-use Rattle.block_sim.specs.Words.{lane}
+use Rattle.flat_circuit.specs.Words.{lane}
 use Rattle.region_sim.proofs.OneLane.{self}
 use Rattle.region_sim.proofs.PackLanes.{ArePropagating}
 use Rattle.region_sim.proofs.PackStarts.{pack_moment, stem_lanes}

@@ -6,8 +6,8 @@ use Rattle.std.proofs.lemmas.List.{get_or_default}
 use Rattle.list_lemmas.proofs.Members.{among}
 use Rattle.list_lemmas.proofs.Places.{place_within, placed}
 use Rattle.block_sim.specs.declared.propagation.Followed.{Followed}
-use Rattle.block_sim.specs.Words.{lane}
-use Rattle.block_sim.proofs.Public.{lane_or, lane_zero, index_of, at_end}
+use Rattle.flat_circuit.specs.Words.{lane}
+use Rattle.flat_circuit.proofs.Public.{lane_or, lane_zero, index_of, at_end}
 use Rattle.region_sim.proofs.region.all_lanes.Goals as goal
 
 pub loop-one-init : goal.loop-one-init

@@ -1,9 +1,10 @@
 use Rattle.std.proofs.Common.{arith, sym, ◌∙◌}
 use Rattle.std.proofs.lemmas.Bool.{false≢true}
-use Rattle.block_sim.specs.Regions.{here}
-use Rattle.block_sim.specs.Words.{test_of}
-use Rattle.block_sim.proofs.Public.{dead_flip, deeper, leads_further, stem_at_depth, lane_zero}
-use Rattle.block_sim.proofs.Public.{large_enough, large_none, large_on, pin_law, lone_within}
+use Rattle.flat_circuit.specs.Regions.{here}
+use Rattle.flat_circuit.specs.Words.{test_of}
+use Rattle.flat_circuit.proofs.Public.{lane_zero, pin_law, lone_within}
+use Rattle.block_sim.proofs.Public.{dead_flip, deeper, leads_further, stem_at_depth, large_enough}
+use Rattle.block_sim.proofs.Public.{large_none, large_on}
 use Rattle.block_sim.proofs.Public.{one_less}
 use Rattle.region_sim.proofs.region.arrive.Goals as goal
 

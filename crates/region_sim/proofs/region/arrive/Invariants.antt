@@ -5,9 +5,10 @@ use Rattle.bench_net.specs.Level.{HasLevel}
 use Rattle.fault_model.specs.Fault.{Fault}
 use Rattle.fault_model.specs.Solution.{Test}
 use Rattle.block_sim.specs.PropagationState.{IsAsLarge, IsClear}
-use Rattle.block_sim.specs.Regions.{HasCome, IsStemOf, LeadsTo}
+use Rattle.flat_circuit.specs.Regions.{IsStemOf, LeadsTo}
+use Rattle.block_sim.specs.Flips.{HasCome}
 use Rattle.block_sim.specs.Ways.{steps}
-use Rattle.block_sim.specs.Words.{AreWords}
+use Rattle.flat_circuit.specs.Words.{AreWords}
 use Rattle.region_sim.proofs.region.arrive.Given as goal
 
 abbrev pub invariant-loop-step : goal.invariant-loop-step

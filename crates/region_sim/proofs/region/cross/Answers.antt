@@ -1,9 +1,9 @@
 use Rattle.std.proofs.Common.{◌≡◌, ◌<◌, ℕ, sym, ◌∙◌, ap, arith, length}
 use Rattle.std.specs.Prelude.{None}
 use Rattle.fault_model.specs.Solution.{value}
-use Rattle.block_sim.specs.Words.{lane, pin_bits}
-use Rattle.block_sim.proofs.Public.{pins_within, pins_few, pins_some, reader_within, crossed}
-use Rattle.block_sim.proofs.Public.{crossed_where, read_within, reader_driven, only_lanes}
+use Rattle.flat_circuit.specs.Words.{lane, pin_bits}
+use Rattle.flat_circuit.proofs.Public.{pins_within, pins_few, pins_some, reader_within, only_lanes}
+use Rattle.block_sim.proofs.Public.{crossed, crossed_where, read_within, reader_driven}
 use Rattle.region_sim.proofs.region.cross.Goals as goal
 
 pub gate_of-requires : goal.gate_of-requires

@@ -1,5 +1,5 @@
 use Rattle.std.proofs.Common.{arith, refl}
-use Rattle.block_sim.specs.Stuck.{stuck_fault}
+use Rattle.flat_circuit.specs.Stuck.{stuck_fault}
 use Rattle.region_sim.proofs.region.follow.Goals as goal
 
 pub returns-in-Stem-clause-reached : goal.returns-in-Stem-clause-reached

@@ -5,10 +5,10 @@ use Rattle.bench_net.proofs.Public.{name_of-signal}
 use Rattle.list_lemmas.proofs.Places.{place_within}
 use Rattle.fault_model.specs.Detection.{argument, name_on}
 use Rattle.fault_model.proofs.Public.{carries}
-use Rattle.block_sim.specs.Stuck.{stuck_fault}
-use Rattle.block_sim.proofs.Public.{pin_of, gate_within, lane_zero, shown_none, turned_is}
-use Rattle.block_sim.proofs.Public.{lane_of_zero}
-use Rattle.block_sim.specs.Regions.{start_of}
+use Rattle.flat_circuit.specs.Stuck.{stuck_fault}
+use Rattle.flat_circuit.proofs.Public.{pin_of, gate_within, lane_zero, lane_of_zero}
+use Rattle.block_sim.proofs.Public.{shown_none, turned_is}
+use Rattle.block_sim.specs.Flips.{start_of}
 use Rattle.block_sim.specs.Ways.{IsWay, IsWayOfLine}
 use Rattle.region_sim.proofs.FaultLanes.{none_told, observer_told, pin_come, stem_come}
 use Rattle.region_sim.proofs.region.set_out.Goals as goal

@@ -4,7 +4,7 @@ use Rattle.std.proofs.lemmas.List.{length-set}
 use Rattle.list_lemmas.proofs.Places.{place_within, within_place}
 use Rattle.region_sim.specs.GroupLanes.{lanes_seen}
 use Rattle.region_sim.proofs.GroupLanes.{word_more}
-use Rattle.block_sim.proofs.Public.{index_of, set_there}
+use Rattle.flat_circuit.proofs.Public.{index_of, set_there}
 use Rattle.region_sim.proofs.region_detection.conclude.Goals as goal
 
 -- a place outside of a longer range lies outside of a shorter one

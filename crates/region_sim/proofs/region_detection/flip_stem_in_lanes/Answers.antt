@@ -2,10 +2,11 @@ use Rattle.std.proofs.Common.{◌≡◌, ◌<◌, ◌∙◌, ap, length, subst, 
 use Rattle.std.specs.Bool.{Decides}
 use Rattle.bench_net.specs.Scan.{names}
 use Rattle.fault_model.specs.Reordered.{place}
-use Rattle.block_sim.specs.BlockSpans.{group_of}
-use Rattle.block_sim.specs.Regions.{DetectsFlip}
-use Rattle.block_sim.specs.Words.{lane, test_of}
-use Rattle.block_sim.proofs.Public.{reordered, room_there, circuit_there, same_flips}
+use Rattle.flat_circuit.specs.BlockSpans.{group_of}
+use Rattle.block_sim.specs.Flips.{DetectsFlip}
+use Rattle.flat_circuit.specs.Words.{lane, test_of}
+use Rattle.flat_circuit.proofs.Public.{reordered, circuit_there}
+use Rattle.block_sim.proofs.Public.{room_there, same_flips}
 use Rattle.region_sim.proofs.region_detection.flip_stem_in_lanes.Goals as goal
 
 pub place_of-place-requires : goal.place_of-place-requires

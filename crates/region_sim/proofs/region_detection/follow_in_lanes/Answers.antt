@@ -2,17 +2,18 @@ use Rattle.std.proofs.Common.{◌≡◌, true, refl, sym, ◌∙◌, ap, subst, 
 use Rattle.std.specs.Prelude.{Contains, Option, bit_and, unwrap_or}
 use Rattle.fault_model.specs.Fault.{Fault, faults}
 use Rattle.fault_model.specs.Reordered.{moved_fault, place}
-use Rattle.block_sim.specs.BlockSpans.{group_of}
+use Rattle.flat_circuit.specs.BlockSpans.{group_of}
 use Rattle.region_sim.specs.declared.region.Reach.TheVariants.{Observed, Stem}
-use Rattle.block_sim.specs.Regions.{AreLanesFor, HasCome, IsStemOfLine}
+use Rattle.flat_circuit.specs.Regions.{IsStemOfLine}
+use Rattle.block_sim.specs.Flips.{AreLanesFor, HasCome}
 use Rattle.region_sim.specs.Reached.{IsReached}
-use Rattle.block_sim.specs.Stuck.{stuck_fault}
-use Rattle.block_sim.specs.Words.{lane}
-use Rattle.block_sim.proofs.Public.{reordered, room_there, circuit_there, listed_there}
-use Rattle.block_sim.proofs.Public.{starts_there, lanes_first, same_flips, same_readers, same_stems}
-use Rattle.block_sim.proofs.Public.{lanes_decide}
+use Rattle.flat_circuit.specs.Stuck.{stuck_fault}
+use Rattle.flat_circuit.specs.Words.{lane}
+use Rattle.flat_circuit.proofs.Public.{reordered, circuit_there, listed_there, starts_there}
+use Rattle.flat_circuit.proofs.Public.{same_readers, lanes_decide}
+use Rattle.block_sim.proofs.Public.{room_there, lanes_first, same_flips, same_stems}
 use Rattle.region_sim.proofs.ArrangedReaches.{reached_there}
-use Rattle.block_sim.specs.Origins.{IsStuckOf}
+use Rattle.flat_circuit.specs.Origins.{IsStuckOf}
 use Rattle.region_sim.proofs.GroupLanes.{lanes_exact}
 use Rattle.region_sim.proofs.region_detection.follow_in_lanes.Goals as goal
 

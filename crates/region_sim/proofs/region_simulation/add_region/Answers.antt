@@ -4,9 +4,10 @@ use Rattle.std.specs.Prelude.{Option, unwrap_or}
 use Rattle.bench_net.specs.Scan.{names}
 use Rattle.fault_model.specs.Fault.{Fault}
 use Rattle.fault_model.specs.Reordered.{place}
-use Rattle.block_sim.specs.Events.{IsObserved}
-use Rattle.block_sim.specs.Regions.{IsStem, IsStemOfLine}
-use Rattle.block_sim.proofs.Public.{count_there, reordered, circuit_there, same_stems}
+use Rattle.flat_circuit.specs.Readers.{IsObserved}
+use Rattle.flat_circuit.specs.Regions.{IsStem, IsStemOfLine}
+use Rattle.flat_circuit.proofs.Public.{count_there, reordered, circuit_there}
+use Rattle.block_sim.proofs.Public.{same_stems}
 use Rattle.region_sim.proofs.PackedRegions.{gathered_more, gathered_over}
 use Rattle.region_sim.proofs.RegionHits.{listed_at, settled_from, ways_over}
 use Rattle.region_sim.proofs.region_simulation.add_region.Goals as goal

@@ -3,7 +3,7 @@ use Rattle.std.specs.Prelude.{Some, slice_get, slice_index_or, slice_range}
 use Rattle.list_lemmas.proofs.Places.{within_place}
 use Rattle.wide_words.specs.Wide.{number}
 use Rattle.region_sim.specs.declared.pack.Slot.{Slot}
-use Rattle.block_sim.proofs.Public.{index_of}
+use Rattle.flat_circuit.proofs.Public.{index_of}
 use Rattle.region_sim.proofs.RegionHits.{member_at, place_of_member}
 use Rattle.region_sim.proofs.SlotHits.{no_slots, out_of_range, slot_more}
 use Rattle.region_sim.proofs.region_simulation.conclude_slots.Goals as goal

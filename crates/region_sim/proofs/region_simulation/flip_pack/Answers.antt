@@ -2,11 +2,11 @@ use Rattle.std.proofs.Common.{◌≤◌, ◌∙◌, ap, length, subst, sym}
 use Rattle.std.specs.Prelude.{All, None, vec_capacity}
 use Rattle.wide_words.specs.Lanes.{slots}
 use Rattle.wide_words.specs.Wide.{number}
-use Rattle.block_sim.specs.BlockSpans.{group_of}
+use Rattle.flat_circuit.specs.BlockSpans.{group_of}
 use Rattle.region_sim.specs.Pack.{AreRows, IsWithin}
 use Rattle.region_sim.specs.RegionHits.{AreSlotsConcluded}
-use Rattle.block_sim.specs.Words.{AreWords}
-use Rattle.block_sim.proofs.Public.{reordered, circuit_there}
+use Rattle.flat_circuit.specs.Words.{AreWords}
+use Rattle.flat_circuit.proofs.Public.{reordered, circuit_there}
 use Rattle.region_sim.proofs.PackedRegions.{found_all, pack_active, slots_active}
 use Rattle.region_sim.proofs.RegionHits.{member_at}
 use Rattle.region_sim.proofs.region_simulation.flip_pack.Goals as goal

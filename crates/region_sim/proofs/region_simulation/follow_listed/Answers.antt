@@ -3,20 +3,22 @@ use Rattle.std.specs.Prelude.{Contains, Option, bit_and, unwrap_or}
 use Rattle.std.proofs.lemmas.Bool.{false≢true}
 use Rattle.fault_model.specs.Fault.{Fault, faults}
 use Rattle.fault_model.specs.Reordered.{moved_fault, place}
-use Rattle.block_sim.specs.BlockSpans.{group_of}
+use Rattle.flat_circuit.specs.BlockSpans.{group_of}
 use Rattle.region_sim.specs.declared.region.Reach.TheVariants.{Observed, Stem}
-use Rattle.block_sim.specs.Regions.{AreLanesFor, HasCome, IsStemOfLine}
+use Rattle.flat_circuit.specs.Regions.{IsStemOfLine}
+use Rattle.block_sim.specs.Flips.{AreLanesFor, HasCome}
 use Rattle.region_sim.specs.Reached.{IsReached}
-use Rattle.block_sim.specs.Stuck.{stuck_fault}
+use Rattle.flat_circuit.specs.Stuck.{stuck_fault}
 use Rattle.block_sim.specs.Ways.{IsWayOfLine}
-use Rattle.block_sim.specs.Events.{IsObserved}
-use Rattle.block_sim.specs.Words.{lane, test_of}
-use Rattle.block_sim.proofs.Public.{lane_zero, reordered, room_there, within_there, circuit_there}
-use Rattle.block_sim.proofs.Public.{listed_there, starts_there, first_of_told, observed_flip}
-use Rattle.block_sim.proofs.Public.{lanes_both, lanes_first, lanes_second, same_flips, same_readers}
-use Rattle.block_sim.proofs.Public.{same_stems, lane_of_zero, lanes_decide}
+use Rattle.flat_circuit.specs.Readers.{IsObserved}
+use Rattle.flat_circuit.specs.Words.{lane, test_of}
+use Rattle.flat_circuit.proofs.Public.{lane_zero, reordered, within_there, circuit_there}
+use Rattle.flat_circuit.proofs.Public.{listed_there, starts_there, same_readers, lane_of_zero}
+use Rattle.flat_circuit.proofs.Public.{lanes_decide}
+use Rattle.block_sim.proofs.Public.{room_there, first_of_told, observed_flip, lanes_both}
+use Rattle.block_sim.proofs.Public.{lanes_first, lanes_second, same_flips, same_stems}
 use Rattle.region_sim.proofs.ArrangedReaches.{reached_there}
-use Rattle.block_sim.specs.Origins.{IsStuckOf}
+use Rattle.flat_circuit.specs.Origins.{IsStuckOf}
 use Rattle.region_sim.proofs.region_simulation.follow_listed.Goals as goal
 
 pub follow_within-requires-clause-view : goal.follow_within-requires-clause-view

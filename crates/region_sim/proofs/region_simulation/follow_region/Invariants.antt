@@ -4,7 +4,7 @@ use Rattle.std.specs.List.{sum_by}
 use Rattle.block_sim.specs.PropagationState.{IsAsLarge, IsClear}
 use Rattle.region_sim.specs.RegionHits.{AreFollowedAt, AreOpen, HasAdded, HaveFirstsBut, HaveStem}
 use Rattle.region_sim.specs.RegionHits.{open_between}
-use Rattle.block_sim.specs.Events.{IsObserved}
+use Rattle.flat_circuit.specs.Readers.{IsObserved}
 use Rattle.region_sim.specs.Sensitized.{HasBegun, IsSameRegion}
 use Rattle.region_sim.specs.KnownWays.{AreWays}
 use Rattle.region_sim.proofs.region_simulation.follow_region.Given as goal

@@ -1,8 +1,9 @@
 use Rattle.std.proofs.Common.{◌≡◌, ◌∙◌, ap, arith, subst, sym}
 use Rattle.std.specs.Prelude.{Some, None, slice_index_or}
-use Rattle.block_sim.specs.Regions.{here, lone_reader}
+use Rattle.flat_circuit.specs.Regions.{here, lone_reader}
 use Rattle.region_sim.specs.Sensitized.{IsPathTo, on_from}
-use Rattle.block_sim.proofs.Public.{pin_law, lone_within, one_stem_law, one_less}
+use Rattle.flat_circuit.proofs.Public.{pin_law, lone_within, one_stem_law}
+use Rattle.block_sim.proofs.Public.{one_less}
 use Rattle.region_sim.proofs.SensitizedLanes.{path_longer, same_first}
 use Rattle.region_sim.proofs.sensitized.climb.Goals as goal
 

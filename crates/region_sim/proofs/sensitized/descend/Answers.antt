@@ -3,8 +3,9 @@ use Rattle.std.specs.Prelude.{None, Some}
 use Rattle.std.proofs.lemmas.List.{length-set}
 use Rattle.fault_model.specs.Solution.{Test}
 use Rattle.region_sim.specs.Sensitized.{AreKnownFlips, CarriesFlip, IsPathTo, on_from}
-use Rattle.block_sim.specs.Words.{AreWords}
-use Rattle.block_sim.proofs.Public.{large_enough, large_none, large_on, pin_law, read_within}
+use Rattle.flat_circuit.specs.Words.{AreWords}
+use Rattle.flat_circuit.proofs.Public.{pin_law}
+use Rattle.block_sim.proofs.Public.{large_enough, large_none, large_on, read_within}
 use Rattle.region_sim.proofs.SensitizedLanes.{flips_more, no_path, path_shorter, same_first}
 use Rattle.region_sim.proofs.sensitized.descend.Goals as goal
 

@@ -3,7 +3,7 @@ use Rattle.std.specs.Prelude.{None, Some, slice_index_or, vec_capacity, vec_len}
 use Rattle.fault_model.specs.Solution.{Test}
 use Rattle.block_sim.specs.PropagationState.{IsAsLarge, IsClear}
 use Rattle.region_sim.specs.Sensitized.{AreKnownFlips, CarriesFlip, IsPathTo, on_from}
-use Rattle.block_sim.specs.Words.{AreWords}
+use Rattle.flat_circuit.specs.Words.{AreWords}
 use Rattle.region_sim.proofs.sensitized.descend.Given as goal
 
 abbrev pub invariant-loop-signal : goal.invariant-loop-signal

@@ -1,7 +1,7 @@
 use Rattle.std.proofs.Common.{◌≡◌, ◌∙◌, arith, refl, subst, sym}
 use Rattle.std.specs.Prelude.{Some}
-use Rattle.block_sim.specs.Regions.{IsStemOf}
-use Rattle.block_sim.specs.Stuck.{stuck_fault}
+use Rattle.flat_circuit.specs.Regions.{IsStemOf}
+use Rattle.flat_circuit.specs.Stuck.{stuck_fault}
 use Rattle.block_sim.proofs.Public.{come_nowhere}
 use Rattle.region_sim.proofs.SensitizedLanes.{come_to_stem}
 use Rattle.region_sim.proofs.sensitized.follow_within.Goals as goal

@@ -1,4 +1,4 @@
-use Rattle.block_sim.proofs.Public.{pin_law}
+use Rattle.flat_circuit.proofs.Public.{pin_law}
 use Rattle.region_sim.proofs.SensitizedLanes.{carried_before, passed_nowhere, passed_where}
 use Rattle.region_sim.proofs.sensitized.lanes_before.Goals as goal
 

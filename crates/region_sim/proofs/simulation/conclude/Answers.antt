@@ -8,7 +8,7 @@ use Rattle.list_lemmas.proofs.Places.{place_within, placed}
 use Rattle.region_sim.specs.declared.simulation.Memo.TheVariants.{Nothing}
 use Rattle.block_sim.specs.declared.propagation.Followed.{Followed}
 use Rattle.region_sim.specs.Simulation.{IsFollowed, IsTrueMemo}
-use Rattle.block_sim.proofs.Public.{index_of}
+use Rattle.flat_circuit.proofs.Public.{index_of}
 use Rattle.region_sim.proofs.KeptOutcomes.{arrived_first}
 use Rattle.region_sim.proofs.KnownWays.{known_still}
 use Rattle.region_sim.proofs.simulation.conclude.Goals as goal

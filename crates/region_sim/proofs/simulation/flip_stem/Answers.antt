@@ -1,11 +1,12 @@
 use Rattle.std.proofs.Common.{◌≡◌, ◌∙◌, ap, arith, map, sym, subst}
 use Rattle.std.proofs.lemmas.List.{length-map}
 use Rattle.fault_model.specs.Reordered.{place}
-use Rattle.block_sim.specs.Regions.{TellsFirstFlips}
-use Rattle.block_sim.specs.BlockSpans.{group_of}
+use Rattle.block_sim.specs.Flips.{TellsFirstFlips}
+use Rattle.flat_circuit.specs.BlockSpans.{group_of}
 use Rattle.block_sim.specs.Ways.{HasActiveByFlip}
 use Rattle.region_sim.proofs.KeptOutcomes.{arrived_within}
-use Rattle.block_sim.proofs.Public.{reordered, room_there, circuit_there, same_active, same_flips}
+use Rattle.flat_circuit.proofs.Public.{reordered, circuit_there}
+use Rattle.block_sim.proofs.Public.{room_there, same_active, same_flips}
 use Rattle.region_sim.proofs.simulation.flip_stem.Goals as goal
 
 pub flip-requires-clause-words : goal.flip-requires-clause-words

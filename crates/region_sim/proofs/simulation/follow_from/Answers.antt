@@ -7,19 +7,20 @@ use Rattle.bench_net.specs.Scan.{names}
 use Rattle.patterns.specs.Tests.{TestList}
 use Rattle.fault_model.specs.Fault.{Fault, faults}
 use Rattle.fault_model.specs.Reordered.{moved_fault, place}
-use Rattle.block_sim.specs.BlockSpans.{IsInSpan, group_of}
+use Rattle.flat_circuit.specs.BlockSpans.{IsInSpan, group_of}
 use Rattle.region_sim.specs.declared.region.Reach.TheVariants.{Observed, Stem}
 use Rattle.region_sim.specs.declared.simulation.Approach.TheVariants as approach
-use Rattle.block_sim.specs.Regions.{AreLanesFor, HasCome, IsStemOfLine}
+use Rattle.flat_circuit.specs.Regions.{IsStemOfLine}
+use Rattle.block_sim.specs.Flips.{AreLanesFor, HasCome}
 use Rattle.region_sim.specs.Reached.{IsReached}
-use Rattle.block_sim.specs.Stuck.{stuck_fault}
+use Rattle.flat_circuit.specs.Stuck.{stuck_fault}
 use Rattle.block_sim.specs.Ways.{IsWayOfLine}
-use Rattle.block_sim.specs.Words.{lane}
-use Rattle.block_sim.proofs.Public.{lane_zero, reordered, room_there, signals_there, circuit_there}
-use Rattle.block_sim.proofs.Public.{listed_there, starts_there, first_of_told, lanes_both}
-use Rattle.block_sim.proofs.Public.{same_flips, same_stems, lane_of_zero, lanes_decide}
+use Rattle.flat_circuit.specs.Words.{lane}
+use Rattle.flat_circuit.proofs.Public.{lane_zero, reordered, signals_there, circuit_there}
+use Rattle.flat_circuit.proofs.Public.{listed_there, starts_there, lane_of_zero, lanes_decide}
+use Rattle.block_sim.proofs.Public.{room_there, first_of_told, lanes_both, same_flips, same_stems}
 use Rattle.region_sim.proofs.ArrangedReaches.{reached_there}
-use Rattle.block_sim.specs.Origins.{IsStuckOf}
+use Rattle.flat_circuit.specs.Origins.{IsStuckOf}
 use Rattle.region_sim.proofs.simulation.follow_from.Goals as goal
 
 pub follow-requires-clause-view : goal.follow-requires-clause-view

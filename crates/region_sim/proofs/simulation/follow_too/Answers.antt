@@ -3,7 +3,7 @@ use Rattle.region_sim.specs.Simulation.{AreFollowed, AreTrueBut, HasArrived}
 use Rattle.block_sim.specs.declared.propagation.Followed.{Followed}
 use Rattle.region_sim.specs.declared.simulation.Memo.TheVariants.{Pending}
 use Rattle.region_sim.proofs.KeptOutcomes.{followed_more, memo_kept_but, memo_waits}
-use Rattle.block_sim.proofs.Public.{one_class_stem}
+use Rattle.flat_circuit.proofs.Public.{one_class_stem}
 use Rattle.region_sim.proofs.KnownWays.{between_first, known_more}
 use Rattle.region_sim.proofs.simulation.follow_too.Goals as goal
 

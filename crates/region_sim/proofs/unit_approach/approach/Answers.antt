@@ -8,15 +8,16 @@ use Rattle.fault_model.specs.Reordered.{moved_fault, place}
 use Rattle.wide_words.specs.Layouts.{both_layout}
 use Rattle.wide_words.specs.Wide.{number}
 use Rattle.region_sim.specs.declared.unit_start.WideReach.TheVariants.{Observed}
-use Rattle.block_sim.specs.Events.{IsObserved}
-use Rattle.block_sim.specs.Origins.{IsStuckOf}
-use Rattle.block_sim.specs.Regions.{IsStemOfLine}
-use Rattle.block_sim.specs.Stuck.{stuck_fault}
+use Rattle.flat_circuit.specs.Readers.{IsObserved}
+use Rattle.flat_circuit.specs.Origins.{IsStuckOf}
+use Rattle.flat_circuit.specs.Regions.{IsStemOfLine}
+use Rattle.flat_circuit.specs.Stuck.{stuck_fault}
 use Rattle.region_sim.specs.Units.{HaveCome, IsWideReached, group_in, unit_test}
 use Rattle.block_sim.specs.Ways.{IsWayOfLine}
-use Rattle.block_sim.specs.Words.{lane}
-use Rattle.block_sim.proofs.Public.{reordered, within_there, circuit_there, listed_there}
-use Rattle.block_sim.proofs.Public.{starts_there, lane_zero, observed_flip, same_readers}
+use Rattle.flat_circuit.specs.Words.{lane}
+use Rattle.flat_circuit.proofs.Public.{reordered, within_there, circuit_there, listed_there}
+use Rattle.flat_circuit.proofs.Public.{starts_there, lane_zero, same_readers}
+use Rattle.block_sim.proofs.Public.{observed_flip}
 use Rattle.block_sim.proofs.Public.{same_stems}
 use Rattle.region_sim.proofs.UnitApproaches.{comes_in_unit, known_in_unit}
 use Rattle.region_sim.proofs.unit_approach.approach.Goals as goal

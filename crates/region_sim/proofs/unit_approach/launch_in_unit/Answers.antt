@@ -2,8 +2,8 @@ use Rattle.std.proofs.Common.{◌≡◌, ◌<◌, ◌+◌, ◌*◌, ◌/◌, ◌
 use Rattle.std.specs.Bool.{Decides}
 use Rattle.fault_model.specs.Detection.{LooksBack}
 use Rattle.wide_words.specs.Layouts.{one_of}
-use Rattle.block_sim.specs.Words.{lane}
-use Rattle.block_sim.proofs.Public.{of_four}
+use Rattle.flat_circuit.specs.Words.{lane}
+use Rattle.flat_circuit.proofs.Public.{of_four}
 use Rattle.region_sim.proofs.unit_approach.launch_in_unit.Goals as goal
 
 pub returns : goal.returns

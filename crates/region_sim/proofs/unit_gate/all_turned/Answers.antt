@@ -4,10 +4,10 @@ use Rattle.std.proofs.lemmas.List.{length-map, take_all}
 use Rattle.patterns.specs.Least.{below}
 use Rattle.patterns.proofs.Public.{get_or-below, length-below}
 use Rattle.wide_words.specs.Wide.{number}
-use Rattle.block_sim.specs.GateForms.{inverted_if}
+use Rattle.flat_circuit.specs.GateForms.{inverted_if}
 use Rattle.region_sim.specs.Units.{turned_bit, turned_bits}
-use Rattle.block_sim.specs.Words.{lane}
-use Rattle.block_sim.proofs.Public.{turned_lane, lane_and, all_more}
+use Rattle.flat_circuit.specs.Words.{lane}
+use Rattle.flat_circuit.proofs.Public.{turned_lane, lane_and, all_more}
 use Rattle.region_sim.proofs.unit_gate.all_turned.Goals as goal
 
 pub loop-place-init : goal.loop-place-init

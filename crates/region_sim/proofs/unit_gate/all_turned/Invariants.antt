@@ -1,9 +1,9 @@
 use Rattle.std.proofs.Common.{◌≡◌, ◌<◌, ◌≤◌, ℕ, length, take}
 use Rattle.std.specs.List.{list_all}
 use Rattle.wide_words.specs.Wide.{number}
-use Rattle.block_sim.specs.GateForms.{inverted_if}
+use Rattle.flat_circuit.specs.GateForms.{inverted_if}
 use Rattle.region_sim.specs.Units.{turned_bits}
-use Rattle.block_sim.specs.Words.{lane}
+use Rattle.flat_circuit.specs.Words.{lane}
 use Rattle.region_sim.proofs.unit_gate.all_turned.Given as goal
 
 abbrev pub invariant-loop-place : goal.invariant-loop-place

@@ -1,8 +1,8 @@
 use Rattle.std.proofs.Common.{◌∙◌, ap, inl, inr}
 use Rattle.wide_words.specs.Wide.{number}
 use Rattle.region_sim.specs.Units.{turned_bits}
-use Rattle.block_sim.specs.Words.{lane}
-use Rattle.block_sim.proofs.Public.{chosen_lane}
+use Rattle.flat_circuit.specs.Words.{lane}
+use Rattle.flat_circuit.proofs.Public.{chosen_lane}
 use Rattle.region_sim.proofs.unit_gate.gate_turned.Goals as goal
 use Rattle.region_sim.proofs.unit_gate.gate_turned.Goals.{then-gate, else-gate}
 

@@ -5,8 +5,8 @@ use Rattle.patterns.specs.Least.{below}
 use Rattle.patterns.proofs.Public.{get_or-below, length-below}
 use Rattle.wide_words.specs.Wide.{number}
 use Rattle.region_sim.specs.Units.{turned_bit, turned_bits}
-use Rattle.block_sim.specs.Words.{lane}
-use Rattle.block_sim.proofs.Public.{lane_xor, lane_zero, odd_more}
+use Rattle.flat_circuit.specs.Words.{lane}
+use Rattle.flat_circuit.proofs.Public.{lane_xor, lane_zero, odd_more}
 use Rattle.region_sim.proofs.unit_gate.odd_turned.Goals as goal
 
 pub loop-place-init : goal.loop-place-init

@@ -2,7 +2,7 @@ use Rattle.std.proofs.Common.{◌≡◌, ◌<◌, ◌≤◌, ℕ, length, take}
 use Rattle.fault_model.specs.Solution.{is_odd}
 use Rattle.wide_words.specs.Wide.{number}
 use Rattle.region_sim.specs.Units.{turned_bits}
-use Rattle.block_sim.specs.Words.{lane}
+use Rattle.flat_circuit.specs.Words.{lane}
 use Rattle.region_sim.proofs.unit_gate.odd_turned.Given as goal
 
 abbrev pub invariant-loop-place : goal.invariant-loop-place

@@ -3,10 +3,10 @@ use Rattle.std.specs.Prelude.{Option, unwrap_or}
 use Rattle.bench_net.specs.declared.Kind.{Kind}
 use Rattle.fault_model.specs.Solution.{value}
 use Rattle.wide_words.specs.Wide.{number}
-use Rattle.block_sim.specs.GateForms.{inverted_if}
+use Rattle.flat_circuit.specs.GateForms.{inverted_if}
 use Rattle.region_sim.specs.Units.{free_bit, turned_bits}
-use Rattle.block_sim.specs.Words.{lane}
-use Rattle.block_sim.proofs.Public.{pins_within, lane_xor, unlike, only_lanes}
+use Rattle.flat_circuit.specs.Words.{lane}
+use Rattle.flat_circuit.proofs.Public.{pins_within, lane_xor, unlike, only_lanes}
 use Rattle.region_sim.proofs.UnitLanes.{passed_to}
 use Rattle.region_sim.proofs.unit_gate.pass.Goals as goal
 

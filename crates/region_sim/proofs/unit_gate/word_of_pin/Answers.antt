@@ -1,9 +1,9 @@
 use Rattle.std.proofs.Common.{◌∙◌, ◌&&◌, ap, sym}
 use Rattle.wide_words.specs.Wide.{number}
-use Rattle.block_sim.specs.GateForms.{inverted_if}
+use Rattle.flat_circuit.specs.GateForms.{inverted_if}
 use Rattle.region_sim.specs.Units.{free_bit}
-use Rattle.block_sim.specs.Words.{lane}
-use Rattle.block_sim.proofs.Public.{lane_xor, unlike}
+use Rattle.flat_circuit.specs.Words.{lane}
+use Rattle.flat_circuit.proofs.Public.{lane_xor, unlike}
 use Rattle.region_sim.proofs.PackGates.{unlike_is}
 use Rattle.region_sim.proofs.unit_gate.word_of_pin.Goals as goal
 

@@ -1,7 +1,7 @@
 use Rattle.std.proofs.Common.{◌≡◌, ◌+◌, ◌<◌, ◌≤◌, ◌-◌, ℕ, length}
 use Rattle.std.specs.Prelude.{vec_capacity, vec_len}
 use Rattle.bench_net.specs.Scan.{names}
-use Rattle.block_sim.specs.Regions.{IsStemOf, LeadsTo}
+use Rattle.flat_circuit.specs.Regions.{IsStemOf, LeadsTo}
 use Rattle.region_sim.specs.Sensitized.{IsPathTo, on_from}
 use Rattle.block_sim.specs.Ways.{steps}
 use Rattle.region_sim.proofs.unit_region.climb.Given as goal

@@ -6,7 +6,8 @@ use Rattle.wide_words.specs.Wide.{number}
 use Rattle.region_sim.specs.Pack.{AreRows}
 use Rattle.region_sim.specs.Sensitized.{IsPathTo, on_from}
 use Rattle.region_sim.specs.Units.{AreKnownInUnit, CarryFlip}
-use Rattle.block_sim.proofs.Public.{pin_law, read_within}
+use Rattle.flat_circuit.proofs.Public.{pin_law}
+use Rattle.block_sim.proofs.Public.{read_within}
 use Rattle.region_sim.proofs.SensitizedLanes.{no_path, path_shorter, same_first}
 use Rattle.region_sim.proofs.UnitRegions.{known_more}
 use Rattle.region_sim.proofs.unit_region.descend.Goals as goal

@@ -2,8 +2,8 @@ use Rattle.std.proofs.Common.{◌≡◌, ◌∙◌, ap, map, sym}
 use Rattle.std.proofs.lemmas.Bool.{false≢true}
 use Rattle.bench_net.specs.Scan.{signal}
 use Rattle.wide_words.specs.Wide.{number}
-use Rattle.block_sim.specs.Words.{lane}
-use Rattle.block_sim.proofs.Public.{lane_zero, pin_law, reader_within}
+use Rattle.flat_circuit.specs.Words.{lane}
+use Rattle.flat_circuit.proofs.Public.{lane_zero, pin_law, reader_within}
 use Rattle.block_sim.proofs.Public.{gate_named_of_signal_equations as gate_named}
 use Rattle.region_sim.proofs.UnitRegions.{carry_before, passes_back, passes_there}
 use Rattle.region_sim.proofs.unit_region.lanes_before.Goals as goal

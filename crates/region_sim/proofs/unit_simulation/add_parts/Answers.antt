@@ -3,7 +3,7 @@ use Rattle.std.specs.Prelude.{Some, slice_get}
 use Rattle.std.proofs.lemmas.Bool.{cases_eq}
 use Rattle.std.proofs.lemmas.Option.{slice_get_within}
 use Rattle.block_sim.specs.declared.propagation.Followed.{Followed}
-use Rattle.block_sim.proofs.Public.{index_of}
+use Rattle.flat_circuit.proofs.Public.{index_of}
 use Rattle.region_sim.proofs.RegionHits.{place_of_member, some_at}
 use Rattle.region_sim.proofs.UnitParts.{ArePartsOf, parts_none, parts_pushed, parts_skipped}
 use Rattle.region_sim.proofs.unit_simulation.add_parts.Goals as goal

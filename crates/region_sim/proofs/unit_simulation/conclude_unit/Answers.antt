@@ -3,7 +3,7 @@ use Rattle.std.specs.Prelude.{Some, slice_get}
 use Rattle.std.proofs.lemmas.Option.{slice_get_within}
 use Rattle.wide_words.specs.Wide.{number}
 use Rattle.region_sim.specs.Units.{IsTestInUnit}
-use Rattle.block_sim.proofs.Public.{index_of}
+use Rattle.flat_circuit.proofs.Public.{index_of}
 use Rattle.region_sim.proofs.RegionHits.{member_at, place_of_member, some_at}
 use Rattle.region_sim.proofs.UnitHits.{AreUnitTold, unit_told_more}
 use Rattle.region_sim.proofs.unit_simulation.conclude_unit.Goals as goal

@@ -4,7 +4,7 @@ use Rattle.wide_words.specs.Layouts.{both_layout}
 use Rattle.wide_words.specs.Wide.{number}
 use Rattle.region_sim.specs.Pack.{AreSlots, HasActiveByPack, TellsPack}
 use Rattle.region_sim.specs.Units.{group_in, unit_rows}
-use Rattle.block_sim.proofs.Public.{count_there, reordered, circuit_there}
+use Rattle.flat_circuit.proofs.Public.{count_there, reordered, circuit_there}
 use Rattle.region_sim.proofs.UnitFlips.{found_in_unit, unit_active, unit_slots}
 use Rattle.region_sim.proofs.unit_simulation.flip_unit.Goals as goal
 

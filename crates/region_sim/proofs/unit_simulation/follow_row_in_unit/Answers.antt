@@ -2,9 +2,10 @@ use Rattle.std.proofs.Common.{◌∙◌, arith, inl, inr, refl, subst, sym}
 use Rattle.std.specs.Prelude.{None}
 use Rattle.std.proofs.lemmas.Bool.{false≢true}
 use Rattle.wide_words.specs.Wide.{number}
-use Rattle.block_sim.specs.Events.{IsLive}
+use Rattle.flat_circuit.specs.Readers.{IsLive}
 use Rattle.region_sim.specs.Units.{unit_span}
-use Rattle.block_sim.proofs.Public.{within_there, dead_class}
+use Rattle.flat_circuit.proofs.Public.{within_there}
+use Rattle.block_sim.proofs.Public.{dead_class}
 use Rattle.region_sim.proofs.UnitApproaches.{first_in_unit, known_first}
 use Rattle.region_sim.proofs.unit_simulation.follow_row_in_unit.Goals as goal
 

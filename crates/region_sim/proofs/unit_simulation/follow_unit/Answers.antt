@@ -3,9 +3,9 @@ use Rattle.std.proofs.Common.{length, refl, sym, subst}
 use Rattle.std.specs.Prelude.{Contains, Some}
 use Rattle.bench_net.specs.Statement.{Statement}
 use Rattle.fault_model.specs.Reordered.{place}
-use Rattle.block_sim.specs.declared.origin.ListedClass.{ListedClass}
+use Rattle.flat_circuit.specs.declared.origin.ListedClass.{ListedClass}
 use Rattle.region_sim.specs.declared.unit_simulation.UnitClass.{UnitClass}
-use Rattle.block_sim.specs.Events.{IsObserved}
+use Rattle.flat_circuit.specs.Readers.{IsObserved}
 use Rattle.region_sim.specs.OpenPlaces.{AreSettled}
 use Rattle.region_sim.specs.RegionHits.{HasFirst}
 use Rattle.region_sim.specs.UnitHits.{HaveArrivedInUnit, IsClassAt}

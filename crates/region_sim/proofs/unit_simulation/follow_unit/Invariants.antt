@@ -2,7 +2,7 @@ use Rattle.std.proofs.Common.{◌≡◌, ◌⊎◌, ◌+◌, ◌-◌, ◌<◌, �
 use Rattle.std.specs.Prelude.{Some, slice_get, vec_capacity}
 use Rattle.std.specs.List.{sum_by}
 use Rattle.wide_words.specs.Layouts.{both_layout}
-use Rattle.block_sim.specs.Events.{IsObserved}
+use Rattle.flat_circuit.specs.Readers.{IsObserved}
 use Rattle.region_sim.specs.RegionHits.{HaveStem, open_between}
 use Rattle.region_sim.specs.UnitHits.{AreClassesAt, AreClassesOpen, HaveArrivedInUnit}
 use Rattle.region_sim.specs.UnitHits.{HaveFirstsBeside}

@@ -6,12 +6,13 @@ use Rattle.std.proofs.lemmas.List.{length-map, nil_from_length}
 use Rattle.bench_net.specs.Scan.{names}
 use Rattle.fault_model.specs.Reordered.{place}
 use Rattle.wide_words.specs.Layouts.{both_layout}
-use Rattle.block_sim.specs.Events.{IsObserved}
+use Rattle.flat_circuit.specs.Readers.{IsObserved}
 use Rattle.region_sim.specs.RegionHits.{IsOpenAt}
 use Rattle.region_sim.specs.UnitHits.{AreClassesAt, HaveArrivedInUnit, HaveFirstsBeside, IsClassAt}
 use Rattle.region_sim.specs.Units.{unit_rows, unit_span}
 use Rattle.block_sim.specs.Ways.{HasActiveByFlip}
-use Rattle.block_sim.proofs.Public.{count_there, reordered, circuit_there, same_active}
+use Rattle.flat_circuit.proofs.Public.{count_there, reordered, circuit_there}
+use Rattle.block_sim.proofs.Public.{same_active}
 use Rattle.region_sim.proofs.RegionHits.{listed_at, settled_from}
 use Rattle.region_sim.proofs.UnitFlips.{none_came, settled_firsts}
 use Rattle.region_sim.proofs.unit_simulation.simulate_unit.Goals as goal

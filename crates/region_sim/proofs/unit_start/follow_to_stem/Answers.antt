@@ -3,12 +3,12 @@ use Rattle.std.specs.Prelude.{None, Some}
 use Rattle.wide_words.specs.Wide.{number}
 use Rattle.region_sim.specs.declared.unit_start.WideReach.{WideReach}
 use Rattle.region_sim.specs.declared.unit_start.WideReach.TheVariants.{Observed, Stem}
-use Rattle.block_sim.specs.Regions.{start_of}
-use Rattle.block_sim.specs.Stuck.{stuck_fault}
+use Rattle.block_sim.specs.Flips.{start_of}
+use Rattle.flat_circuit.specs.Stuck.{stuck_fault}
 use Rattle.region_sim.specs.Units.{CarryFlip, HaveCome}
 use Rattle.block_sim.specs.Ways.{IsWay}
-use Rattle.block_sim.specs.Words.{lane}
-use Rattle.block_sim.proofs.Public.{lane_zero}
+use Rattle.flat_circuit.specs.Words.{lane}
+use Rattle.flat_circuit.proofs.Public.{lane_zero}
 use Rattle.region_sim.proofs.UnitStarts.{come_to_dead, come_to_stem, start_within, way_of_start}
 use Rattle.region_sim.proofs.unit_start.follow_to_stem.Goals as goal
 

@@ -6,12 +6,12 @@ use Rattle.list_lemmas.proofs.Places.{place_within}
 use Rattle.fault_model.specs.Detection.{argument, name_on}
 use Rattle.fault_model.proofs.Public.{carries}
 use Rattle.wide_words.specs.Wide.{number}
-use Rattle.block_sim.specs.Regions.{start_of}
-use Rattle.block_sim.specs.Stuck.{stuck_fault}
+use Rattle.block_sim.specs.Flips.{start_of}
+use Rattle.flat_circuit.specs.Stuck.{stuck_fault}
 use Rattle.region_sim.specs.Units.{free_bit}
 use Rattle.block_sim.specs.Ways.{IsWay, IsWayOfLine}
-use Rattle.block_sim.specs.Words.{lane}
-use Rattle.block_sim.proofs.Public.{gate_within, pin_of, lane_and, lane_xor, unlike}
+use Rattle.flat_circuit.specs.Words.{lane}
+use Rattle.flat_circuit.proofs.Public.{gate_within, pin_of, lane_and, lane_xor, unlike}
 use Rattle.region_sim.proofs.UnitStarts.{at_signal, observer_comes, pin_comes, stem_comes}
 use Rattle.region_sim.proofs.unit_start.start.Goals as goal
 use Rattle.region_sim.proofs.unit_start.start.Goals.{After-and-excited}

@@ -9,7 +9,7 @@ use Rattle.fault_model.specs.declared.Line.TheVariants as line
 use Rattle.fault_model.specs.Detection.{HasBit, LooksBack}
 use Rattle.list_lemmas.proofs.Places.{place_within}
 use Rattle.block_sim.specs.Activation.{ActivatesAt}
-use Rattle.block_sim.specs.Words.{lane}
+use Rattle.flat_circuit.specs.Words.{lane}
 use Rattle.undetected.specs.Activated.{stem_fault}
 use Rattle.undetected.proofs.BitsBefore.{activating_lane, word_bit}
 use Rattle.undetected.proofs.WordLanes.{both_decide, lane_below, no_lane, some_lane}

@@ -2,7 +2,7 @@ use Rattle.std.proofs.Common.{◌≡◌, ◌≢◌, ◌+◌, ◌*◌, ℕ, arith
 use Rattle.std.specs.Prelude.{◌↔◌, [], slice_index_or}
 use Rattle.fault_model.specs.declared.Line.TheVariants as line
 use Rattle.fault_model.specs.Detection.{HasBit}
-use Rattle.block_sim.specs.Words.{lane}
+use Rattle.flat_circuit.specs.Words.{lane}
 use Rattle.undetected.proofs.BitsBefore.{fits_back_first, fits_back_later}
 use Rattle.undetected.proofs.activating.initialized_lanes.Goals as goal
 use Rattle.undetected.proofs.activating.initialized_lanes.Goals.{then-block-eq0, else-block-eq0}

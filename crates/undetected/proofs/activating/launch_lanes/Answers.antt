@@ -3,7 +3,7 @@ use Rattle.std.specs.Prelude.{bit_and}
 use Rattle.std.specs.Bool.{Decides}
 use Rattle.fault_model.specs.declared.Line.TheVariants as line
 use Rattle.fault_model.specs.Detection.{IsInitialized, IsSecondOfPair, LooksBack}
-use Rattle.block_sim.specs.Words.{lane}
+use Rattle.flat_circuit.specs.Words.{lane}
 use Rattle.undetected.proofs.WordLanes.{both_decide, lane_ones}
 use Rattle.undetected.proofs.activating.launch_lanes.Goals as goal
 

@@ -1,5 +1,5 @@
 use Rattle.std.proofs.Common.{◌≡◌, ◌+◌, ◌-◌, ◌∙◌, ap, arith, subst, suc}
-use Rattle.block_sim.specs.Words.{IsFaultFreeWord, lane}
+use Rattle.flat_circuit.specs.Words.{IsFaultFreeWord, lane}
 use Rattle.undetected.proofs.BitsBefore.{bits_before}
 use Rattle.undetected.proofs.activating.word_before.Goals as goal
 use Rattle.undetected.proofs.activating.word_before.Goals.{then-block-eq0, else-block-eq0}

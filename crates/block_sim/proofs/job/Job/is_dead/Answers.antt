@@ -1,8 +1,8 @@
 use Rattle.std.proofs.Common.{◌∙◌, ap, subst, sym}
 use Rattle.std.proofs.lemmas.Bool.{false≢true, not-true}
 use Rattle.fault_model.specs.Reordered.{place}
-use Rattle.block_sim.specs.Arranged.{IsArranged}
-use Rattle.block_sim.specs.Events.{IsLive}
+use Rattle.flat_circuit.specs.Arranged.{IsArranged}
+use Rattle.flat_circuit.specs.Readers.{IsLive}
 use Rattle.block_sim.specs.Parts.{BelongTogether}
 use Rattle.block_sim.proofs.DeadRegions.{dead_class}
 use Rattle.block_sim.proofs.PartsOfJobs.{seen, whole}

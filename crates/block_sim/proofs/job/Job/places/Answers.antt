@@ -1,6 +1,6 @@
 use Rattle.std.proofs.Common.{◌∙◌, ap, length, subst}
 use Rattle.bench_net.specs.Scan.{names}
-use Rattle.block_sim.specs.Arranged.{ArePlaces, IsArranged}
+use Rattle.flat_circuit.specs.Arranged.{ArePlaces, IsArranged}
 use Rattle.block_sim.proofs.PartsOfJobs.{seen}
 use Rattle.block_sim.proofs.job.Job.places.Goals as goal
 

@@ -1,7 +1,7 @@
 use Rattle.std.proofs.Common.{◌<◌, ap, arith, length, refl, subst}
 use Rattle.std.proofs.lemmas.Option.{slice_get_read}
 use Rattle.bench_net.specs.Scan.{names}
-use Rattle.block_sim.specs.Regions.{IsStemOfClass}
+use Rattle.flat_circuit.specs.Regions.{IsStemOfClass}
 use Rattle.block_sim.proofs.PartsOfJobs.{whole, seen}
 use Rattle.block_sim.proofs.job.Job.stem_of_class.Goals as goal
 

@@ -1,6 +1,6 @@
 use Rattle.std.proofs.Common.{inr, subst, sym}
 use Rattle.bench_net.specs.Circuit.{IsCircuit}
-use Rattle.block_sim.specs.JobParts.{AreClassLists}
+use Rattle.flat_circuit.specs.Classes.{AreClassLists}
 use Rattle.block_sim.specs.Parts.{Parts}
 use Rattle.block_sim.proofs.JobsUnder.{under}
 use Rattle.block_sim.proofs.job.Job.under_model_in_threads.Goals as goal

@@ -1,10 +1,10 @@
 use Rattle.std.proofs.Common.{◌≡◌, ◌<◌, ◌/◌, ◌∙◌, ap, subst, arith, length, get_or}
 use Rattle.std.proofs.lemmas.List.{length-map, get_or_read}
-use Rattle.block_sim.specs.BlockSpans.{groups}
-use Rattle.block_sim.specs.Words.{IsFaultFreeWord, lane}
+use Rattle.flat_circuit.specs.BlockSpans.{groups}
+use Rattle.flat_circuit.specs.Words.{IsFaultFreeWord, lane}
 use Rattle.block_sim.proofs.BitBefore.{fault_free_lane}
 use Rattle.block_sim.proofs.ArrangedWords.{word_there}
-use Rattle.block_sim.proofs.Rows.{mapped_get}
+use Rattle.flat_circuit.proofs.Public.{mapped_get}
 use Rattle.block_sim.proofs.PartsOfJobs.{whole, seen}
 use Rattle.block_sim.proofs.job.Job.word.Goals as goal
 

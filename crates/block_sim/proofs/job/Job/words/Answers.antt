@@ -1,8 +1,8 @@
 use Rattle.std.proofs.Common.{◌∙◌, ap, length, map, subst, sym}
 use Rattle.std.proofs.lemmas.List.{length-map}
-use Rattle.block_sim.specs.Arranged.{IsArranged}
-use Rattle.block_sim.specs.Job.{AreFaultFree}
-use Rattle.block_sim.specs.BlockSpans.{groups}
+use Rattle.flat_circuit.specs.Arranged.{IsArranged}
+use Rattle.flat_circuit.specs.GroupRows.{AreFaultFree}
+use Rattle.flat_circuit.specs.BlockSpans.{groups}
 use Rattle.block_sim.proofs.PartsOfJobs.{seen, whole}
 use Rattle.block_sim.proofs.job.Job.words.Goals as goal
 

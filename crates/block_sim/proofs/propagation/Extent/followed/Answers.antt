@@ -1,10 +1,9 @@
 use Rattle.std.proofs.Common.{sym, ◌∙◌, subst}
 use Rattle.std.proofs.lemmas.Bool.{false≢true}
 use Rattle.block_sim.specs.Propagation.{IsSettled}
-use Rattle.block_sim.specs.Words.{lane}
-use Rattle.block_sim.proofs.Lanes.{lane_and}
+use Rattle.flat_circuit.specs.Words.{lane}
+use Rattle.flat_circuit.proofs.Public.{lane_and, left_of}
 use Rattle.block_sim.proofs.SettledLanes.{and_none, out_of}
-use Rattle.block_sim.proofs.Steps.{left_of}
 use Rattle.block_sim.proofs.propagation.Extent.followed.Goals as goal
 
 pub returns-in-FirstHits-clause-within : goal.returns-in-FirstHits-clause-within

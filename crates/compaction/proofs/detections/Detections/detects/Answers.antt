@@ -1,5 +1,5 @@
 use Rattle.std.proofs.Common.{◌/◌, ◌%◌, ◌∙◌, ap, arith, get_or, length}
-use Rattle.block_sim.specs.Words.{lane}
+use Rattle.flat_circuit.specs.Words.{lane}
 use Rattle.compaction.proofs.DetectedClasses.{bit_here, block_here}
 use Rattle.compaction.proofs.detections.Detections.detects.Goals as goal
 

@@ -4,11 +4,12 @@ use Rattle.bench_net.specs.Scan.{names}
 use Rattle.fault_model.specs.Fault.{Fault}
 use Rattle.fault_model.specs.Reordered.{place}
 use Rattle.patterns.specs.Tests.{TestList}
-use Rattle.block_sim.specs.BlockSpans.{group_of}
+use Rattle.flat_circuit.specs.BlockSpans.{group_of}
 use Rattle.region_sim.specs.GroupLanes.{AreAmongLanes, AreApproaches, HasWholeGroup, HaveGroupLanes}
 use Rattle.block_sim.specs.Parts.{HasRoom}
-use Rattle.block_sim.specs.Regions.{IsStem, IsStemOfLine}
-use Rattle.block_sim.proofs.Public.{count_there, reordered, circuit_there, same_stems}
+use Rattle.flat_circuit.specs.Regions.{IsStem, IsStemOfLine}
+use Rattle.flat_circuit.proofs.Public.{count_there, reordered, circuit_there}
+use Rattle.block_sim.proofs.Public.{same_stems}
 use Rattle.region_sim.proofs.GroupLanes.{group_lanes}
 use Rattle.region_sim.proofs.RegionHits.{listed_at}
 use Rattle.region_sim.proofs.region_detection.RegionDetection.detect_region.Goals as goal

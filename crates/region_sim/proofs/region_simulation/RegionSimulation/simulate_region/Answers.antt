@@ -4,13 +4,14 @@ use Rattle.std.specs.Prelude.{Contains, None, Some, slice_get}
 use Rattle.std.proofs.lemmas.List.{length-map}
 use Rattle.fault_model.specs.Reordered.{place}
 use Rattle.patterns.specs.Tests.{TestList}
-use Rattle.block_sim.specs.BlockSpans.{begins_unit, span_of, unit_of}
+use Rattle.flat_circuit.specs.BlockSpans.{begins_unit, span_of, unit_of}
 use Rattle.region_sim.specs.Pack.{IsWithin}
 use Rattle.region_sim.specs.RegionHits.{AreGathered, HaveFirsts, IsFollowedAt, IsHiddenStem}
 use Rattle.region_sim.specs.RegionHits.{ServesRegions}
 use Rattle.region_sim.specs.Units.{unit_span}
 use Rattle.block_sim.specs.Ways.{HasActiveByFlip}
-use Rattle.block_sim.proofs.Public.{count_there, reordered, same_active}
+use Rattle.flat_circuit.proofs.Public.{count_there, reordered}
+use Rattle.block_sim.proofs.Public.{same_active}
 use Rattle.region_sim.proofs.KeptOutcomes.{room_at_rest}
 use Rattle.region_sim.proofs.KnownWords.{written}
 use Rattle.region_sim.proofs.PackedRegions.{all_slots, in_span}

@@ -2,7 +2,8 @@ use Rattle.std.proofs.Common.{◌≡◌, ◌+◌, ◌*◌, ◌/◌, ◌%◌, ap,
 use Rattle.std.specs.Prelude.{◌==◌}
 use Rattle.std.specs.Int.{trailing_zeros, w128}
 use Rattle.std.proofs.lemmas.Nat.Bits.{bit_at-trailing_zeros}
-use Rattle.block_sim.proofs.Public.{clear_before, hit_at, lane_of_zero}
+use Rattle.flat_circuit.proofs.Public.{lane_of_zero}
+use Rattle.block_sim.proofs.Public.{clear_before, hit_at}
 use Rattle.region_sim.proofs.KnownWays.{between_first}
 use Rattle.region_sim.proofs.simulation.Memo.of.Goals as goal
 

@@ -9,10 +9,11 @@ use Rattle.patterns.specs.Tests.{TestList}
 use Rattle.region_sim.specs.Simulation.{IsTrueMemo, Serves}
 use Rattle.region_sim.specs.declared.simulation.Memo.{Memo}
 use Rattle.region_sim.specs.declared.simulation.Memo.TheVariants.{Nothing}
-use Rattle.block_sim.specs.BlockSpans.{IsSpan, span_from}
+use Rattle.flat_circuit.specs.BlockSpans.{IsSpan, span_from}
 use Rattle.block_sim.specs.Ways.{HasActiveByFlip}
 use Rattle.region_sim.specs.KnownWays.{is_on, known_ways}
-use Rattle.block_sim.proofs.Public.{large_enough, one_class_stem}
+use Rattle.flat_circuit.proofs.Public.{one_class_stem}
+use Rattle.block_sim.proofs.Public.{large_enough}
 use Rattle.region_sim.proofs.KeptOutcomes.{arrived_first, memo_kept, room_at_rest}
 use Rattle.region_sim.proofs.KnownWays.{known_more, active_wider}
 use Rattle.region_sim.proofs.simulation.Simulation.outcome.Goals as goal

@@ -7,7 +7,7 @@ use Rattle.bench_net.specs.Scan.{names}
 use Rattle.bench_net.specs.Statement.{Name}
 use Rattle.fault_model.specs.Detection.{name_on}
 use Rattle.fault_model.specs.Fault.{faults}
-use Rattle.block_sim.specs.Origins.{Carries}
+use Rattle.flat_circuit.specs.Origins.{Carries}
 use Rattle.undetected.proofs.ActivatedAlike.{as_the_stem, bit_of, line_of}
 use Rattle.undetected.proofs.KnownReasons.{list_is}
 use Rattle.undetected.proofs.LinesInCircuit.{listed_named}

@@ -1,8 +1,0 @@
-use Rattle.std.proofs.Common.{◌≡◌, ◌<◌, ℕ, get_or, vec_items, vec_len}
-use Rattle.block_sim.proofs.fault_free.fn.share_groups.scope.Given as goal
-
--- each handle promises words of these tests
-abbrev pub invariant-loop-thread : goal.invariant-loop-thread
-invariant-loop-thread g l = (k : ℕ) (d : _) → k < vec_len l.handles
-    → ((get_or (vec_items l.handles) k d).promise.circuit.value ≡ l.circuit.now)
-    × ((get_or (vec_items l.handles) k d).promise.tests.value ≡ l.tests.now)

@@ -1,5 +1,0 @@
-use Rattle.block_sim.proofs.LiveSignals.{AreDead}
-use Rattle.block_sim.proofs.live.leads_on.Given as goal
-
-abbrev pub invariant-loop-sink : goal.invariant-loop-sink
-invariant-loop-sink l = AreDead l.circuit l.sink-items l.sink-index

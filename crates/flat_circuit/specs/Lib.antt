@@ -1,0 +1,14 @@
+pub mod Words
+pub mod BlockSpans
+pub mod Stuck
+pub mod GroupRows
+pub mod GateForms
+pub mod Flat
+pub mod Regions
+pub mod Reordered
+pub mod Arranged
+pub mod SignalOrder
+pub mod Origins
+pub mod SlotWords
+pub mod Classes
+pub mod Readers
