@@ -17,7 +17,6 @@ use Rattle.flat_circuit.specs.GateForms.{IsFormOf}
 use Rattle.flat_circuit.specs.Arranged.{ArePlaces, IsFlowOrder}
 use Rattle.flat_circuit.specs.Regions.{lone_reader}
 use Rattle.flat_circuit.specs.declared.flat.FlatRows.{FlatRows}
-use Rattle.flat_circuit.specs.Flat.{IsArrangedFlat}
 
 -- each reader is a live gate that reads the signal, and each such gate is in the list
 pub record AreReaders (c : List Statement) (s : ℕ) (readers : List ℕ) : Type 0 where

@@ -5,7 +5,8 @@ use Rattle.std.specs.Vec.Iter.{into_iter_items, into_iter_len}
 use Rattle.std.proofs.lemmas.List.{length-map, map-append}
 use Rattle.flat_circuit.specs.GroupRows.{AreOwnRows, AreRowsFrom}
 use Rattle.flat_circuit.proofs.Rows.{from_first, rows_append}
-use Rattle.flat_circuit.proofs.fault_free.join_rows.Goals.{then-first-len+in_ok-append, else-first-len}
+use Rattle.flat_circuit.proofs.fault_free.join_rows.Goals.{then-first-len+in_ok-append}
+use Rattle.flat_circuit.proofs.fault_free.join_rows.Goals.{else-first-len}
 use Rattle.flat_circuit.proofs.fault_free.join_rows.Goals as goal
 
 pub loop-part-preserved : goal.loop-part-preserved

@@ -3,7 +3,8 @@ use Rattle.std.proofs.lemmas.List.{get_or_default}
 use Rattle.std.proofs.lemmas.List.Elements.{All-append, All-push}
 use Rattle.bench_net.specs.Scan.{names}
 use Rattle.flat_circuit.proofs.LevelOrder.{order_within}
-use Rattle.flat_circuit.proofs.order_walk.starts_of.Goals.{then-is_marked+in_ok-push, else-is_marked}
+use Rattle.flat_circuit.proofs.order_walk.starts_of.Goals.{then-is_marked+in_ok-push}
+use Rattle.flat_circuit.proofs.order_walk.starts_of.Goals.{else-is_marked}
 use Rattle.flat_circuit.proofs.order_walk.starts_of.Goals as goal
 
 pub loop-place-preserved : goal.loop-place-preserved
