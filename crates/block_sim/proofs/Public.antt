@@ -1,10 +1,7 @@
--- Lemmas on outcomes, representatives and stems: there is a true table, each outcome is unique,
--- each test detects or doesn't, and each class has one stem. Lemmas on numbered things: the signals
--- of a level order, and the gates whose pins are sinks. Then those of a simulation's parts, by
--- topic. Proofs of the crates above cite only these.
+-- Lemmas on outcomes: there is a true table, each outcome is unique, and each test detects or
+-- doesn't. Then those of a simulation's parts, by topic. Proofs of the crates above cite only these.
 pub use Rattle.block_sim.proofs.LawOfTable.{least_is_first}
 pub use Rattle.block_sim.proofs.TrueTable.{one_outcome, true_table, which_detect}
--- ---- lists, bits and lanes of words
 -- ---- words and the solutions of a circuit
 pub use Rattle.block_sim.proofs.SignalEquations.{each_equation, equation_elsewhere, equation_same}
 pub use Rattle.block_sim.proofs.SignalEquations.{gate_named as gate_named_of_signal_equations}

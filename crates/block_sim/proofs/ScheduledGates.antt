@@ -1,5 +1,4 @@
--- A pass over the readers of a signal, after which they wait. A pass over its sinks, after which it
--- is known whether some sink is an observer.
+-- A pass over the readers of a signal, after which they wait.
 use Rattle.std.proofs.Common.{◌≡◌, ◌≢◌, ◌<◌, ◌≤◌, ℕ, ◌+◌, refl, sym, ◌∙◌, ap, subst}
 use Rattle.std.proofs.Common.{List, length, set, arith, inl, inr, ◌⊎◌}
 use Rattle.std.specs.Prelude.{Some, slice_get, slice_index_or}

@@ -7,7 +7,7 @@ use Rattle.block_sim.specs.Parts.{Parts}
 use Rattle.flat_circuit.specs.Regions.{IsStemOfClass}
 use Rattle.flat_circuit.specs.Origins.{IsRepresentativeIn}
 
--- the same for a class of a job
+-- the stuck-at fault belongs to the representative of a class of a job
 abbrev pub IsRepresentativeOf : Parts → ℕ → Stuck → Type 0
 IsRepresentativeOf job class stuck = IsRepresentativeIn job.list.model job.circuit class stuck
 

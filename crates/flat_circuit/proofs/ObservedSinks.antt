@@ -1,4 +1,4 @@
--- The sinks of a signal one by one: pins of gates, and observers.
+-- A pass over the sinks of a signal, after which it is known whether some sink is an observer.
 use Rattle.std.proofs.Common.{◌≡◌, ◌≢◌, ◌<◌, ◌≤◌, ℕ, ◌+◌, refl, sym, ◌∙◌, ap, subst, Bool, true}
 use Rattle.std.proofs.Common.{false, List, [], ◌∷◌, length, arith, inl, inr, ◌⊎◌}
 use Rattle.std.specs.Prelude.{Some, slice_get, slice_index_or, IsTrue, ◌↔◌}

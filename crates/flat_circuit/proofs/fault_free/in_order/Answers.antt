@@ -1,10 +1,9 @@
-use Rattle.std.proofs.Common.{◌<◌, ap, arith, get_or, Global, rules, subst, suc, sym, Vec}
+use Rattle.std.proofs.Common.{◌<◌, ap, arith, get_or, rules, subst, suc, sym}
 use Rattle.std.proofs.Common.{◌≡◌}
 use Rattle.std.specs.Prelude.{All}
 use Rattle.std.specs.Vec.Iter.{into_iter_items, into_iter_len}
 use Rattle.std.proofs.lemmas.List.Elements.{All-append}
 use Rattle.std.proofs.lemmas.List.Sorted.{All-permutation}
-use Rattle.flat_circuit.specs.declared.fault_free.GroupRows.{GroupRows}
 use Rattle.flat_circuit.specs.GroupRows.{AreOwnRows, HasRows}
 use Rattle.flat_circuit.proofs.fault_free.in_order.Goals as goal
 

@@ -1,4 +1,4 @@
-use Rattle.std.proofs.Common.{◌≡◌, ◌∙◌, ◌∷◌, ◌++◌, ◌+◌, [], ap, append_assoc}
+use Rattle.std.proofs.Common.{◌∙◌, ◌∷◌, ◌++◌, ◌+◌, [], ap, append_assoc}
 use Rattle.std.proofs.lemmas.List.{length_push}
 use Rattle.flat_circuit.proofs.Flats.{moved_more, read_at}
 use Rattle.flat_circuit.proofs.flat.push_moved.Goals as goal
