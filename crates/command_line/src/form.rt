@@ -11,13 +11,14 @@ use crate::status::CommandError;
 use crate::summary::{Request, read_request, version_and_proof};
 use crate::tally::{Found, Quiet, Tally};
 use crate::threshold::{Threshold, check_threshold, read_threshold};
+use analysis_reports::reasons_text_watched;
 use clap::ArgMatches;
 use command_basics::Source;
 use fault_model::Model;
 use part_files::part_text_watched;
 use report::{
     Contents, Lines, Out, ReasonCounts, RunCounts, SimFault, Split, Watch, curve_text_watched,
-    reasons_text_watched, simulate_text_watched,
+    simulate_text_watched,
 };
 use std::alloc::Global;
 use std::sync::Wait;

@@ -2,9 +2,10 @@
 
 use crate::command::read_option;
 use crate::status::CommandError;
+use analysis_reports::{pairs_text_in, responses_text_in};
 use clap::ArgMatches;
 use command_basics::Source;
-use report::{Out, pairs_text_in, responses_text_in};
+use report::Out;
 use std::alloc::Global;
 
 /// Runs `responses`. It reads both files before it checks either.

@@ -10,7 +10,6 @@ use Rattle.fault_model.specs.Fault.{Fault, faults}
 use Rattle.report.specs.declared.contents.Lines.{Lines}
 use Rattle.report.specs.Report.{line_text, defect_text, fault_text, coverage_of, first_text}
 use Rattle.report.specs.Report.{has_line, wanted_line, class_line}
-use Rattle.report.specs.Detected.{count_line}
 use Rattle.report.specs.declared.curve.CurvePoint.{CurvePoint}
 use Rattle.report.specs.Curve.{point_line}
 use Rattle.report.proofs.LinesOfFaults.{model_known}
@@ -47,17 +46,12 @@ pub has_no_line : (lines : Lines) (c : List Statement) (f : Fault) (first : Opti
     → has_line lines first ≡ false → wanted_line lines c (f, first) ≡ []
 has_no_line lines c f first has = rw has refl
 
--- the line of a fault with its class, and with the number of tests that detect it
+-- the line of a fault with its class
 pub is_class_line : (c : List Statement) (f : Fault) (class : ℕ) (said : List ℕ)
     → said ≡ decimal class
     → fault_text c f ++ (codes " " ++ codes "class " ++ said ++ codes "\n")
     ≡ class_line c (f, class)
 is_class_line c f class said is = rw is refl
-
-pub is_count_line : (c : List Statement) (f : Fault) (count : ℕ) (said : List ℕ)
-    → said ≡ decimal count
-    → fault_text c f ++ (codes " " ++ said ++ codes "\n") ≡ count_line c (f, count)
-is_count_line c f count said is = rw is refl
 
 -- a coverage line from its numbers, given as texts
 pub coverage_text : (found total : ℕ) (counted a b whole tens ones : List ℕ) → a ≡ decimal found

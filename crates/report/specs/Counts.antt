@@ -2,12 +2,8 @@
 use Rattle.std.specs.Prelude.{ℕ, List, Option, length}
 use Rattle.fault_model.specs.Collapse.{Collapsed}
 use Rattle.fault_model.specs.Solution.{Test}
-use Rattle.job_loading.specs.declared.watch.ReasonCounts.{ReasonCounts}
-use Rattle.undetected.specs.declared.Reason.{Reason}
-use Rattle.undetected.specs.declared.Reason.TheVariants.{NoPath, NotActivated, NotObserved}
 use Rattle.workers.specs.Verdict.{detected_count}
 use Rattle.report.specs.declared.counts.RunCounts.{RunCounts}
-use Rattle.report.specs.Reasons.{reason_count}
 use Rattle.report.specs.Report.{class_firsts}
 
 -- the number of tests, faults and classes, and of faults and classes that a test detects
@@ -18,12 +14,4 @@ counts_of tests classes firsts = record {
   detected = detected_count firsts;
   classes = length classes.representative;
   detected_classes = detected_count (class_firsts classes firsts);
-}
-
--- the number of faults for each reason
-abbrev pub reason_counts_of : List (Option Reason) → ReasonCounts
-reason_counts_of reasons = record {
-  no_path = reason_count NoPath reasons;
-  not_activated = reason_count NotActivated reasons;
-  not_observed = reason_count NotObserved reasons;
 }

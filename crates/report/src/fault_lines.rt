@@ -6,16 +6,14 @@ ghost use Rattle.byte_output.specs.Output.{Writes};
 ghost use Rattle.report.specs.Texts.{text_between};
 
 use crate::contents::Lines;
-use crate::reasoned::put_reason_lines;
 use crate::report::put_lines;
 use bench_net::Circuit;
 use byte_output::{Out, OutFailed};
 use fault_model::Faults;
-use undetected::Reason;
 use workers::Verdicts;
 
 /// Lines of the faults of a list.
-pub(crate) trait FaultLines {
+pub trait FaultLines {
     ghost use Rattle.std.specs.Prelude.{List, ℕ};
 
     /// The text of each fault: its line, or nothing.
@@ -65,31 +63,5 @@ impl FaultLines for FirstLines<'_> {
             end,
             out,
         )
-    }
-}
-
-/// The lines of the faults that have a reason.
-#[derive(Drop)]
-pub(crate) struct ReasonLines<'a> {
-    pub(crate) circuit: &'a Circuit,
-    pub(crate) list: &'a Faults,
-    pub(crate) reasons: &'a [Option<Reason>],
-    ghost listed: { list.now.list ≡ faults list.now.model circuit.now },
-    ghost counted: { length reasons.now ≡ length list.now.list },
-}
-
-impl FaultLines for ReasonLines<'_> {
-    ghost use Rattle.std.specs.Prelude.{map, zip};
-    ghost use Rattle.report.specs.Reasons.{reason_line};
-
-    ghost texts = { λ own. map (reason_line own.circuit.now)
-        (zip own.list.now.list own.reasons.now) };
-
-    fn count(&self) -> u32 {
-        self.list.count()
-    }
-
-    fn put<W: Out>(&self, start: u32, end: u32, out: &mut W) -> Result<(), OutFailed> {
-        put_reason_lines(self.circuit, self.list, self.reasons, start, end, out)
     }
 }

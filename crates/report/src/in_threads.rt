@@ -131,7 +131,7 @@ fn put_firsts_in_threads<R: Threads + Wait, W: Out>(
 /// Writes the lines of a fault list. At most as many threads as there are workers put the lines
 /// together, stretch by stretch, and the caller's thread is one of them. It also puts together the
 /// lines of a thread that doesn't start. If memory runs out, it writes lines one by one.
-pub(crate) fn put_in_threads<R: Threads + Wait, L: FaultLines + Sync, W: Out>(
+pub fn put_in_threads<R: Threads + Wait, L: FaultLines + Sync, W: Out>(
     rt: &R,
     alloc: Global,
     lines: &L,

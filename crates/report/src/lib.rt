@@ -5,57 +5,42 @@
 //! fault coverage, by workers in threads. [`schedule_text`] writes the same in one thread, which
 //! makes the moves of an order file. [`faults_text`] lists the faults with their classes. All write
 //! to an [`Out`], and their contracts define the bytes. The crate `part_files` writes part files,
-//! with lines by [`put_fault_line`] and [`put_coverage`].
+//! with lines by [`put_fault_line`] and [`put_coverage`], and the crate `analysis_reports` reports of
+//! counts and reasons.
 #![tactic(auto)]
 
-mod compacted;
 mod contents;
 mod counts;
 mod curve;
-mod detected;
 mod fault_lines;
-mod histogram;
 mod in_threads;
-mod launched;
 mod laws;
-mod reasoned;
 mod report;
-mod responses;
 mod run_identity;
 mod text;
 mod watched;
-mod whole;
 
 pub use byte_output::{Formatted, Out, OutFailed, Plain};
-pub use compacted::{KeptCount, KeptForm, KeptLayout, compact_text_in, compact_text_with};
-pub use compaction::TestOrder;
 pub use contents::{Contents, Lines};
 pub use counts::{RunCounts, count_run};
 pub use curve::{
     CurvePoint, curve_of, curve_text_in, curve_text_watched, write_curve, write_curve_of_run,
 };
-pub use detected::{counts_of, detections_text_in, detections_text_of_any_size, write_detections};
-pub use histogram::{histogram_of, histogram_text_in};
-pub use in_threads::write_report_in_threads;
+pub use fault_lines::FaultLines;
+pub use in_threads::{put_in_threads, write_report_in_threads};
 pub use job_loading::{
     ReasonCounts, ReportFault, SimFault, Split, Watch, job_of, job_of_in_threads,
 };
-pub use launched::pairs_text_in;
 pub use laws::class_firsts_are;
-pub use reasoned::{
-    reason_counts, reasons_text_watched, words_of, write_reasons, write_reasons_in_threads,
-};
 pub use report::{
     detected_classes, first_text, put_coverage, put_fault_line, write_fault, write_listing,
     write_report, write_report_with,
 };
-pub use responses::responses_text_in;
 pub use run_identity::{model_name, sum_of};
 pub use text::{
     faults_text, faults_text_in, listing_bytes, report_bytes, schedule_text, schedule_text_in,
     schedule_text_with, simulate_text, simulate_text_in, simulate_text_in_parts,
     simulate_text_with,
 };
-pub use undetected::Reason;
 pub use watched::{simulate_text_watched, write_report_of_run};
 pub use workers::{Gate, MAX_WORKERS, OpenGate, RunFault, Verdicts};

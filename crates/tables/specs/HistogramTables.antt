@@ -8,8 +8,8 @@ use Rattle.patterns.specs.Least.{below}
 use Rattle.patterns.specs.Tests.{HasTests, TestList}
 use Rattle.block_sim.specs.Parts.{Parts}
 use Rattle.n_detect.specs.Detections.{AreCounts}
-use Rattle.report.specs.Detected.{reached_count}
-use Rattle.report.specs.Histogram.{histogram}
+use Rattle.analysis_reports.specs.Detected.{reached_count}
+use Rattle.analysis_reports.specs.Histogram.{histogram}
 use Rattle.tables.specs.declared.table.Format.{Format}
 use Rattle.tables.specs.declared.table.Format.TheVariants.{Csv, Json}
 use Rattle.tables.specs.Tables.{coverage_object}

@@ -14,7 +14,7 @@ use Rattle.block_sim.specs.Parts.{Parts}
 use Rattle.workers.specs.Verdict.{AreFirsts, detected_count}
 use Rattle.undetected.specs.declared.Reason.{Reason}
 use Rattle.undetected.specs.Reasons.{AreReasons}
-use Rattle.report.specs.Reasons.{reason_text}
+use Rattle.analysis_reports.specs.Reasons.{reason_text}
 use Rattle.tables.specs.declared.table.Format.{Format}
 use Rattle.tables.specs.declared.table.Format.TheVariants.{Csv, Json}
 use Rattle.tables.specs.Rows.{RowCells, row_cells}

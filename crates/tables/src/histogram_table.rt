@@ -4,9 +4,9 @@
 ghost use Rattle.std.specs.Prelude.{◌≡◌, ◌<◌, ◌≤◌, ◌^◌, ◌++◌, ℕ, IfErr, IfOk, OnOk, length};
 ghost use Rattle.block_sim.specs.Parts.{BelongTogether};
 ghost use Rattle.job_loading.specs.Splits.{HasSomePart};
-ghost use Rattle.report.specs.Detected.{IsCountFault, reached_count};
+ghost use Rattle.analysis_reports.specs.Detected.{IsCountFault, reached_count};
 ghost use Rattle.report.specs.EndToEnd.{IsJobReportFault, WritesOneOf};
-ghost use Rattle.report.specs.Histogram.{IsCountedFault, histogram};
+ghost use Rattle.analysis_reports.specs.Histogram.{IsCountedFault, histogram};
 ghost use Rattle.tables.specs.HistogramTables.{IsHistogramTableOf, IsHistogramTableOfJob};
 ghost use Rattle.tables.specs.HistogramTables.{count_row, count_rows, counts_csv, counts_json};
 ghost use Rattle.tables.specs.HistogramTables.{csv_count, histogram_table, json_count};
@@ -14,11 +14,12 @@ ghost use Rattle.tables.specs.HistogramTables.{csv_count, histogram_table, json_
 use crate::curve_table::add_sums;
 use crate::json_table::{add_pieces, without_first};
 use crate::table::{Format, put_text};
+use analysis_reports::{counts_of, histogram_of};
 use block_sim::Job;
 use fault_model::Model;
 use itoa::Buffer;
 use job_loading::split_job_of;
-use report::{Out, RunFault, SimFault, Split, counts_of, histogram_of};
+use report::{Out, RunFault, SimFault, Split};
 use std::alloc::{AllocError, Global};
 use std::sync::Wait;
 use std::thread::Threads;
@@ -29,7 +30,7 @@ use std::thread::Threads;
 ///
 /// # Errors
 ///
-/// The errors of `report::histogram_text_in`.
+/// The errors of `analysis_reports::histogram_text_in`.
 ///
 /// # Examples
 ///

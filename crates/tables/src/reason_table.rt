@@ -4,7 +4,7 @@ ghost use Rattle.std.specs.Prelude.{◌≡◌, ◌<◌, ◌++◌, ◌∷◌, [],
 ghost use Rattle.std.specs.Prelude.{slice_get, zip};
 ghost use Rattle.csv.specs.Writing.{default_writer, row_text};
 ghost use Rattle.fault_model.specs.Fault.{faults};
-ghost use Rattle.report.specs.Reasons.{reason_text};
+ghost use Rattle.analysis_reports.specs.Reasons.{reason_text};
 ghost use Rattle.tables.specs.Reasons.{csv_reason, json_reason, reason_csv, reason_object};
 ghost use Rattle.tables.specs.Reasons.{reason_rows};
 ghost use Rattle.tables.specs.Records.{HasTaken};
@@ -14,11 +14,11 @@ use crate::csv_table::text_of;
 use crate::json_table::{add_pieces, quoted};
 use crate::number::number_text;
 use crate::row::{FaultRow, row_of};
+use analysis_reports::{Reason, words_of};
 use bench_net::Circuit;
 use csv::{Writer, WriterBuilder};
 use fault_model::Faults;
 use itoa::Buffer;
-use report::{Reason, words_of};
 use std::alloc::{AllocError, Global};
 
 /// Returns a header, and then a record for each fault that has a reason.

@@ -5,11 +5,11 @@ ghost use Rattle.std.specs.Prelude.{◌≤◌};
 use crate::memory::parts::{ORDER, is_want};
 use crate::memory::sweep::{Outcome, Trial, answered, refused};
 use crate::memory::written::{LISTING, REPORT};
+use analysis_reports::{compact_text_in, detections_text_in, responses_text_in};
 use fault_model::Model;
 use report::{
-    Contents, Lines, Out, OutFailed, RunFault, SimFault, compact_text_in, curve_text_in,
-    detections_text_in, faults_text, responses_text_in, schedule_text, simulate_text,
-    simulate_text_in_parts,
+    Contents, Lines, Out, OutFailed, RunFault, SimFault, curve_text_in, faults_text, schedule_text,
+    simulate_text, simulate_text_in_parts,
 };
 use std::alloc::Global;
 use std::sync::Wait;

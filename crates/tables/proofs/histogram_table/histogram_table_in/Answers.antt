@@ -1,8 +1,9 @@
 use Rattle.std.proofs.lemmas.Result.{err_from_is_err_and}
-use Rattle.report.specs.Detected.{IsCountFault}
+use Rattle.analysis_reports.specs.Detected.{IsCountFault}
 use Rattle.report.specs.EndToEnd.{IsJobReportFault}
-use Rattle.report.specs.Histogram.{IsCountedFault}
-use Rattle.report.proofs.Public.{counted_fault, counted_refused, refused_as}
+use Rattle.analysis_reports.specs.Histogram.{IsCountedFault}
+use Rattle.report.proofs.Public.{refused_as}
+use Rattle.analysis_reports.proofs.Public.{counted_fault, counted_refused}
 use Rattle.tables.specs.HistogramTables.{IsHistogramTableOf, IsHistogramTableOfJob}
 use Rattle.tables.proofs.HistogramPieces.{histogram_of_texts}
 use Rattle.tables.proofs.TablesOfTexts.{written_as}

@@ -2,8 +2,8 @@ use Rattle.std.proofs.Common.{ap, arith, length, refl}
 use Rattle.std.proofs.lemmas.Result.{err_from_is_err_and}
 use Rattle.bench_net.proofs.Public.{some_signal}
 use Rattle.fault_model.specs.Fault.{FaultList}
-use Rattle.report.specs.Detected.{reached_count}
-use Rattle.report.specs.Histogram.{histogram}
+use Rattle.analysis_reports.specs.Detected.{reached_count}
+use Rattle.analysis_reports.specs.Histogram.{histogram}
 use Rattle.tables.specs.HistogramTables.{histogram_table}
 use Rattle.tables.proofs.histogram_table.write_histogram.Goals as goal
 

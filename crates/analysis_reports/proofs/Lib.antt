@@ -1,0 +1,7 @@
+mod CompactedTexts
+mod ResponseTexts
+mod LaunchedPairs
+mod ReasonTexts
+mod CountedTexts
+mod HistogramTexts
+pub mod Public

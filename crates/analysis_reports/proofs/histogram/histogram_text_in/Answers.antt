@@ -1,0 +1,35 @@
+use Rattle.std.proofs.lemmas.Result.{err_from_is_err_and}
+use Rattle.analysis_reports.specs.Detected.{IsCountFault}
+use Rattle.report.specs.EndToEnd.{IsJobReportFault}
+use Rattle.analysis_reports.specs.Histogram.{IsCountedFault, IsHistogramReportOf}
+use Rattle.analysis_reports.specs.Histogram.{IsHistogramReportOfJob}
+use Rattle.analysis_reports.proofs.HistogramTexts.{counted_fault, counted_refused}
+use Rattle.analysis_reports.proofs.HistogramTexts.{histogram_of_texts}
+use Rattle.report.proofs.Public.{refused_as, written_as}
+use Rattle.analysis_reports.proofs.histogram.histogram_text_in.Goals as goal
+
+pub returns-in_err-job-clause-refused : goal.returns-in_err-job-clause-refused
+returns-in_err-job-clause-refused g c =
+    let p = err_from_is_err_and c.from_residual.result c.from_residual.ensures.1 in
+    rw (p.1, p.2) (counted_refused c.args.model c.args.bench.now c.args.tests.now c.args.split
+    c.args.workers _ c.in_err-job.ensures.refused)
+
+pub returns-clause-written : goal.returns-clause-written
+returns-clause-written g c =
+    let m = c.args.model in
+    let job = c.in_ok-job.job in
+    written_as (IsHistogramReportOfJob job c.args.most c.args.list)
+    (IsHistogramReportOf m c.args.bench.now c.args.tests.now c.args.most c.args.list)
+    c.report_histogram.result _ _
+    (histogram_of_texts m c.args.bench.now c.args.tests.now c.args.most c.args.list job
+    c.in_ok-job.ensures.job)
+    c.report_histogram.ensures.written
+
+pub returns-clause-refused : goal.returns-clause-refused
+returns-clause-refused g c =
+    refused_as (IsJobReportFault c.args.workers (IsCountFault c.args.workers))
+    (IsCountedFault c.args.model c.args.bench.now c.args.tests.now c.args.split c.args.workers)
+    c.report_histogram.result (counted_fault c.args.model c.args.bench.now c.args.tests.now
+    c.args.split c.in_ok-job._parts c.args.workers c.in_ok-job.job c.in_ok-job.ensures.job
+    c.in_ok-job.ensures.parts)
+    c.report_histogram.ensures.refused

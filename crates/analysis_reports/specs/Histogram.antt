@@ -1,0 +1,58 @@
+-- The number of faults that each number of tests detects.
+use Rattle.std.specs.Prelude.{◌≡◌, ◌+◌, ◌==◌, ℕ, Bool, List, ◌++◌, codes, count_by, decimal}
+use Rattle.std.specs.Prelude.{flat_map, if◌then◌else◌, length, map, zip}
+use Rattle.bench_net.specs.Statement.{Statement}
+use Rattle.bench_net.specs.Refusal.{IsAccepted}
+use Rattle.bench_net.specs.Scan.{sources}
+use Rattle.fault_model.specs.declared.Model.{Model}
+use Rattle.patterns.specs.Least.{below}
+use Rattle.patterns.specs.Tests.{TestList, HasTests}
+use Rattle.block_sim.specs.Parts.{Parts}
+use Rattle.n_detect.specs.Detections.{AreCounts}
+use Rattle.job_loading.specs.declared.fault.SimFault.{SimFault}
+use Rattle.job_loading.specs.declared.split.Split.{Split}
+use Rattle.job_loading.specs.declared.split.Split.TheVariants as split
+use Rattle.analysis_reports.specs.Detected.{IsCountFault, detection_report}
+use Rattle.report.specs.EndToEnd.{IsReportFault, IsTextFault}
+
+-- 1 if this count is n, else 0; and the number of faults with the count n
+abbrev pub one_with : ℕ → ℕ → ℕ
+one_with n count = if count == n then 1 else 0
+
+abbrev pub faults_with : List ℕ → ℕ → ℕ
+faults_with counts n = count_by (λ count. count == n) counts
+
+-- the number of faults for each count from 0 to the greatest
+abbrev pub histogram : ℕ → List ℕ → List ℕ
+histogram most counts = map (faults_with counts) (below (most + 1))
+
+-- a line, `COUNT FAULTS`, and the lines of all counts from 0 on
+abbrev pub histogram_line : ℕ × ℕ → List ℕ
+histogram_line at = decimal at.0 ++ codes " " ++ decimal at.1 ++ codes "\n"
+
+abbrev pub histogram_text : List ℕ → List ℕ
+histogram_text faults = flat_map histogram_line (zip (below (length faults)) faults)
+
+-- the bytes are the report of the counts and their histogram, for a bench file and a test file
+-- under a model
+abbrev pub IsHistogramReportOf : Model → List ℕ → List ℕ → ℕ → Bool → List ℕ → Type 0
+IsHistogramReportOf m bench text most list bytes = (c : List Statement) × (tests : TestList)
+    × (counts : List ℕ) × IsAccepted bench c
+    × HasTests text (length (sources c)) tests × AreCounts m c tests.tests most counts
+    × (bytes ≡ detection_report m c most counts list ++ histogram_text (histogram most counts))
+
+-- the same for a job
+abbrev pub IsHistogramReportOfJob : Parts → ℕ → Bool → List ℕ → Type 0
+IsHistogramReportOfJob job most list bytes = (counts : List ℕ)
+    × AreCounts job.list.model job.circuit job.tests.tests most counts
+    × (bytes ≡ detection_report job.list.model job.circuit most counts list
+    ++ histogram_text (histogram most counts))
+
+-- The condition of each error: as for a run, if it is run whole; and else never the number of
+-- pieces.
+abbrev pub IsCountedFault : Model → List ℕ → List ℕ → Split → ℕ → SimFault → Type 0
+IsCountedFault m bench text split.Whole workers f = IsReportFault m bench text workers f
+IsCountedFault m bench text (split.Parts count) workers f =
+    IsTextFault m bench text workers (λ job. IsCountFault workers) f
+IsCountedFault m bench text split.Fitting workers f =
+    IsTextFault m bench text workers (λ job. IsCountFault workers) f

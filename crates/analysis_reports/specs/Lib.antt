@@ -1,0 +1,6 @@
+pub mod Histogram
+pub mod Detected
+pub mod Compacted
+pub mod Responses
+pub mod Pairs
+pub mod Reasons

@@ -1,0 +1,205 @@
+//! The number of tests that detect each fault, from the bytes of files to the bytes of a report.
+
+ghost use Rattle.std.specs.Prelude.{◌≡◌, ◌<◌, ◌≤◌, ◌^◌, ◌++◌, IfErr, IfOk, OnOk, Some, length};
+ghost use Rattle.std.specs.Prelude.{slice_get, zip};
+ghost use Rattle.std.specs.List.{flat_map};
+ghost use Rattle.fault_model.specs.Fault.{faults};
+ghost use Rattle.block_sim.specs.Parts.{BelongTogether};
+ghost use Rattle.n_detect.specs.Detections.{AreCounts};
+ghost use Rattle.byte_output.specs.Output.{Writes};
+ghost use Rattle.analysis_reports.specs.Detected.{IsCountFault, IsDetectionReportOf};
+ghost use Rattle.analysis_reports.specs.Detected.{IsDetectionReportOfJob};
+ghost use Rattle.analysis_reports.specs.Detected.{count_line, detection_report, reached_count};
+ghost use Rattle.report.specs.EndToEnd.{IsJobReportFault, IsReportFault, IsTextFault, WritesOneOf};
+
+use bench_net::Circuit;
+use block_sim::Job;
+use byte_output::{Out, OutFailed};
+use fault_model::{Faults, Model};
+use itoa::Buffer;
+use job_loading::{ReportFault, SimFault, job_of_any_size_in_threads, job_of_in_threads};
+use n_detect::{CountFault, detections};
+use report::{put_coverage, put_fault_line};
+use std::alloc::Global;
+use std::sync::Wait;
+use std::thread::Threads;
+use workers::{MAX_WORKERS, RunFault};
+
+/// Reads a circuit and tests for it, and writes how many tests detect each fault of a model. With
+/// `list` it writes a line for each fault. Then it writes how many faults at least `most` tests
+/// detect. The count of a fault ends at `most`.
+///
+/// It fails as [`report::simulate_text_in`] does, in the same order.
+///
+/// # Examples
+///
+/// `z = AND(a, b)` with the tests `00`, `01`, `10` and `11`, a `most` of 3 and `list` gives
+///
+/// ```text
+/// stem a sa0 1
+/// stem a sa1 1
+/// stem b sa0 1
+/// stem b sa1 1
+/// stem z sa0 1
+/// stem z sa1 3
+/// 1 of 6 (16.66%)
+/// ```
+pub fn detections_text_in<R: Threads + Wait, W: Out>(
+    rt: &R,
+    alloc: Global,
+    model: Model,
+    bench: &[u8],
+    tests: &[u8],
+    most: u32,
+    workers: u32,
+    list: bool,
+    out: &mut W,
+) -> Result<(), SimFault>
+    ensures written { WritesOneOf (IsDetectionReportOf model bench.now tests.now most list) result
+        (W.seen out.old) (W.seen out.new) }
+    ensures refused { IfErr result (IsReportFault model bench.now tests.now workers) }
+    ensures workers { OnOk result ((0 < workers) × (workers ≤ 64)) }
+{
+    let job = job_of_in_threads(rt, alloc, model, bench, tests, workers)?;
+    report_counts(rt, alloc, &job, most, workers, list, out)
+}
+
+/// Reads a circuit and tests for it, and writes the report that [`detections_text_in`] writes, with
+/// the same bytes, for any number of pieces. It keeps nothing for a piece, so there is no limit.
+///
+/// It fails as [`detections_text_in`] does, except for the number of pieces.
+pub fn detections_text_of_any_size<R: Threads + Wait, W: Out>(
+    rt: &R,
+    alloc: Global,
+    model: Model,
+    bench: &[u8],
+    tests: &[u8],
+    most: u32,
+    workers: u32,
+    list: bool,
+    out: &mut W,
+) -> Result<(), SimFault>
+    ensures written { WritesOneOf (IsDetectionReportOf model bench.now tests.now most list) result
+        (W.seen out.old) (W.seen out.new) }
+    ensures refused { IfErr result (IsTextFault model bench.now tests.now workers
+        (λ job. IsCountFault workers)) }
+    ensures workers { OnOk result ((0 < workers) × (workers ≤ 64)) }
+{
+    let job = job_of_any_size_in_threads(rt, alloc, model, bench, tests, workers)?;
+    report_counts(rt, alloc, &job, most, workers, list, out)
+}
+
+/// Counts for a job, and writes the report.
+fn report_counts<R: Threads + Wait, W: Out>(
+    rt: &R,
+    alloc: Global,
+    job: &Job,
+    most: u32,
+    workers: u32,
+    list: bool,
+    out: &mut W,
+) -> Result<(), SimFault>
+    requires job { BelongTogether job.now }
+    ensures written { WritesOneOf (IsDetectionReportOfJob job.now most list) result
+        (W.seen out.old) (W.seen out.new) }
+    ensures refused { IfErr result (IsJobReportFault workers (IsCountFault workers)) }
+    ensures workers { OnOk result ((0 < workers) × (workers ≤ 64)) }
+{
+    let counts = counts_of(rt, alloc, job, most, workers)?;
+    write_detections(job, counts.as_slice(), most, list, out)?;
+    Ok(())
+}
+
+/// Returns for each fault of a job how many tests detect it, counted up to `most`, by workers in
+/// threads of their own.
+///
+/// # Errors
+///
+/// [`RunFault::NoWorkers`] or [`RunFault::TooManyWorkers`] if the number of workers is not one of a
+/// run; and the errors of memory and threads.
+pub fn counts_of<R: Threads + Wait>(
+    rt: &R,
+    alloc: Global,
+    job: &Job,
+    most: u32,
+    workers: u32,
+) -> Result<Vec<u32>, RunFault>
+    ensures counts { IfOk result (λ counts. AreCounts job.now.list.model job.now.circuit
+        job.now.tests.tests most counts.items) }
+    ensures refused { IfErr result (IsCountFault workers) }
+    ensures workers { OnOk result ((0 < workers) × (workers ≤ 64)) }
+{
+    match workers {
+        0 => Err(RunFault::NoWorkers),
+        1..=MAX_WORKERS => match detections(rt, alloc, job, most, workers) {
+            Ok(counts) => Ok(counts),
+            Err(CountFault::Memory) => Err(RunFault::Memory),
+            Err(CountFault::Threads) => Err(RunFault::Threads),
+        },
+        _ => Err(RunFault::TooManyWorkers),
+    }
+}
+
+/// Writes the report of how many tests detect each fault of a job. With `listed` it writes a line
+/// for each fault. Then it writes how many faults at least `most` tests detect. It takes no memory.
+pub fn write_detections<W: Out>(
+    job: &Job,
+    counts: &[u32],
+    most: u32,
+    listed: bool,
+    out: &mut W,
+) -> Result<(), ReportFault>
+    requires count { length counts.now ≡ length job.now.list.list }
+    ensures { Writes result (W.seen out.old) (W.seen out.new)
+        (detection_report job.now.list.model job.now.circuit most counts.now listed) }
+{
+    let circuit = job.circuit();
+    let signals = circuit.signals();
+    prove!(signals > 0);
+    let list = job.faults();
+    let found = count_reached(list, counts, most);
+    if !listed {
+        return Ok(put_coverage(found, list.count(), "", out)?);
+    }
+    put_lines(circuit, list, counts, out)?;
+    put_coverage(found, list.count(), "", out)?;
+    Ok(())
+}
+
+/// Returns how many faults of a list at least this number of tests detect.
+fn count_reached(list: &Faults, counts: &[u32], most: u32) -> u32
+    requires count { length counts.now ≡ length list.now.list }
+    ensures { result ≡ reached_count most counts.now }
+{
+    let _all = list.count();
+    counts.iter().filter(|count| most <= **count).count() as u32
+}
+
+/// Writes a line for each fault: the fault, and the number of tests that detect it.
+fn put_lines<W: Out>(
+    circuit: &Circuit,
+    list: &Faults,
+    counts: &[u32],
+    out: &mut W,
+) -> Result<(), OutFailed>
+    requires list { list.now.list ≡ faults list.now.model circuit.now }
+    requires count { length counts.now ≡ length list.now.list }
+    ensures { Writes result (W.seen out.old) (W.seen out.new)
+        (flat_map (count_line circuit.now)
+        (zip (faults list.now.model circuit.now) counts.now)) }
+{
+    for fault in 0..list.count() {
+        let mut number = Buffer::new();
+        let count = number.format(count_at(counts, fault));
+        put_fault_line(circuit, list, fault, "", count, out)?;
+    }
+    Ok(())
+}
+
+/// Returns the count of a fault.
+fn count_at(counts: &[u32], fault: u32) -> u32
+    requires { fault < length counts.now }
+    ensures { slice_get counts.now fault ≡ Some result }
+{
+    counts[fault as usize]
+}

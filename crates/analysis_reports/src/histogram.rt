@@ -1,0 +1,157 @@
+//! The histogram of detections: how many faults each number of tests detects.
+
+ghost use Rattle.std.specs.Prelude.{◌≡◌, ◌+◌, ◌-◌, ◌<◌, ◌≤◌, ◌^◌, ◌++◌, ℕ, IfErr, IfOk, OnOk};
+ghost use Rattle.std.specs.Prelude.{get_or, length, map, zip};
+ghost use Rattle.std.specs.List.{flat_map};
+ghost use Rattle.block_sim.specs.Parts.{BelongTogether};
+ghost use Rattle.job_loading.specs.Splits.{HasSomePart};
+ghost use Rattle.byte_output.specs.Output.{Writes};
+ghost use Rattle.patterns.specs.Least.{below};
+ghost use Rattle.analysis_reports.specs.Detected.{IsCountFault, detection_report};
+ghost use Rattle.report.specs.EndToEnd.{IsJobReportFault, WritesOneOf};
+ghost use Rattle.analysis_reports.specs.Histogram.{IsCountedFault, IsHistogramReportOf};
+ghost use Rattle.analysis_reports.specs.Histogram.{IsHistogramReportOfJob, faults_with, histogram};
+ghost use Rattle.analysis_reports.specs.Histogram.{histogram_line, histogram_text, one_with};
+
+use crate::detected::{counts_of, write_detections};
+use block_sim::Job;
+use byte_output::{Out, OutFailed, put_pieces};
+use fault_model::Model;
+use itoa::Buffer;
+use job_loading::{ReportFault, SimFault, Split, split_job_of};
+use std::alloc::{AllocError, Global};
+use std::sync::Wait;
+use std::thread::Threads;
+use workers::RunFault;
+
+/// Reads a circuit and tests for it, and writes how many tests detect each fault of a model, as
+/// [`crate::detections_text_in`] does, and then the histogram. The histogram has a line `COUNT
+/// FAULTS` for each count from 0 to `most`, with the number of faults that this many tests detect.
+/// The last line counts the faults that at least `most` tests detect.
+///
+/// It fails as [`crate::detections_text_in`] does with [`Split::Whole`], and else as
+/// [`crate::detections_text_of_any_size`] does.
+///
+/// # Examples
+///
+/// `z = AND(a, b)` with the tests `00`, `01`, `10` and `11` and a `most` of 3 gives, without a line
+/// for each fault,
+///
+/// ```text
+/// 1 of 6 (16.66%)
+/// 0 0
+/// 1 5
+/// 2 0
+/// 3 1
+/// ```
+pub fn histogram_text_in<R: Threads + Wait, W: Out>(
+    rt: &R,
+    alloc: Global,
+    model: Model,
+    bench: &[u8],
+    tests: &[u8],
+    split: Split,
+    most: u32,
+    workers: u32,
+    list: bool,
+    out: &mut W,
+) -> Result<(), SimFault>
+    requires { HasSomePart split }
+    ensures written { WritesOneOf (IsHistogramReportOf model bench.now tests.now most list) result
+        (W.seen out.old) (W.seen out.new) }
+    ensures refused { IfErr result (IsCountedFault model bench.now tests.now split workers) }
+    ensures workers { OnOk result ((0 < workers) × (workers ≤ 64)) }
+{
+    let (job, _parts) = split_job_of(rt, alloc, model, bench, tests, split, workers)?;
+    report_histogram(rt, alloc, &job, most, workers, list, out)
+}
+
+/// Counts for a job, and writes the report and the histogram.
+fn report_histogram<R: Threads + Wait, W: Out>(
+    rt: &R,
+    alloc: Global,
+    job: &Job,
+    most: u32,
+    workers: u32,
+    list: bool,
+    out: &mut W,
+) -> Result<(), SimFault>
+    requires job { BelongTogether job.now }
+    ensures written { WritesOneOf (IsHistogramReportOfJob job.now most list) result
+        (W.seen out.old) (W.seen out.new) }
+    ensures refused { IfErr result (IsJobReportFault workers (IsCountFault workers)) }
+    ensures workers { OnOk result ((0 < workers) × (workers ≤ 64)) }
+{
+    let counts = counts_of(rt, alloc, job, most, workers)?;
+    let _faults = job.faults().count();
+    let Ok(faults) = histogram_of(alloc, &counts, most) else {
+        return Err(SimFault::Run(RunFault::Memory));
+    };
+    write_both(job, &counts, &faults, most, list, out)?;
+    Ok(())
+}
+
+/// Writes the report of the counts of a job, and their histogram.
+fn write_both<W: Out>(
+    job: &Job,
+    counts: &[u32],
+    faults: &[u32],
+    most: u32,
+    list: bool,
+    out: &mut W,
+) -> Result<(), ReportFault>
+    requires { length counts.now ≡ length job.now.list.list }
+    ensures { Writes result (W.seen out.old) (W.seen out.new)
+        (detection_report job.now.list.model job.now.circuit most counts.now list
+        ++ histogram_text faults.now) }
+{
+    write_detections(job, counts, most, list, out)?;
+    put_histogram(faults, out)?;
+    Ok(())
+}
+
+/// Returns how many faults have each count of tests that detect them, from 0 to `most`, if no count
+/// is above `most`. It takes 4 bytes for each.
+pub fn histogram_of(alloc: Global, counts: &[u32], most: u32) -> Result<Vec<u32>, AllocError>
+    requires { length counts.now < 2 ^ 32 }
+    ensures { IfOk result (λ faults. faults.items ≡ histogram most counts.now) }
+{
+    let mut faults = vec![in alloc; 0u32; most as usize + 1]?;
+    for count in counts {
+        add_one(&mut faults, *count);
+    }
+    Ok(faults)
+}
+
+/// Counts a fault with `count` detections.
+fn add_one(faults: &mut [u32], count: u32)
+    requires { (n : ℕ) → n < length faults.old → get_or faults.old n 0 < 2 ^ 32 - 1 }
+    ensures count { length faults.new ≡ length faults.old }
+    ensures each { (n : ℕ) → n < length faults.old
+        → get_or faults.new n 0 ≡ get_or faults.old n 0 + one_with n count }
+{
+    let place = count as usize;
+    if place < faults.len() {
+        faults[place] += 1;
+    }
+}
+
+/// Writes a line for each count.
+fn put_histogram<W: Out>(faults: &[u32], out: &mut W) -> Result<(), OutFailed>
+    ensures { Writes result (W.seen out.old) (W.seen out.new) (histogram_text faults.now) }
+{
+    for count in 0..faults.len() {
+        put_count(count, faults[count], out)?;
+    }
+    Ok(())
+}
+
+/// Writes the line of a count.
+fn put_count<W: Out>(count: usize, faults: u32, out: &mut W) -> Result<(), OutFailed>
+    ensures { Writes result (W.seen out.old) (W.seen out.new) (histogram_line (count, faults)) }
+{
+    let mut detections = Buffer::new();
+    let mut number = Buffer::new();
+    let pieces = [detections.format(count), " ", number.format(faults), "\n"];
+    put_pieces(&pieces, out)
+}

@@ -1,0 +1,305 @@
+//! The report of the undetected faults with their reasons.
+
+ghost use Rattle.std.specs.Prelude.{◌≡◌, ◌<◌, ◌≤◌, IfErr, OnOk, Some};
+ghost use Rattle.std.specs.Prelude.{count_by, length, slice_get, zip};
+ghost use Rattle.std.specs.List.{flat_map};
+ghost use Rattle.fault_model.specs.Fault.{faults};
+ghost use Rattle.block_sim.specs.Parts.{BelongTogether};
+ghost use Rattle.job_loading.specs.Splits.{HasSomePart};
+ghost use Rattle.byte_output.specs.Output.{Writes};
+ghost use Rattle.region_runs.specs.Refused.{ArePartsWithin, IsPartsFault};
+ghost use Rattle.analysis_reports.specs.Reasons.{reason_counts_of};
+ghost use Rattle.report.specs.EndToEnd.{IsJobTextFault, IsWatchedFault, IsWithin, WritesOneOf};
+ghost use Rattle.analysis_reports.specs.Reasons.{IsReasonReportOf, IsReasonReportOfJob, has_reason};
+ghost use Rattle.analysis_reports.specs.Reasons.{reason_line, reason_report, reason_text};
+ghost use Rattle.analysis_reports.specs.Reasons.{reason_totals};
+ghost use Rattle.analysis_reports.specs.Reasons.{reasons_between, reasons_line};
+
+use crate::reason_lines::ReasonLines;
+use bench_net::Circuit;
+use block_sim::Job;
+use byte_output::{Out, OutFailed, put_pieces};
+use fault_model::{Faults, Model};
+use itoa::Buffer;
+use job_loading::{ReasonCounts, ReportFault, SimFault, Split, Watch, run_watched, split_job_of};
+use report::{Contents, Lines, put_fault_line, put_in_threads, write_report_with};
+use std::alloc::Global;
+use std::sync::Wait;
+use std::thread::Threads;
+use undetected::{Reason, reasons};
+use workers::Verdicts;
+
+/// Reads a circuit and tests for it, and writes the report of the faults that no test detects, each
+/// with the reason why none does. The report has a line for each of these faults, and then the
+/// coverage line. With `classes` the coverage of the classes follows. Last comes the number of
+/// faults for each reason.
+///
+/// The gate and the split are as in [`report::simulate_text_watched`], and it fails as that
+/// function does.
+///
+/// # Examples
+///
+/// `z = AND(a, b)` with the tests `00`, `01` and `10` gives
+///
+/// ```text
+/// stem a sa0 none not observed
+/// stem b sa0 none not observed
+/// stem z sa0 none not activated
+/// 3 of 6 (50.00%)
+/// 0 no path, 1 not activated, 2 not observed
+/// ```
+pub fn reasons_text_watched<R: Threads + Wait, G: Watch + Sync, W: Out>(
+    rt: &R,
+    alloc: Global,
+    model: Model,
+    bench: &[u8],
+    tests: &[u8],
+    split: Split,
+    workers: u32,
+    classes: bool,
+    gate: &G,
+    out: &mut W,
+) -> Result<(), SimFault>
+    requires { HasSomePart split }
+    ensures written { WritesOneOf (IsReasonReportOf model bench.now tests.now classes) result
+        (W.seen out.old) (W.seen out.new) }
+    ensures refused { IfErr result (IsWatchedFault model bench.now tests.now split workers
+        (G.passing gate.now) (G.stops gate.now)) }
+    ensures workers { OnOk result ((0 < workers) × (workers ≤ 64)) }
+    ensures within { OnOk result (IsWithin model bench.now tests.now split) }
+{
+    let (job, parts) = split_job_of(rt, alloc, model, bench, tests, split, workers)?;
+    report_reasons(rt, alloc, &job, parts, workers, classes, gate, out)
+}
+
+/// Runs a job in parts by workers in threads of their own, and writes the report.
+fn report_reasons<R: Threads + Wait, G: Watch + Sync, W: Out>(
+    rt: &R,
+    alloc: Global,
+    job: &Job,
+    parts: u32,
+    workers: u32,
+    classes: bool,
+    gate: &G,
+    out: &mut W,
+) -> Result<(), SimFault>
+    requires job { BelongTogether job.now }
+    requires parts { 0 < parts }
+    ensures written { WritesOneOf (IsReasonReportOfJob job.now classes) result
+        (W.seen out.old) (W.seen out.new) }
+    ensures refused { IfErr result (IsJobTextFault workers
+        (IsPartsFault job.now parts workers (G.passing gate.now) (G.stops gate.now))) }
+    ensures workers { OnOk result ((0 < workers) × (workers ≤ 64)) }
+    ensures within { OnOk result (ArePartsWithin job.now parts) }
+{
+    let verdicts = run_watched(rt, alloc, job, parts, workers, gate)?;
+    let reasons = reasons(alloc, job, &verdicts)?;
+    gate.explains(reason_counts(&reasons));
+    write_reasons_in_threads(
+        rt,
+        alloc,
+        job,
+        &verdicts,
+        reasons.as_slice(),
+        classes,
+        workers,
+        out,
+    )?;
+    Ok(())
+}
+
+/// Writes the report of the undetected faults of a job with their reasons, as
+/// [`undetected::reasons`] returns them. The report has a line for each, and then the coverage
+/// line. With `classes` the coverage of the classes follows. Last comes the number of faults for
+/// each reason. It takes no memory.
+///
+/// # Errors
+///
+/// [`ReportFault::Write`] if the output fails. The output has a beginning of the report.
+pub fn write_reasons<W: Out>(
+    job: &Job,
+    verdicts: &Verdicts,
+    reasons: &[Option<Reason>],
+    classes: bool,
+    out: &mut W,
+) -> Result<(), ReportFault>
+    requires verdicts { length verdicts.now.firsts ≡ length job.now.list.list }
+    requires reasons { length reasons.now ≡ length job.now.list.list }
+    ensures { Writes result (W.seen out.old) (W.seen out.new)
+        (reason_report job.now.list.model job.now.circuit job.now.classes verdicts.now.firsts
+        reasons.now classes) }
+{
+    put_reasons(job.circuit(), job.faults(), reasons, out)?;
+    write_totals(job, verdicts, reasons, classes, out)
+}
+
+/// Writes the report of the undetected faults of a job with their reasons, with the same bytes as
+/// [`write_reasons`]. At most as many threads as there are workers put the lines together, as in
+/// [`report::write_report_in_threads`].
+///
+/// # Errors
+///
+/// [`ReportFault::Write`] if the output takes nothing more. It has a beginning of the report.
+pub fn write_reasons_in_threads<R: Threads + Wait, W: Out>(
+    rt: &R,
+    alloc: Global,
+    job: &Job,
+    verdicts: &Verdicts,
+    reasons: &[Option<Reason>],
+    classes: bool,
+    workers: u32,
+    out: &mut W,
+) -> Result<(), ReportFault>
+    requires verdicts { length verdicts.now.firsts ≡ length job.now.list.list }
+    requires reasons { length reasons.now ≡ length job.now.list.list }
+    ensures { Writes result (W.seen out.old) (W.seen out.new)
+        (reason_report job.now.list.model job.now.circuit job.now.classes verdicts.now.firsts
+        reasons.now classes) }
+{
+    let (circuit, list) = (job.circuit(), job.faults());
+    put_reasons_in_threads(rt, alloc, circuit, list, reasons, workers, out)?;
+    write_totals(job, verdicts, reasons, classes, out)
+}
+
+/// Writes the report without lines of faults, and then the number of faults for each reason.
+fn write_totals<W: Out>(
+    job: &Job,
+    verdicts: &Verdicts,
+    reasons: &[Option<Reason>],
+    classes: bool,
+    out: &mut W,
+) -> Result<(), ReportFault>
+    requires { length verdicts.now.firsts ≡ length job.now.list.list }
+    ensures { Writes result (W.seen out.old) (W.seen out.new)
+        (reason_totals job.now.list.model job.now.circuit job.now.classes verdicts.now.firsts
+        reasons.now classes) }
+{
+    let contents = Contents {
+        lines: Lines::Omitted,
+        classes,
+    };
+    write_report_with(job, verdicts, contents, out)?;
+    put_reason_counts(reasons, out)?;
+    Ok(())
+}
+
+/// Writes a line for each fault that has a reason, by [`put_in_threads`].
+fn put_reasons_in_threads<R: Threads + Wait, W: Out>(
+    rt: &R,
+    alloc: Global,
+    circuit: &Circuit,
+    list: &Faults,
+    reasons: &[Option<Reason>],
+    workers: u32,
+    out: &mut W,
+) -> Result<(), OutFailed>
+    requires list { list.now.list ≡ faults list.now.model circuit.now }
+    requires count { length reasons.now ≡ length list.now.list }
+    ensures { Writes result (W.seen out.old) (W.seen out.new)
+        (flat_map (reason_line circuit.now)
+        (zip (faults list.now.model circuit.now) reasons.now)) }
+{
+    let lines = ReasonLines {
+        circuit,
+        list,
+        reasons,
+    };
+    put_in_threads(rt, alloc, &lines, workers, out)
+}
+
+/// Writes a line for each fault that has a reason.
+fn put_reasons<W: Out>(
+    circuit: &Circuit,
+    list: &Faults,
+    reasons: &[Option<Reason>],
+    out: &mut W,
+) -> Result<(), OutFailed>
+    requires list { list.now.list ≡ faults list.now.model circuit.now }
+    requires count { length reasons.now ≡ length list.now.list }
+    ensures { Writes result (W.seen out.old) (W.seen out.new)
+        (flat_map (reason_line circuit.now)
+        (zip (faults list.now.model circuit.now) reasons.now)) }
+{
+    put_reason_lines(circuit, list, reasons, 0, list.count(), out)
+}
+
+/// Writes a line for each fault of a stretch of the list that has a reason. The stretch has the
+/// faults from one number up to another.
+pub(crate) fn put_reason_lines<W: Out>(
+    circuit: &Circuit,
+    list: &Faults,
+    reasons: &[Option<Reason>],
+    start: u32,
+    end: u32,
+    out: &mut W,
+) -> Result<(), OutFailed>
+    requires list { list.now.list ≡ faults list.now.model circuit.now }
+    requires count { length reasons.now ≡ length list.now.list }
+    requires order { start ≤ end }
+    requires within { end ≤ length list.now.list }
+    ensures { Writes result (W.seen out.old) (W.seen out.new)
+        (reasons_between circuit.now list.now.list reasons.now start end) }
+{
+    for fault in start..end {
+        let Some(reason) = reason_at(reasons, fault) else {
+            continue;
+        };
+        put_fault_line(circuit, list, fault, "none ", words_of(reason), out)?;
+    }
+    Ok(())
+}
+
+/// Returns the reason of the fault of a number.
+fn reason_at(reasons: &[Option<Reason>], fault: u32) -> Option<Reason>
+    requires { fault < length reasons.now }
+    ensures { slice_get reasons.now fault ≡ Some result }
+{
+    reasons[fault as usize]
+}
+
+/// Returns the words of a reason.
+pub fn words_of(reason: Reason) -> &'static str
+    ensures { result.now ≡ reason_text reason }
+{
+    match reason {
+        Reason::NoPath => "no path",
+        Reason::NotActivated => "not activated",
+        Reason::NotObserved => "not observed",
+    }
+}
+
+/// Writes the number of faults for each reason.
+fn put_reason_counts<W: Out>(reasons: &[Option<Reason>], out: &mut W) -> Result<(), OutFailed>
+    ensures { Writes result (W.seen out.old) (W.seen out.new) (reasons_line reasons.now) }
+{
+    let mut no_path = Buffer::new();
+    let mut not_activated = Buffer::new();
+    let mut not_observed = Buffer::new();
+    let pieces = [
+        no_path.format(count_of(reasons, Reason::NoPath)),
+        " no path, ",
+        not_activated.format(count_of(reasons, Reason::NotActivated)),
+        " not activated, ",
+        not_observed.format(count_of(reasons, Reason::NotObserved)),
+        " not observed\n",
+    ];
+    put_pieces(&pieces, out)
+}
+
+/// Returns how many faults have a reason.
+fn count_of(reasons: &[Option<Reason>], reason: Reason) -> usize
+    ensures { result ≡ count_by (has_reason reason) reasons.now }
+{
+    reasons.iter().filter(|own| **own == Some(reason)).count()
+}
+
+/// Counts the faults of each reason.
+pub fn reason_counts(reasons: &[Option<Reason>]) -> ReasonCounts
+    ensures { result ≡ reason_counts_of reasons.now }
+{
+    ReasonCounts {
+        no_path: count_of(reasons, Reason::NoPath),
+        not_activated: count_of(reasons, Reason::NotActivated),
+        not_observed: count_of(reasons, Reason::NotObserved),
+    }
+}
