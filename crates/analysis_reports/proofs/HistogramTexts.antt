@@ -28,7 +28,8 @@ use Rattle.analysis_reports.specs.Histogram.{one_with}
 use Rattle.byte_output.specs.Output.{Output, TakesAll, TakesFront}
 use Rattle.byte_output.proofs.Public.{flat_map_cut, flat_map_taken, stopped, takes_more}
 use Rattle.analysis_reports.proofs.CountedTexts.{job_count_fault}
-use Rattle.report.proofs.Public.{text_fault, zipped_by}
+use Rattle.threaded_lines.proofs.Public.{zipped_by}
+use Rattle.report.proofs.Public.{text_fault}
 
 -- the histogram of a job of files is the histogram of the files
 pub histogram_of_texts : (m : Model) (bench text : List ℕ) (most : ℕ) (list : Bool) (job : Parts)

@@ -8,7 +8,7 @@ use crate::reasoned::put_reason_lines;
 use bench_net::Circuit;
 use byte_output::{Out, OutFailed};
 use fault_model::Faults;
-use report::FaultLines;
+use threaded_lines::FaultLines;
 use undetected::Reason;
 
 /// The lines of the faults that have a reason.

@@ -22,10 +22,11 @@ use byte_output::{Out, OutFailed, put_pieces};
 use fault_model::{Faults, Model};
 use itoa::Buffer;
 use job_loading::{ReasonCounts, ReportFault, SimFault, Split, Watch, run_watched, split_job_of};
-use report::{Contents, Lines, put_fault_line, put_in_threads, write_report_with};
+use report::{Contents, Lines, put_fault_line, write_report_with};
 use std::alloc::Global;
 use std::sync::Wait;
 use std::thread::Threads;
+use threaded_lines::put_in_threads;
 use undetected::{Reason, reasons};
 use workers::Verdicts;
 

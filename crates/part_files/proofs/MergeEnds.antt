@@ -13,7 +13,7 @@ use Rattle.part_files.specs.declared.joining.MergeFault.{MergeFault}
 use Rattle.part_files.specs.declared.joining.MergeFault.TheVariants as fault
 use Rattle.part_files.specs.Merging.{HasParts, IsEndRefusal, IsOpenRefusal, MergeState}
 use Rattle.part_files.specs.PartReading.{texts_in}
-use Rattle.report.proofs.Public.{zipped_by}
+use Rattle.threaded_lines.proofs.Public.{zipped_by}
 
 -- the first fault that belongs to no part, after this many first tests
 pub open_fault : (vs : List PartVerdict) (firsts : List (Option ℕ)) (n : ℕ) (z : PartVerdict)

@@ -1,5 +1,3 @@
-mod LinesByPairs
-mod LinesOfStretches
 mod CellNames
 mod TextPieces
 mod LinesOfFaults

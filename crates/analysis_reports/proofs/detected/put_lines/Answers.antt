@@ -2,7 +2,7 @@ use Rattle.std.proofs.Common.{◌<◌, ◌≤◌, length, arith}
 use Rattle.std.proofs.lemmas.Result.{err_from_is_err_and}
 use Rattle.analysis_reports.specs.Detected.{count_line}
 use Rattle.analysis_reports.proofs.CountedTexts.{is_count_line}
-use Rattle.report.proofs.Public.{line_stopped, line_taken, lines_taken}
+use Rattle.threaded_lines.proofs.Public.{line_stopped, line_taken, lines_taken}
 use Rattle.analysis_reports.proofs.detected.put_lines.Goals as goal
 
 pub returns-in_err-put_fault_line : goal.returns-in_err-put_fault_line

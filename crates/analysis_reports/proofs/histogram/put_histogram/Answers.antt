@@ -4,7 +4,7 @@ use Rattle.patterns.specs.Least.{below}
 use Rattle.patterns.proofs.Public.{length-below}
 use Rattle.analysis_reports.specs.Histogram.{histogram_line}
 use Rattle.analysis_reports.proofs.HistogramTexts.{count_stopped, count_taken}
-use Rattle.report.proofs.Public.{lines_taken}
+use Rattle.threaded_lines.proofs.Public.{lines_taken}
 use Rattle.analysis_reports.proofs.histogram.put_histogram.Goals as goal
 
 pub returns-in_err-put_count : goal.returns-in_err-put_count

@@ -2,7 +2,7 @@ use Rattle.std.proofs.Common.{◌<◌, ◌≤◌, length, arith}
 use Rattle.std.proofs.lemmas.Result.{err_from_is_err_and}
 use Rattle.analysis_reports.specs.Reasons.{reason_line}
 use Rattle.analysis_reports.proofs.ReasonTexts.{is_reason_line, no_reason_line}
-use Rattle.report.proofs.Public.{line_cut, line_left, line_put}
+use Rattle.threaded_lines.proofs.Public.{line_cut, line_left, line_put}
 use Rattle.analysis_reports.proofs.reasoned.put_reason_lines.Goals as goal
 
 pub returns-in_err-put_fault_line : goal.returns-in_err-put_fault_line

@@ -1,6 +1,6 @@
 use Rattle.byte_output.proofs.Public.{writes_same}
 use Rattle.analysis_reports.specs.Reasons.{reason_line}
-use Rattle.report.proofs.Public.{whole_stretch}
+use Rattle.threaded_lines.proofs.Public.{whole_stretch}
 use Rattle.analysis_reports.proofs.reasoned.put_reasons.Goals as goal
 
 pub returns : goal.returns

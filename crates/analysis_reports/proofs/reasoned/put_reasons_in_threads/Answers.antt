@@ -1,7 +1,7 @@
 use Rattle.std.specs.Prelude.{zip}
 use Rattle.byte_output.proofs.Public.{writes_same}
 use Rattle.analysis_reports.specs.Reasons.{reason_line}
-use Rattle.report.proofs.Public.{all_mapped}
+use Rattle.threaded_lines.proofs.Public.{all_mapped}
 use Rattle.analysis_reports.proofs.reasoned.put_reasons_in_threads.Goals as goal
 
 pub returns : goal.returns

@@ -6,7 +6,7 @@ use Rattle.report.specs.Report.{wanted_name}
 use Rattle.byte_output.proofs.Public.{takes_more, stopped, flat_map_cut, flat_map_taken}
 use Rattle.part_files.proofs.MergeEnds.{name_at}
 use Rattle.part_files.proofs.JoinedParts.{texts_count}
-use Rattle.report.proofs.Public.{all_zipped}
+use Rattle.threaded_lines.proofs.Public.{all_zipped}
 use Rattle.part_files.proofs.ending.put_names.Goals as goal
 
 pub returns-in_err-put_wanted_name : goal.returns-in_err-put_wanted_name

@@ -2,7 +2,7 @@ use Rattle.std.proofs.Common.{◌<◌, ◌≤◌, length, arith}
 use Rattle.std.proofs.lemmas.Result.{err_from_is_err_and}
 use Rattle.part_files.specs.PartText.{part_line}
 use Rattle.part_files.proofs.PartPieces.{is_verdict_line}
-use Rattle.report.proofs.Public.{line_taken, line_stopped, lines_taken}
+use Rattle.threaded_lines.proofs.Public.{line_taken, line_stopped, lines_taken}
 use Rattle.part_files.proofs.part_writer.put_verdicts.Goals as goal
 
 pub returns-in_err-put_fault_line : goal.returns-in_err-put_fault_line

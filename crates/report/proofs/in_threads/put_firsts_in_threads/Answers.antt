@@ -1,7 +1,7 @@
 use Rattle.std.specs.Prelude.{zip}
 use Rattle.byte_output.proofs.Public.{writes_same}
 use Rattle.report.specs.Report.{wanted_line}
-use Rattle.report.proofs.LinesOfStretches.{all_mapped}
+use Rattle.threaded_lines.proofs.Public.{all_mapped}
 use Rattle.report.proofs.in_threads.put_firsts_in_threads.Goals as goal
 
 pub returns : goal.returns

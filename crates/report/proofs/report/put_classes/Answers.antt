@@ -2,7 +2,7 @@ use Rattle.std.proofs.Common.{◌<◌, ◌≤◌, length, arith}
 use Rattle.std.proofs.lemmas.Result.{err_from_is_err_and}
 use Rattle.report.specs.Report.{class_line}
 use Rattle.report.proofs.TextPieces.{is_class_line}
-use Rattle.report.proofs.LinesByPairs.{line_taken, line_stopped, lines_taken}
+use Rattle.threaded_lines.proofs.Public.{line_taken, line_stopped, lines_taken}
 use Rattle.report.proofs.report.put_classes.Goals as goal
 
 pub returns-in_err-put_fault_line : goal.returns-in_err-put_fault_line

@@ -1,6 +1,6 @@
 use Rattle.byte_output.proofs.Public.{writes_same}
 use Rattle.report.specs.Report.{wanted_line}
-use Rattle.report.proofs.LinesOfStretches.{whole_stretch}
+use Rattle.threaded_lines.proofs.Public.{whole_stretch}
 use Rattle.report.proofs.report.put_firsts.Goals as goal
 
 pub returns : goal.returns

@@ -1,6 +1,6 @@
 use Rattle.std.proofs.Common.{◌∙◌, sym}
 use Rattle.analysis_reports.specs.Reasons.{reason_line}
-use Rattle.report.proofs.Public.{mapped_count}
+use Rattle.threaded_lines.proofs.Public.{mapped_count}
 use Rattle.analysis_reports.proofs.reason_lines.ReasonLinesFaultLines.count.Goals as goal
 
 pub returns : goal.returns

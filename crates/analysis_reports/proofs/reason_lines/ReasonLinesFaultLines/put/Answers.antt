@@ -2,7 +2,7 @@ use Rattle.std.proofs.Common.{◌≤◌, subst, sym}
 use Rattle.std.specs.Prelude.{zip}
 use Rattle.byte_output.proofs.Public.{writes_same}
 use Rattle.analysis_reports.specs.Reasons.{reason_line}
-use Rattle.report.proofs.Public.{mapped_between, mapped_count}
+use Rattle.threaded_lines.proofs.Public.{mapped_between, mapped_count}
 use Rattle.analysis_reports.proofs.reason_lines.ReasonLinesFaultLines.put.Goals as goal
 
 pub put_reason_lines-requires-clause-within : goal.put_reason_lines-requires-clause-within

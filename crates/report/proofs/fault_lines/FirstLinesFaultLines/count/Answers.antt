@@ -1,6 +1,6 @@
 use Rattle.std.proofs.Common.{◌∙◌, sym}
 use Rattle.report.specs.Report.{wanted_line}
-use Rattle.report.proofs.LinesOfStretches.{mapped_count}
+use Rattle.threaded_lines.proofs.Public.{mapped_count}
 use Rattle.report.proofs.fault_lines.FirstLinesFaultLines.count.Goals as goal
 
 pub returns : goal.returns

@@ -2,7 +2,7 @@ use Rattle.std.proofs.Common.{◌≤◌, subst, sym}
 use Rattle.std.specs.Prelude.{zip}
 use Rattle.byte_output.proofs.Public.{writes_same}
 use Rattle.report.specs.Report.{wanted_line}
-use Rattle.report.proofs.LinesOfStretches.{mapped_between, mapped_count}
+use Rattle.threaded_lines.proofs.Public.{mapped_between, mapped_count}
 use Rattle.report.proofs.fault_lines.FirstLinesFaultLines.put.Goals as goal
 
 pub put_lines-requires-clause-within : goal.put_lines-requires-clause-within

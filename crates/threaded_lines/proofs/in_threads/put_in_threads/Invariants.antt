@@ -1,7 +1,7 @@
 use Rattle.std.proofs.Common.{◌-◌, ◌≤◌, length}
 use Rattle.byte_output.specs.Output.{TakesAll}
-use Rattle.report.specs.Texts.{text_between}
-use Rattle.report.proofs.in_threads.put_in_threads.Given as goal
+use Rattle.threaded_lines.specs.Texts.{text_between}
+use Rattle.threaded_lines.proofs.in_threads.put_in_threads.Given as goal
 
 -- the lines of the faults so far were taken whole
 abbrev pub invariant-loop-place : goal.invariant-loop-place

@@ -1,10 +1,10 @@
 use Rattle.std.proofs.Common.{◌≡◌, ◌<◌, ◌≤◌, ◌∙◌, ℕ, ap, arith, length, subst, List}
 use Rattle.std.specs.Prelude.{Result, Some, slice_get}
 use Rattle.byte_output.specs.declared.OutFailed.{OutFailed}
-use Rattle.report.specs.declared.in_threads.Stretch.{Stretch}
-use Rattle.report.specs.Stretches.{HasStretch}
-use Rattle.report.proofs.LinesOfStretches.{each_and_one, each_of_pushed, of_each}
-use Rattle.report.proofs.in_threads.fn.share_lines.scope.Goals as goal
+use Rattle.threaded_lines.specs.declared.in_threads.Stretch.{Stretch}
+use Rattle.threaded_lines.specs.Stretches.{HasStretch}
+use Rattle.threaded_lines.proofs.LinesOfStretches.{each_and_one, each_of_pushed, of_each}
+use Rattle.threaded_lines.proofs.in_threads.fn.share_lines.scope.Goals as goal
 
 pub loop-thread-preserved : goal.loop-thread-preserved
 loop-thread-preserved g c =

@@ -1,5 +1,5 @@
 use Rattle.std.proofs.Common.{◌≡◌, ◌<◌, ◌≤◌, ℕ, get_or, length, vec_items, vec_len}
-use Rattle.report.proofs.in_threads.fn.share_lines.scope.Given as goal
+use Rattle.threaded_lines.proofs.in_threads.fn.share_lines.scope.Given as goal
 
 -- no fault is given out past the last, and each handle is promised lines of this list
 abbrev pub invariant-loop-thread : goal.invariant-loop-thread

@@ -4,8 +4,8 @@ use Rattle.std.specs.Prelude.{Result, Ok, Err, Some, IfOk}
 use Rattle.std.specs.Prelude.{length, slice_get}
 use Rattle.byte_output.specs.declared.OutFailed.{OutFailed}
 use Rattle.byte_output.specs.Output.{Output, TakesAll, TakesFront}
-use Rattle.report.specs.declared.in_threads.Stretch.{Stretch}
-use Rattle.report.specs.Texts.{text_between}
+use Rattle.threaded_lines.specs.declared.in_threads.Stretch.{Stretch}
+use Rattle.threaded_lines.specs.Texts.{text_between}
 
 -- a stretch of the list has its lines
 pub record HasLines (texts : List (List ℕ)) (s : Stretch) : Type 0 where

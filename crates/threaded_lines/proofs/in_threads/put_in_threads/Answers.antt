@@ -1,7 +1,7 @@
 use Rattle.std.proofs.Common.{◌≡◌, arith, length}
 use Rattle.std.proofs.lemmas.Result.{err_from_is_err_and}
-use Rattle.report.proofs.LinesOfStretches.{all_cut, all_put, stretch_put}
-use Rattle.report.proofs.in_threads.put_in_threads.Goals as goal
+use Rattle.threaded_lines.proofs.LinesOfStretches.{all_cut, all_put, stretch_put}
+use Rattle.threaded_lines.proofs.in_threads.put_in_threads.Goals as goal
 
 pub returns-in_err-end : goal.returns-in_err-end
 returns-in_err-end g c =

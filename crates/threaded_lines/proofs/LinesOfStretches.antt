@@ -12,8 +12,8 @@ use Rattle.std.specs.List.{flat_map, slice_range}
 use Rattle.list_lemmas.proofs.Places.{place_within, within_place}
 use Rattle.byte_output.specs.Output.{Output, TakesAll, TakesFront}
 use Rattle.byte_output.proofs.Public.{takes_more, stopped, flat_map_taken}
-use Rattle.report.specs.Texts.{joined, text_between}
-use Rattle.report.proofs.LinesByPairs.{zipped_by, all_zipped}
+use Rattle.threaded_lines.specs.Texts.{joined, text_between}
+use Rattle.threaded_lines.proofs.LinesByPairs.{zipped_by, all_zipped}
 
 -- what is before a place, and then up to another
 before_by : {X : Type 0} (xs : List X) (a b : ℕ) → a ≤ b

@@ -1,9 +1,9 @@
 use Rattle.std.proofs.Common.{◌<◌, ◌≤◌, ℕ, get_or, length}
 use Rattle.std.specs.Vec.Iter.{into_iter_items, into_iter_len}
 use Rattle.byte_output.specs.Output.{TakesAll}
-use Rattle.report.specs.Stretches.{HasStretch}
-use Rattle.report.specs.Texts.{text_between}
-use Rattle.report.proofs.in_threads.put_parts.Given as goal
+use Rattle.threaded_lines.specs.Stretches.{HasStretch}
+use Rattle.threaded_lines.specs.Texts.{text_between}
+use Rattle.threaded_lines.proofs.in_threads.put_parts.Given as goal
 
 -- the stretches that are left have their lines, and those so far were taken whole
 abbrev pub invariant-loop-part : goal.invariant-loop-part

@@ -1,11 +1,11 @@
 use Rattle.std.proofs.Common.{◌≡◌, ◌<◌, ◌∙◌, ap, arith, get_or, length, rules, subst, suc, sym}
 use Rattle.std.specs.Vec.Iter.{into_iter_items, into_iter_len}
 use Rattle.std.proofs.lemmas.Result.{err_from_is_err_and}
-use Rattle.report.specs.Stretches.{HasLines, HasPut, HasStretch}
-use Rattle.report.proofs.LinesOfStretches.{text_cut, text_put}
-use Rattle.report.proofs.in_threads.put_parts.Goals.{then-start-end+in_ok-put_all}
-use Rattle.report.proofs.in_threads.put_parts.Goals.{else-start-end}
-use Rattle.report.proofs.in_threads.put_parts.Goals as goal
+use Rattle.threaded_lines.specs.Stretches.{HasLines, HasPut, HasStretch}
+use Rattle.threaded_lines.proofs.LinesOfStretches.{text_cut, text_put}
+use Rattle.threaded_lines.proofs.in_threads.put_parts.Goals.{then-start-end+in_ok-put_all}
+use Rattle.threaded_lines.proofs.in_threads.put_parts.Goals.{else-start-end}
+use Rattle.threaded_lines.proofs.in_threads.put_parts.Goals as goal
 
 pub loop-part-preserved-in_default : goal.loop-part-preserved-in_default
 loop-part-preserved-in_default g c =

@@ -1,7 +1,7 @@
 use Rattle.std.proofs.Common.{◌≡◌, ◌≤◌, arith, length, subst}
 use Rattle.std.proofs.lemmas.Result.{err_from_is_err_and}
-use Rattle.report.proofs.LinesOfStretches.{stretch_cut}
-use Rattle.report.proofs.in_threads.put_round.Goals as goal
+use Rattle.threaded_lines.proofs.LinesOfStretches.{stretch_cut}
+use Rattle.threaded_lines.proofs.in_threads.put_round.Goals as goal
 
 pub returns-in_err-put : goal.returns-in_err-put
 returns-in_err-put g c =

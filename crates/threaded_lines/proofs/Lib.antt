@@ -1,0 +1,3 @@
+mod LinesByPairs
+mod LinesOfStretches
+pub mod Public
