@@ -52,7 +52,7 @@ PHASES = {
     "classes of the job": r"flat_circuit::(region_classes|origin)::",
     "cut": r"region_runs::(class_order|counting_sort|stretches)::",
     "verdicts": r"region_runs::(parts|fault_firsts|stretch_run::lowest)|workers::verdicts",
-    "report": r"report::|part_files::|byte_output::|itoa::",
+    "report": r"report::|analysis_reports::|threaded_lines::|part_files::|byte_output::|itoa::",
 }
 BEGIN = "start"
 # The functions of a thread that simulates.
