@@ -203,7 +203,7 @@ fn number_ends(
         (λ ends. map (slice_get list.now.list) ends.representative.items ≡ map Some
         (representatives list.now.model circuit.now)) }
 {
-    let mut class_of = Vec::new(alloc);
+    let mut class_of = Vec::with_capacity(alloc, list.count() as usize)?;
     let mut representative = Vec::new(alloc);
     for fault in 0..list.count() {
         class_of.push(representative.len() as u32)?;
