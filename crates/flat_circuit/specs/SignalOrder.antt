@@ -1,9 +1,8 @@
 -- A walk through a circuit, and keys that put its signals in a topological order.
-use Rattle.std.specs.Prelude.{◌≡◌, ◌<◌, ℕ, All, List, Some, length, slice_get, slice_index_or}
+use Rattle.std.specs.Prelude.{◌≡◌, ◌<◌, ℕ, All, List, length, slice_index_or}
 use Rattle.bench_net.specs.Statement.{Statement}
 use Rattle.bench_net.specs.Scan.{names}
 use Rattle.fault_model.specs.Reordered.{IsSourceAt}
-use Rattle.flat_circuit.specs.declared.signal_order.Keyed.{Keyed}
 use Rattle.flat_circuit.specs.declared.order_walk.Walk.{Walk}
 use Rattle.flat_circuit.specs.Readers.{Reads}
 
@@ -16,12 +15,6 @@ pub record IsKeyOf (c : List Statement) (keys : List ℕ) (s key : ℕ) : Type 0
 -- each signal has such a key
 abbrev pub HaveKeys : List Statement → List ℕ → Type 0
 HaveKeys c keys = (s : ℕ) → s < length (names c) → IsKeyOf c keys s (slice_index_or keys s 0)
-
--- the list has all signals by number, with their keys
-pub record AreKeysOf (keys : List ℕ) (keyed : List Keyed) : Type 0 where
-  pub count : length keyed ≡ length keys
-  pub each : (s : ℕ) (at : Keyed) → slice_get keyed s ≡ Some at
-      → (at.signal ≡ s) × (slice_get keys s ≡ Some at.key)
 
 -- the walk has an entry for each of this number of signals, and its path consists of these signals
 pub record IsWalk (signals : ℕ) (walk : Walk) : Type 0 where

@@ -4,23 +4,17 @@
 //! should be near in memory. In level order the gates around a gate are a whole level away. On
 //! 100,000 random gates a run in this order took 0.72 of its time in level order.
 
-ghost use Rattle.std.specs.Prelude.{◌≡◌, ◌<◌, ◌≤◌, ◌^◌, ℕ, All, Contains, IfOk, length};
+ghost use Rattle.std.specs.Prelude.{◌≡◌, ◌<◌, ◌≤◌, ◌+◌, ◌*◌, ◌^◌, ℕ, All, Contains, IfOk, length};
 ghost use Rattle.std.specs.Prelude.{slice_index_or};
 ghost use Rattle.bench_net.specs.Circuit.{IsCircuit};
 ghost use Rattle.bench_net.specs.Scan.{names};
 ghost use Rattle.flat_circuit.specs.Arranged.{IsFlowOrder};
-ghost use Rattle.flat_circuit.specs.SignalOrder.{AreKeysOf, HaveKeys, IsKeyOf};
+ghost use Rattle.flat_circuit.specs.SignalOrder.{HaveKeys, IsKeyOf};
 
 use crate::order_walk::walk_ranks;
 use bench_net::Circuit;
+use counting_sort::sorted_places;
 use std::alloc::{AllocError, Global};
-
-/// A signal and its key. It is ordered by the key, and then by the number of the signal.
-#[derive(Clone, Copy, Debug, PartialEq, Eq, PartialOrd, Ord)]
-struct Keyed {
-    key: u64,
-    signal: u32,
-}
 
 /// Returns the signals of a circuit in a topological order: sources by number, and each gate after
 /// the signals that it reads. No result depends on which topological order it is. This one comes
@@ -31,22 +25,24 @@ pub fn flow_order(alloc: Global, circuit: &Circuit) -> Result<Vec<u32>, AllocErr
     ensures { IfOk result (λ order. IsFlowOrder circuit.now order.items) }
 {
     let ranks = walk_ranks(alloc, circuit)?;
-    let mut keys = vec![in alloc; 0u64; circuit.signals() as usize]?;
+    let signals = circuit.signals();
+    let mut keys = vec![in alloc; 0u32; signals as usize]?;
     raise_keys(circuit, &ranks, &mut keys);
-    let mut keyed = keyed_signals(alloc, &keys)?;
-    keyed.sort_unstable();
-    Ok(keyed.iter().map(|at| at.signal).collect(alloc)?)
+    let sorted = sorted_places(alloc, &keys, 2 * signals + 1)?;
+    Ok(sorted.places)
 }
 
 /// Gives each signal its key: 0 for a source, and for a gate a key that is greater than the keys of
-/// the signals that it reads. In level order these come before it.
-fn raise_keys(circuit: &Circuit, ranks: &[u32], keys: &mut [u64])
+/// the signals that it reads. In level order these come before it. No key is above twice the number
+/// of signals.
+fn raise_keys(circuit: &Circuit, ranks: &[u32], keys: &mut [u32])
     requires circuit { IsCircuit circuit.now }
     requires ranks { length ranks.now ≡ length (names circuit.now) }
     requires room { length keys.old ≡ length (names circuit.now) }
     requires zero { All (λ key. key ≡ 0) keys.old }
     ensures room { length keys.new ≡ length keys.old }
     ensures keys { HaveKeys circuit.now keys.new }
+    ensures low { All (λ key. key < 2 * length (names circuit.now) + 1) keys.new }
 {
     let order = circuit.in_level_order();
     for place in 0..order.len() {
@@ -57,19 +53,19 @@ fn raise_keys(circuit: &Circuit, ranks: &[u32], keys: &mut [u64])
 }
 
 /// Returns the key of a signal, from the keys of the signals that its gate reads.
-fn key_of(circuit: &Circuit, ranks: &[u32], keys: &[u64], signal: u32) -> u64
+fn key_of(circuit: &Circuit, ranks: &[u32], keys: &[u32], signal: u32) -> u32
     requires circuit { IsCircuit circuit.now }
     requires ranks { length ranks.now ≡ length (names circuit.now) }
     requires room { length keys.now ≡ length (names circuit.now) }
-    requires low { All (λ key. key < 2 ^ 63) keys.now }
+    requires low { All (λ key. key < 2 ^ 31) keys.now }
     requires signal { signal < length (names circuit.now) }
     ensures key { IsKeyOf circuit.now keys.now signal result }
-    ensures low { (bound : ℕ) → 2 ^ 32 ≤ bound → All (λ key. key < bound) keys.now
-        → result ≤ bound }
+    ensures low { (bound : ℕ) → length (names circuit.now) ≤ bound
+        → All (λ key. key < bound) keys.now → result ≤ bound }
 {
     match circuit.gate_of(signal) {
         Some(line) => {
-            let rank = u64::from(ranks[signal as usize]);
+            let rank = ranks[signal as usize].min(circuit.signals());
             key_above(line.pins.as_slice(), keys, rank)
         }
         None => 0,
@@ -78,9 +74,9 @@ fn key_of(circuit: &Circuit, ranks: &[u32], keys: &[u64], signal: u32) -> u64
 
 /// Returns a key that is at least a rank, and greater than the keys of the signals that some pins
 /// read.
-fn key_above(pins: &[u32], keys: &[u64], rank: u64) -> u64
+fn key_above(pins: &[u32], keys: &[u32], rank: u32) -> u32
     requires pins { All (λ pin. pin < length keys.now) pins.now }
-    requires low { All (λ key. key < 2 ^ 63) keys.now }
+    requires low { All (λ key. key < 2 ^ 31) keys.now }
     ensures above { (pin : ℕ) → Contains pins.now pin → slice_index_or keys.now pin 0 < result }
     ensures low { (bound : ℕ) → rank ≤ bound → All (λ key. key < bound) keys.now
         → result ≤ bound }
@@ -90,19 +86,4 @@ fn key_above(pins: &[u32], keys: &[u64], rank: u64) -> u64
         key = key.max(keys[*pin as usize] + 1);
     }
     key
-}
-
-/// Returns all signals by number, with their keys.
-fn keyed_signals(alloc: Global, keys: &[u64]) -> Result<Vec<Keyed>, AllocError>
-    requires { length keys.now < 2 ^ 32 }
-    ensures { IfOk result (λ keyed. AreKeysOf keys.now keyed.items) }
-{
-    let mut keyed = Vec::with_capacity(alloc, keys.len())?;
-    for signal in 0..keys.len() {
-        keyed.push(Keyed {
-            key: keys[signal],
-            signal: signal as u32,
-        })?;
-    }
-    Ok(keyed)
 }

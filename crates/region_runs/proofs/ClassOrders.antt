@@ -19,7 +19,7 @@ use Rattle.flat_circuit.specs.Regions.{IsStemOfClass}
 use Rattle.flat_circuit.proofs.Public.{one_class_stem}
 use Rattle.region_runs.specs.ClassOrder.{AreVisits, AreVisitsTo}
 use Rattle.region_runs.specs.Part.{AreAllByRegion, ArePartOf, IsOfPart}
-use Rattle.region_runs.specs.SortedPlaces.{AreSortedPlaces, GoesFirst}
+use Rattle.counting_sort.specs.SortedPlaces.{AreSortedPlaces, GoesFirst}
 
 -- the places of signals are numbers of signals, each of one signal
 module _ (c d : List Statement) (places : List ℕ) (well : IsWellFormed c) (is : IsArranged c d)

@@ -20,7 +20,7 @@ use Rattle.workers.specs.Verdict.{AreAfterHits, AreClassFirsts, AreFirsts, block
 use Rattle.workers.specs.Verdict.{pieces_after}
 use Rattle.workers.proofs.Public.{class_in, take_more}
 use Rattle.region_runs.specs.FaultFirsts.{AreFirstsFrom, ServesFaults, first_at, firsts_of_faults}
-use Rattle.region_runs.specs.SortedPlaces.{ArePositions}
+use Rattle.counting_sort.specs.SortedPlaces.{ArePositions}
 use Rattle.region_runs.proofs.PartsOfClasses.{behind_within}
 use Rattle.region_runs.proofs.SumsInOrder.{sum_in_order}
 

@@ -1,5 +1,4 @@
 mod PartsOfClasses
-mod SortedPlaces
 mod ClassOrders
 mod SumsInOrder
 mod FaultFirsts

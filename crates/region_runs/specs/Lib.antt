@@ -1,5 +1,4 @@
 pub mod Part
-pub mod SortedPlaces
 pub mod ClassOrder
 pub mod FaultFirsts
 pub mod StretchRuns

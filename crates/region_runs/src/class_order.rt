@@ -3,10 +3,10 @@
 ghost use Rattle.std.specs.Prelude.{◌≡◌, ◌<◌, ◌^◌, IfOk, length};
 ghost use Rattle.region_runs.specs.Part.{AreAllByRegion, ArePartOf};
 ghost use Rattle.region_runs.specs.ClassOrder.{AreVisits};
-ghost use Rattle.region_runs.specs.SortedPlaces.{ArePositions};
+ghost use Rattle.counting_sort.specs.SortedPlaces.{ArePositions};
 
-use crate::counting_sort::{SortedPlaces, sorted_places};
 use block_sim::Job;
+use counting_sort::{SortedPlaces, sorted_places};
 use std::alloc::{AllocError, Global};
 
 /// All classes of a job in an order.

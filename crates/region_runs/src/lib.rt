@@ -13,7 +13,6 @@
 #![tactic(auto)]
 
 mod class_order;
-mod counting_sort;
 mod fault_firsts;
 mod list_runner;
 mod open_classes;

@@ -1,6 +1,7 @@
-use Rattle.std.proofs.Common.{◌<◌, ◌+◌, ◌^◌, ◌∙◌, arith}
+use Rattle.std.proofs.Common.{◌<◌, ◌+◌, ◌∙◌, arith, length}
 use Rattle.std.proofs.lemmas.List.{length-set}
 use Rattle.std.proofs.lemmas.List.Elements.{All-set, All-weaker}
+use Rattle.bench_net.specs.Scan.{names}
 use Rattle.flat_circuit.proofs.LevelOrder.{order_within}
 use Rattle.flat_circuit.proofs.Keys.{keys_all, keys_more}
 use Rattle.flat_circuit.proofs.signal_order.raise_keys.Goals as goal
@@ -21,11 +22,12 @@ loop-place-preserved c =
     let place = c.loop-place.place in
     let keys = c.loop-place.keys in
     let key = c.key_of-key.result in
-    let least = c.key_of-key.ensures.low (2 ^ 32 + place) (omega arith) c.loop-place.invariant.low
-    in record {
+    let count = length (names c.args.circuit.now) in
+    let least = c.key_of-key.ensures.low (count + place + 1) (omega arith)
+    c.loop-place.invariant.low in record {
       room = length-set keys _ key ∙ c.loop-place.invariant.room;
-      low = All-set (λ x. x < 2 ^ 32 + (place + 1)) keys _ key (omega (arith, least))
-          (All-weaker (λ x. x < 2 ^ 32 + place) (λ x. x < 2 ^ 32 + (place + 1))
+      low = All-set (λ x. x < count + (place + 1) + 1) keys _ key (omega (arith, least))
+          (All-weaker (λ x. x < count + place + 1) (λ x. x < count + (place + 1) + 1)
           (λ x lt. omega (arith, lt)) keys c.loop-place.invariant.low);
       known = keys_more c.args.circuit.now c.requires.circuit.well_formed
           c.in_level_order-order.result.now c.in_level_order-order.ensures keys place key

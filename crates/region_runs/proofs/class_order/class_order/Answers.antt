@@ -1,5 +1,5 @@
 use Rattle.std.proofs.Common.{◌<◌, ◌∙◌, ◌^◌, List, ap, length, subst, sym, ℕ}
-use Rattle.region_runs.specs.SortedPlaces.{AreSortedPlaces}
+use Rattle.counting_sort.specs.SortedPlaces.{AreSortedPlaces}
 use Rattle.region_runs.proofs.ClassOrders.{all_in_order}
 use Rattle.region_runs.proofs.class_order.class_order.Goals as goal
 
