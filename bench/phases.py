@@ -47,10 +47,10 @@ PHASES = {
     "read bench": r"bench_(net|threads)::",
     "read tests": r"patterns::(test_text|octet|in_threads|in_pieces|read_tests)|patterns::word_rows::\w*add",
     "faults and classes": r"fault_model::(classes|faults)::",
-    "rows": r"flat_circuit::(flat::FlatCircuit::new|flat::lists_of|flat::add_|signal_order|order_walk|live|signal_places|gate_form)",
+    "rows": r"flat_circuit::(flat::FlatCircuit::new|flat::lists_|flat::add_|signal_order|order_walk|live|signal_places|gate_form)",
     "fault-free words": r"flat_circuit::(words|fault_free)::",
     "classes of the job": r"flat_circuit::(region_classes|origin)::",
-    "cut": r"region_runs::(class_order|counting_sort|stretches)::",
+    "cut": r"region_runs::(class_order|stretches)::",
     "verdicts": r"region_runs::(parts|fault_firsts|stretch_run::lowest)|workers::verdicts",
     "report": r"report::|analysis_reports::|threaded_lines::|part_files::|byte_output::|itoa::",
 }
