@@ -1,13 +1,15 @@
 //! A circuit of numbered statements, with its tables made in two threads.
 
-ghost use Rattle.std.specs.Prelude.{◌≡◌, ◌⊎◌, length, IfOk, IfErr};
+ghost use Rattle.std.specs.Prelude.{◌≡◌, ◌⊎◌, ◌+◌, ℕ, List, length, IfOk, IfErr};
 ghost use Rattle.bench_net.specs.Circuit.{IsCircuit};
 ghost use Rattle.bench_net.specs.Inside.{AreTableLines, AreTables};
-ghost use Rattle.bench_net.specs.Marks.{IsLevelFault};
+ghost use Rattle.bench_net.specs.Level.{greatest};
+ghost use Rattle.bench_net.specs.Marks.{AreLevelsOf, IsGraph, IsLevelFault};
+ghost use Rattle.bench_net.specs.Rows.{AreRows};
 ghost use Rattle.bench_net.specs.Stored.{statements_of, AreStatements, AreRefused};
 ghost use Rattle.bench_net.specs.Tables.{gate_pins, signals_in};
 
-use bench_net::levels::levels_of;
+use bench_net::levels::{Levels, levels_of};
 use bench_net::line::NumberedLine;
 use bench_net::read::Lines;
 use bench_net::tables::{Tables, line_tables};
@@ -17,14 +19,36 @@ use std::sync::Wait;
 use std::thread;
 use std::thread::Threads;
 
+/// Returns the levels of the signals of lines as [`levels_of`] does, and then lets go of what is no
+/// longer needed.
+fn levels_and_free<S: Drop>(
+    alloc: Global,
+    lines: &[NumberedLine],
+    at: &[u64],
+    _spent: S,
+) -> Result<Levels, BenchFault>
+    requires graph { IsGraph lines.now }
+    requires at { length at.now ≡ signals_in lines.now }
+    ensures levels { IfOk result (λ l. AreLevelsOf (gate_pins lines.now) (signals_in lines.now)
+        l.levels.items) }
+    ensures order { IfOk result (λ l. (starts : List ℕ)
+        × AreRows l.levels.items (l.depth + 1) starts l.order.items) }
+    ensures depth { IfOk result (λ l. l.depth ≡ greatest l.levels.items) }
+    ensures fault { IfErr result
+        (IsLevelFault (gate_pins lines.now) (signals_in lines.now) at.now) }
+{
+    levels_of(alloc, lines, at)
+}
+
 /// Returns the tables of lines, given the number of each signal's line. One thread finds the levels
-/// while another one makes the other tables. It fails if a signal is on a cycle of gates or fed by
-/// one, with the lowest such line by its number.
-fn tables_of_in_threads<R: Threads + Wait>(
+/// and frees what is no longer needed, while another one makes the other tables. It fails if a
+/// signal is on a cycle of gates or fed by one, with the lowest such line by its number.
+fn tables_of_in_threads<R: Threads + Wait, S: Drop>(
     rt: &R,
     alloc: Global,
     lines: &[NumberedLine],
     at: &[u64],
+    spent: S,
 ) -> Result<Tables, BenchFault>
     requires lines { AreTableLines lines.now }
     requires at { length at.now ≡ signals_in lines.now }
@@ -35,19 +59,20 @@ fn tables_of_in_threads<R: Threads + Wait>(
     let (of_lines, levels) = thread::join(
         rt,
         move || line_tables(alloc, lines),
-        move || levels_of(alloc, lines, at),
+        move || levels_and_free(alloc, lines, at, spent),
     );
     let of_lines = of_lines?;
     let levels = levels?;
     Ok(Tables { of_lines, levels })
 }
 
-/// Makes the circuit of numbered statements as [`bench_net::read_bench`] does, with the same errors,
-/// in two threads.
-pub fn circuit_of_in_threads<R: Threads + Wait>(
+/// Makes the circuit of numbered statements as [`bench_net::read_bench`] does, with the same
+/// errors, in two threads, one of which frees what reading no longer needs.
+pub fn circuit_of_in_threads<R: Threads + Wait, S: Drop>(
     rt: &R,
     alloc: Global,
     lines: Lines,
+    spent: S,
 ) -> Result<Circuit, BenchFault>
     requires { AreStatements lines.names lines.lines.items lines.at.items }
     ensures accepted { IfOk result (λ c.
@@ -59,6 +84,6 @@ pub fn circuit_of_in_threads<R: Threads + Wait>(
     if lines.is_empty() {
         return Err(BenchFault::Empty);
     }
-    let tables = tables_of_in_threads(rt, alloc, &lines, &at)?;
+    let tables = tables_of_in_threads(rt, alloc, &lines, &at, spent)?;
     Ok(Circuit::with_tables(names, lines, tables))
 }

@@ -68,7 +68,7 @@ impl From<BenchFault> for Setback {
 
 /// The stretches of a whole file, and the names that they define.
 #[derive(Drop)]
-struct File<'a> {
+pub struct File<'a> {
     stretches: Vec<Stretch<'a>>,
     /// The names, in the order of their definitions.
     names: Names<'a>,
@@ -77,30 +77,49 @@ struct File<'a> {
     ghost own: { names_of names.keys ≡ names_in (joined stretches.items) },
 }
 
+/// Statements over numbers, and what threads read on the way to them, which takes some milliseconds
+/// to free.
+#[derive(Drop)]
+pub struct LinesRead<'a> {
+    pub lines: Lines,
+    /// The stretches, if threads read them.
+    pub spent: Option<File<'a>>,
+}
+
 /// Returns the statements of a file over numbers, or its error, as [`read_lines`] does, in at most
 /// `workers` threads besides the caller's. Each thread reads the statements of a range of the
 /// lines. The caller's thread numbers the names, and then threads number the statements, each those
 /// of one range. The caller's thread alone reads a short file, and it reads a file with an error
 /// again.
-pub fn read_lines_in_threads<R: Threads + Wait>(
+pub fn read_lines_in_threads<'a, R: Threads + Wait>(
     rt: &R,
     alloc: Global,
-    text: &[u8],
+    text: &'a [u8],
     workers: u32,
-) -> Result<Lines, BenchFault>
+) -> Result<LinesRead<'a>, BenchFault>
     ensures lines { IfOk result (λ r.
-        AreLinesOf text.now r.names r.lines.items r.at.items) }
+        AreLinesOf text.now r.lines.names r.lines.lines.items r.lines.at.items) }
     ensures refused { IfErr result (MayBe text.now) }
 {
     let threads = threads_for(text, workers);
     if threads < 2 || text.len() > MAX_BYTES {
-        return read_lines(alloc, text);
+        return lines_by_caller(alloc, text);
     }
     match lines_by_threads(rt, alloc, text, threads) {
-        Ok(lines) => Ok(lines),
+        Ok(read) => Ok(read),
         Err(Setback::Memory) => Err(BenchFault::Memory),
-        Err(Setback::Again) => read_lines(alloc, text),
+        Err(Setback::Again) => lines_by_caller(alloc, text),
     }
+}
+
+/// Returns the statements of a file over numbers, or its error, as [`read_lines`] does.
+fn lines_by_caller<'a>(alloc: Global, text: &'a [u8]) -> Result<LinesRead<'a>, BenchFault>
+    ensures lines { IfOk result (λ r.
+        AreLinesOf text.now r.lines.names r.lines.lines.items r.lines.at.items) }
+    ensures refused { IfErr result (MayBe text.now) }
+{
+    let lines = read_lines(alloc, text)?;
+    Ok(LinesRead { lines, spent: None })
 }
 
 /// Returns the number of threads that are worth their start.
@@ -110,21 +129,25 @@ pub fn threads_for(text: &[u8], workers: u32) -> u32 {
 }
 
 /// Returns the statements of a file over numbers, if no line has an error and all threads start.
-fn lines_by_threads<R: Threads + Wait>(
+fn lines_by_threads<'a, R: Threads + Wait>(
     rt: &R,
     alloc: Global,
-    text: &[u8],
+    text: &'a [u8],
     threads: u32,
-) -> Result<Lines, Setback>
+) -> Result<LinesRead<'a>, Setback>
     requires { length text.now ≤ max_bytes }
-    ensures { IfOk result (λ r. AreLinesOf text.now r.names r.lines.items r.at.items) }
+    ensures { IfOk result (λ r.
+        AreLinesOf text.now r.lines.names r.lines.lines.items r.lines.at.items) }
 {
     let parts = read_stretches(rt, alloc, text, threads)?;
     let all = whole_file(alloc, text, parts)?;
     let file = file_of(alloc, all)?;
     let (numbered, names) = number_stretches(rt, alloc, &file)?;
     let (lines, at) = all_numbered(alloc, &file, numbered)?;
-    Ok(Lines { names, lines, at })
+    Ok(LinesRead {
+        lines: Lines { names, lines, at },
+        spent: Some(file),
+    })
 }
 
 /// The data that a thread borrows: it returns statements of lines of this file.

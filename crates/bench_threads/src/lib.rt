@@ -14,7 +14,7 @@ mod stretch;
 
 use bench_net::{BenchFault, Circuit, read_bench};
 use circuit::circuit_of_in_threads;
-use in_threads::{read_lines_in_threads, threads_for};
+use in_threads::{LinesRead, read_lines_in_threads, threads_for};
 use std::alloc::Global;
 use std::sync::Wait;
 use std::thread::Threads;
@@ -37,6 +37,6 @@ pub fn read_bench_in_threads<R: Threads + Wait>(
     if threads_for(text, workers) < 2 {
         return read_bench(alloc, text);
     }
-    let lines = read_lines_in_threads(rt, alloc, text, workers)?;
-    circuit_of_in_threads(rt, alloc, lines)
+    let LinesRead { lines, spent } = read_lines_in_threads(rt, alloc, text, workers)?;
+    circuit_of_in_threads(rt, alloc, lines, spent)
 }
