@@ -22,14 +22,16 @@ use fault_model::{Classes, Faults};
 use flat_circuit::block_lanes::block_word;
 use flat_circuit::block_span::BlockSpan;
 use flat_circuit::block_view::GroupWords;
-use flat_circuit::class_lists::{ClassLists, class_lists, class_lists_under};
+use flat_circuit::class_lists::{
+    ClassLists, class_lists, class_lists_under, class_lists_under_in_threads,
+};
 use flat_circuit::fault_free::{fault_free_rows, fault_free_rows_in_threads};
 use flat_circuit::flat::{FlatCircuit, FlatRows, flat_rows, flat_rows_in_threads};
 use flat_circuit::origin::ListedClass;
 use flat_circuit::words::Stuck;
 use patterns::{MAX_PIECES, Tests};
 use std::alloc::{AllocError, Global};
-use std::marker::Model;
+use std::marker::{Model, PhantomData};
 use std::sync::Wait;
 use std::thread;
 use std::thread::Threads;
@@ -38,6 +40,10 @@ use thiserror::Error;
 /// A circuit is large if it has this number of signals. One thread lists and collapses its faults
 /// in about half a millisecond, 10 times as long as its start.
 const LARGE_CIRCUIT: u32 = 1 << 10;
+
+/// The number of workers from which on two threads make the lists of classes, beside those that
+/// make the flat arrays.
+const WORKERS_FOR_LISTS: u32 = 4;
 
 /// An error of making a job.
 #[derive(Clone, Copy, Debug, PartialEq, Eq, Error)]
@@ -595,6 +601,39 @@ impl Job {
     }
 }
 
+/// A runtime for a thread that can't borrow the one of the thread that started it.
+#[derive(Drop)]
+struct Lent<R> {
+    of: PhantomData<R>,
+}
+
+impl<R> Lent<R> {
+    fn new() -> Lent<R> {
+        Lent { of: PhantomData }
+    }
+}
+
+impl<R: Threads> Threads for Lent<R> {}
+
+impl<R: Wait> Wait for Lent<R> {}
+
+/// Makes the lists of the classes of a circuit under a model, with a second thread if there are
+/// enough workers.
+fn lists_beside<R: Threads + Wait>(
+    alloc: Global,
+    circuit: &Circuit,
+    model: fault_model::Model,
+    workers: u32,
+) -> Result<ClassLists, AllocError>
+    ensures lists { IfOk result (λ lists. AreClassLists circuit.now lists) }
+    ensures model { IfOk result (λ lists. lists.faults.model ≡ model) }
+{
+    if workers < WORKERS_FOR_LISTS {
+        return class_lists_under(alloc, circuit, model);
+    }
+    class_lists_under_in_threads(&Lent::<R>::new(), alloc, circuit, model)
+}
+
 /// Makes the flat arrays of a circuit and the lists of its classes under a model. If the circuit is
 /// large, and there is a second worker, a thread makes the lists at the same time.
 fn rows_and_lists<R: Threads + Wait>(
@@ -614,7 +653,7 @@ fn rows_and_lists<R: Threads + Wait>(
     }
     let (lists, rows) = thread::join(
         rt,
-        move || class_lists_under(alloc, circuit, model),
+        move || lists_beside::<R>(alloc, circuit, model, workers),
         move || flat_rows_in_threads(rt, alloc, circuit, workers - 1),
     );
     (rows, lists)

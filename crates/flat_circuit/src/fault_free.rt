@@ -1,6 +1,6 @@
 //! The fault-free words of all signals, computed in one thread or in several.
 
-ghost use Rattle.std.specs.Prelude.{◌≡◌, ◌+◌, ◌≤◌, All, IfOk, length, map};
+ghost use Rattle.std.specs.Prelude.{◌≡◌, ◌+◌, ◌<◌, ◌≤◌, All, IfOk, length, map};
 ghost use Rattle.bench_net.specs.Scan.{sources};
 ghost use Rattle.flat_circuit.specs.GroupRows.{AreOwnRows, AreRowsFrom, HasRows, AreFaultFree};
 ghost use Rattle.flat_circuit.specs.BlockSpans.{groups};
@@ -51,8 +51,9 @@ pub fn fault_free_rows(
 }
 
 /// Returns the rows of [`fault_free_rows`], computed by at most as many threads as there are
-/// workers. Each thread takes four groups at a time. If a thread doesn't start, the others compute
-/// its rows, or the caller's thread. Only the caller's thread computes a job of few words.
+/// workers. Each thread takes some groups at a time ([`step_of`]). If a thread doesn't start, the
+/// others compute its rows, or the caller's thread. Only the caller's thread computes a job of few
+/// words.
 pub fn fault_free_rows_in_threads<R: Threads + Wait>(
     rt: &R,
     alloc: Global,
@@ -88,6 +89,13 @@ fn threads_for(signals: u32, groups: u32, workers: u32) -> u32 {
     let worth = u64::from(signals) * u64::from(groups) / WORDS_OF_A_THREAD;
     let most = workers.min(groups).min(MAX_THREADS);
     u64::from(most).min(worth) as u32
+}
+
+/// Returns how many groups a thread takes at a time: those of a pass, or its share if that is less.
+fn step_of(groups: u32, threads: u32) -> u32
+    ensures { 0 < result }
+{
+    groups.div_ceil(threads.max(1)).clamp(1, GROUPS_OF_A_PASS)
 }
 
 /// Returns the words of the groups from one up to another, which is not included. One pass computes
@@ -193,32 +201,34 @@ impl Promise<Result<Vec<GroupRows>, AllocError>> for WordsOf {
     ghost kept_by = { λ p r. HasRows p.circuit.value.arranged p.tests.value.tests r };
 }
 
-/// Does the work of one thread: computes the words of the next four groups that no thread has taken,
-/// as long as there are some.
+/// Does the work of one thread: computes the words of the next `step` groups that no thread has
+/// taken, as long as there are some.
 fn take_groups(
     alloc: Global,
     circuit: &FlatCircuit,
     tests: &Tests,
     next: &AtomicU32,
+    step: u32,
 ) -> Result<Vec<GroupRows>, AllocError>
     requires width { tests.now.width ≡ length (sources circuit.now.statements) }
+    requires step { 0 < step }
     ensures { HasRows circuit.now.arranged tests.now.tests result }
 {
     let count = groups_of(tests);
     let mut taken = Vec::new(alloc);
-    for _pass in 0..count.div_ceil(GROUPS_OF_A_PASS) {
-        let first = next.fetch_add(GROUPS_OF_A_PASS, Ordering::Relaxed);
+    for _pass in 0..count.div_ceil(step) {
+        let first = next.fetch_add(step, Ordering::Relaxed);
         if first >= count {
             break;
         }
-        let end = first + GROUPS_OF_A_PASS.min(count - first);
+        let end = first + step.min(count - first);
         let rows = rows_between(alloc, circuit, tests, first, end)?;
         taken.push(GroupRows { first, rows })?;
     }
     Ok(taken)
 }
 
-/// Computes the words of the groups in this number of threads, which take four groups at a time, so
+/// Computes the words of the groups in this number of threads, which take some groups at a time, so
 /// that all end at about the same time. If a thread doesn't start, no further one is started.
 fn share_groups<R: Threads + Wait>(
     rt: &R,
@@ -233,11 +243,13 @@ fn share_groups<R: Threads + Wait>(
 {
     let next = AtomicU32::new(0);
     let next = &next;
+    let step = step_of(groups_of(tests), threads);
     thread::scope(
         thread::scope_env(),
         rt,
         |scope| -> Result<Vec<Result<Vec<GroupRows>, AllocError>>, AllocError>
             requires width { tests.now.width ≡ length (sources circuit.now.statements) }
+            requires step { 0 < step }
             ensures { IfOk result (λ parts. All (HasRows circuit.entry.now.arranged
                 tests.entry.now.tests) parts.items) }
         {
@@ -249,7 +261,7 @@ fn share_groups<R: Threads + Wait>(
                 };
                 let Ok(handle) = scope.spawn_with(
                     promised,
-                    move || take_groups(alloc, circuit, tests, next),
+                    move || take_groups(alloc, circuit, tests, next, step),
                 ) else {
                     break;
                 };
