@@ -47,7 +47,7 @@ impl<R: Wait> Wait for OneWorker<R> {}
 
 /// Makes the job of a bench file under a model, with no tests, and reads the tests for it from a
 /// file of `size` bytes, of which only two pieces at a time are in memory
-/// ([`read_tests_in_pieces`]). It takes at most as many threads as there are workers.
+/// ([`read_tests_in_pieces`]). At most one thread more than there are workers reads.
 ///
 /// It returns `None` if there is an error in a file, the tests can't be read so, or memory runs
 /// out.
@@ -79,7 +79,8 @@ where
 }
 
 /// Makes the job of a bench file and then reads the tests, with all workers. If the bench file is
-/// long, it does both at the same time: one worker reads the tests, and the others make the job.
+/// long, it does both at the same time: a further thread reads the tests, which takes no longer
+/// than the job, while the workers make this.
 fn read_both<R: Threads + Wait, F: Read + Send>(
     rt: &R,
     alloc: Global,
@@ -110,7 +111,7 @@ where
     let (tests, job) = thread::join(
         rt,
         move || read_tests_in_pieces(&OneWorker::<R>::new(), alloc, file, most, SMALL_PIECE, 1),
-        move || job_without_tests(rt, alloc, model, bench, workers - 1),
+        move || job_without_tests(rt, alloc, model, bench, workers),
     );
     (job, tests)
 }

@@ -13,9 +13,9 @@ use std::sync::Wait;
 use std::thread;
 use std::thread::{Promise, Threads};
 
-/// The greatest number of faults of a stretch. A thread puts their lines together in a few times
-/// the time of its start, and they take about 200 kB.
-const FAULTS_OF_A_STRETCH: u32 = 1 << 13;
+/// The greatest number of faults of a stretch. A thread puts their lines together in some ten times
+/// the time of its start, and they take about 400 kB.
+const FAULTS_OF_A_STRETCH: u32 = 1 << 14;
 
 /// The greatest number of threads that put lines together.
 const MAX_THREADS: u32 = 64;
