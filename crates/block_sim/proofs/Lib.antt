@@ -11,7 +11,6 @@ mod FirstChange
 mod ScheduledGates
 mod SeenLanes
 mod SettledLanes
-mod LevelCount
 mod FaultStart
 mod Outcomes
 mod DetectingTests

@@ -1,5 +1,6 @@
 -- Lemmas on outcomes: there is a true table, each outcome is unique, and each test detects or
--- doesn't. Then those of a simulation's parts, by topic. Proofs of the crates above cite only these.
+-- doesn't. Then those of a simulation's parts, by topic. Proofs of the crates above cite only
+-- these.
 pub use Rattle.block_sim.proofs.LawOfTable.{least_is_first}
 pub use Rattle.block_sim.proofs.TrueTable.{one_outcome, true_table, which_detect}
 -- ---- words and the solutions of a circuit

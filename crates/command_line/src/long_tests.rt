@@ -66,8 +66,9 @@ fn split_of(form: Form) -> Option<Split>
 }
 
 /// Runs the command line with its test file read piece by piece, and writes the output. Returns the
-/// results, or `None`, with nothing written: if the file isn't long, if the form of the output wants
-/// its bytes, or if it can't be read so, because of an error in a file, or rows that are not alike.
+/// results, or `None`, with nothing written: if the file isn't long, if the form of the output
+/// wants its bytes, or if it can't be read so, because of an error in a file, or rows that are not
+/// alike.
 pub(crate) fn write_of_long_tests<'a, R: Threads + Wait, S: Source, W: Out, E: Out + Send>(
     rt: &R,
     alloc: Global,

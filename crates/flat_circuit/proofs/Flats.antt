@@ -280,8 +280,8 @@ rows_joined c from middle pins next_pins readers next_readers rows next moved co
     go : (slice_get rows i ≡ Some row)
         ⊎ ((j : ℕ) × (i ≡ length rows + j) × (slice_get moved j ≡ Some row))
         → IsRow c (pins ++ next_pins) (readers ++ next_readers) (from + i) row
-    go (inl h) = row_kept c pins (pins ++ next_pins) readers (readers ++ next_readers) (from + i) row
-        (next_pins, refl) (next_readers, refl) (before i row h)
+    go (inl h) = row_kept c pins (pins ++ next_pins) readers (readers ++ next_readers) (from + i)
+        row (next_pins, refl) (next_readers, refl) (before i row h)
     go (inr h) =
         let own = by.each h.0 row h.2 in
         let here : middle + h.0 ≡ from + i = omega (arith, h.1, count) in

@@ -157,8 +157,8 @@ impl Simulation {
         self.changes.evaluations
     }
 
-    /// Returns the outcome of a class on a block of the job, as [`block_sim::simulate`] does. It takes
-    /// no memory.
+    /// Returns the outcome of a class on a block of the job, as [`block_sim::simulate`] does. It
+    /// takes no memory.
     ///
     /// It follows classes of the region, including this one, that have no memo on the block before
     /// the call and have one after it. From the third block on it simulates two blocks at once. At

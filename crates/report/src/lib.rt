@@ -5,8 +5,8 @@
 //! fault coverage, by workers in threads. [`schedule_text`] writes the same in one thread, which
 //! makes the moves of an order file. [`faults_text`] lists the faults with their classes. All write
 //! to an [`Out`], and their contracts define the bytes. The crate `part_files` writes part files,
-//! with lines by [`put_fault_line`] and [`put_coverage`], and the crate `analysis_reports` reports of
-//! counts and reasons.
+//! with lines by [`put_fault_line`] and [`put_coverage`], and the crate `analysis_reports` reports
+//! of counts and reasons.
 #![tactic(auto)]
 
 mod contents;

@@ -56,8 +56,8 @@ pub fn simulate_text_watched<R: Threads + Wait, G: Watch + Sync, W: Out>(
 /// Runs a job in a number of parts by workers in threads of their own, and writes its report. It
 /// calls the gate when the run begins and when all is settled.
 ///
-/// It is the second half of [`simulate_text_watched`], for a job that stands: such as that of a test
-/// file that was read piece by piece ([`job_loading::split_run_in_pieces`]). It fails as
+/// It is the second half of [`simulate_text_watched`], for a job that stands: such as that of a
+/// test file that was read piece by piece ([`job_loading::split_run_in_pieces`]). It fails as
 /// [`job_loading::RunJob::run`] does, or for the output.
 pub fn write_report_of_run<R: Threads + Wait, G: Watch + Sync, W: Out>(
     rt: &R,

@@ -1,7 +1,7 @@
 //! The lines of a fault list, which threads put together.
 //!
-//! [`FaultLines`] has the line of each fault. [`put_in_threads`] writes the lines in the order of the
-//! list, for the reports of the crates above: threads put the lines of stretches of the list
+//! [`FaultLines`] has the line of each fault. [`put_in_threads`] writes the lines in the order of
+//! the list, for the reports of the crates above: threads put the lines of stretches of the list
 //! together.
 #![tactic(auto)]
 

@@ -13,7 +13,8 @@ loop-row-preserved c =
           ∙ (ap (λ l. l ++ row ∷ []) was.is
           ∙ append_assoc c.args.rows.now.items was.moved (row ∷ []));
       count = length_push was.moved row ∙ ap (λ n. n + 1) was.count;
-      each = moved_more c.in_ok-pins.pins c.in_ok-readers.readers c.args.next.now was.moved c.loop-row.row-index _
-          row was.count (read_at c.args.next.now c.loop-row.row-index _ c.loop-row-test.true)
+      each = moved_more c.in_ok-pins.pins c.in_ok-readers.readers c.args.next.now was.moved
+          c.loop-row.row-index _ row was.count
+          (read_at c.args.next.now c.loop-row.row-index _ c.loop-row-test.true)
           c.in_ok-after.ensures was.each;
     }

@@ -12,8 +12,8 @@ loop-owner-preserved c =
     record {
       count = c.in_ok-push.ensures.len ∙ ap (λ n. n + 1) before.count;
       each = λ i share at.
-          push_each (λ k s. IsShareFor c.args.job.now c.args.owners.now k s) c.loop-owner.shares.items
-          c.in_ok-new.field-0 before.each
+          push_each (λ k s. IsShareFor c.args.job.now c.args.owners.now k s)
+          c.loop-owner.shares.items c.in_ok-new.field-0 before.each
           (subst (λ k. IsShareFor c.args.job.now c.args.owners.now k c.in_ok-new.field-0) place
           c.in_ok-new.ensures) i share
           (subst (λ xs. slice_get xs i ≡ Some share) c.in_ok-push.ensures.items at);

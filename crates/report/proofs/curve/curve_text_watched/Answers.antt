@@ -19,7 +19,8 @@ pub returns-clause-written : goal.returns-clause-written
 returns-clause-written g c =
     let job = c.in_ok-run.run'.parts in
     written_as (IsCurveOfJob job) (IsCurveOf c.args.model c.args.bench.now c.args.tests.now)
-    c.write_curve_of_run.result _ _ (curve_of_texts c.args.model c.args.bench.now c.args.tests.now job
+    c.write_curve_of_run.result _ _ (curve_of_texts c.args.model c.args.bench.now c.args.tests.now
+    job
     c.in_ok-run.ensures.job) c.write_curve_of_run.ensures.written
 
 pub returns-clause-refused : goal.returns-clause-refused
@@ -44,7 +45,8 @@ returns-clause-within g c =
     let job = c.in_ok-run.run'.parts in
     let parts = c.in_ok-run.parts in
     ok_as (ArePartsWithin job parts)
-    (IsWithin c.args.model c.args.bench.now c.args.tests.now c.args.split) c.write_curve_of_run.result
+    (IsWithin c.args.model c.args.bench.now c.args.tests.now c.args.split)
+    c.write_curve_of_run.result
     (split_within c.args.model c.args.bench.now c.args.tests.now c.args.split parts c.args.workers
     job c.in_ok-run.ensures.job c.in_ok-run.ensures.parts)
     c.write_curve_of_run.ensures.within

@@ -29,7 +29,8 @@ returns-clause-refused g c =
     (IsPartsFault job parts c.args.workers passing stops))
     (IsWatchedFault c.args.model c.args.bench.now c.args.tests.now c.args.split c.args.workers
     passing stops)
-    c.write_report_of_run.result (split_fault c.args.model c.args.bench.now c.args.tests.now c.args.split
+    c.write_report_of_run.result (split_fault c.args.model c.args.bench.now c.args.tests.now
+    c.args.split
     parts c.args.workers passing stops job c.in_ok-run.ensures.job c.in_ok-run.ensures.parts)
     c.write_report_of_run.ensures.refused
 
@@ -38,7 +39,8 @@ returns-clause-within g c =
     let job = c.in_ok-run.run'.parts in
     let parts = c.in_ok-run.parts in
     ok_as (ArePartsWithin job parts)
-    (IsWithin c.args.model c.args.bench.now c.args.tests.now c.args.split) c.write_report_of_run.result
+    (IsWithin c.args.model c.args.bench.now c.args.tests.now c.args.split)
+    c.write_report_of_run.result
     (split_within c.args.model c.args.bench.now c.args.tests.now c.args.split parts c.args.workers
     job c.in_ok-run.ensures.job c.in_ok-run.ensures.parts)
     c.write_report_of_run.ensures.within

@@ -24,7 +24,8 @@ returns-clause-refused g c =
     refused_as (IsJobTextFault c.args.workers (IsPartsFault job parts c.args.workers passing stops))
     (IsWatchedFault c.args.model c.args.bench.now c.args.tests.now c.args.split c.args.workers
     passing stops)
-    c.write_curve_table_of_run.result (split_text_fault c.args.model c.args.bench.now c.args.tests.now
+    c.write_curve_table_of_run.result (split_text_fault c.args.model c.args.bench.now
+    c.args.tests.now
     c.args.split parts c.args.workers passing stops job c.in_ok-run.ensures.job
     c.in_ok-run.ensures.parts)
     c.write_curve_table_of_run.ensures.refused
@@ -44,7 +45,8 @@ returns-clause-within g c =
     let job = c.in_ok-run.run'.parts in
     let parts = c.in_ok-run.parts in
     ok_as (ArePartsWithin job parts)
-    (IsWithin c.args.model c.args.bench.now c.args.tests.now c.args.split) c.write_curve_table_of_run.result
+    (IsWithin c.args.model c.args.bench.now c.args.tests.now c.args.split)
+    c.write_curve_table_of_run.result
     (split_within c.args.model c.args.bench.now c.args.tests.now c.args.split parts c.args.workers
     job c.in_ok-run.ensures.job c.in_ok-run.ensures.parts)
     c.write_curve_table_of_run.ensures.within

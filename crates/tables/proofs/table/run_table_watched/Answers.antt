@@ -43,7 +43,8 @@ returns-clause-within g c =
     let job = c.in_ok-run.run'.parts in
     let parts = c.in_ok-run.parts in
     ok_as (ArePartsWithin job parts)
-    (IsWithin c.args.model c.args.bench.now c.args.tests.now c.args.split) c.write_table_of_run.result
+    (IsWithin c.args.model c.args.bench.now c.args.tests.now c.args.split)
+    c.write_table_of_run.result
     (split_within c.args.model c.args.bench.now c.args.tests.now c.args.split parts c.args.workers
     job c.in_ok-run.ensures.job c.in_ok-run.ensures.parts)
     c.write_table_of_run.ensures.within
