@@ -41,10 +41,8 @@ pub fn class_lists(
     ensures faults { IfOk result (λ lists. lists.faults ≡ faults) }
     ensures classes { IfOk result (λ lists. lists.classes ≡ classes) }
 {
-    let signals = circuit.signals();
-    let stems = class_stems(alloc, circuit, &faults, &classes)?;
+    let (stems, next_in_region) = stems_and_circles(alloc, circuit, &faults, &classes)?;
     let representatives = representatives_of(alloc, circuit, &faults, &classes)?;
-    let next_in_region = next_with_stem(alloc, stems.as_slice(), signals)?;
     Ok(ClassLists {
         faults,
         classes,
@@ -108,6 +106,21 @@ fn class_lists_in_threads<R: Threads + Wait>(
     })
 }
 
+/// Lists the faults of a circuit under a model, and collapses them.
+fn faults_and_classes(
+    alloc: Global,
+    circuit: &Circuit,
+    model: Model,
+) -> Result<(Faults, Classes), AllocError>
+    ensures model { IfOk result (λ r. r.0.model ≡ model) }
+    ensures list { IfOk result (λ r. r.0 ≡ fault_list r.0.model circuit.now) }
+    ensures classes { IfOk result (λ r. AreClassesOf r.0.model circuit.now r.1) }
+{
+    let faults = list_faults_in(alloc, circuit, model)?;
+    let classes = collapse(alloc, circuit, &faults)?;
+    Ok((faults, classes))
+}
+
 /// Lists the faults of a circuit under a model, collapses them, and makes the lists of the classes.
 pub fn class_lists_under(
     alloc: Global,
@@ -117,8 +130,7 @@ pub fn class_lists_under(
     ensures lists { IfOk result (λ lists. AreClassLists circuit.now lists) }
     ensures model { IfOk result (λ lists. lists.faults.model ≡ model) }
 {
-    let faults = list_faults_in(alloc, circuit, model)?;
-    let classes = collapse(alloc, circuit, &faults)?;
+    let (faults, classes) = faults_and_classes(alloc, circuit, model)?;
     class_lists(alloc, circuit, faults, classes)
 }
 
@@ -132,7 +144,6 @@ pub fn class_lists_under_in_threads<R: Threads + Wait>(
     ensures lists { IfOk result (λ lists. AreClassLists circuit.now lists) }
     ensures model { IfOk result (λ lists. lists.faults.model ≡ model) }
 {
-    let faults = list_faults_in(alloc, circuit, model)?;
-    let classes = collapse(alloc, circuit, &faults)?;
+    let (faults, classes) = faults_and_classes(alloc, circuit, model)?;
     class_lists_in_threads(rt, alloc, circuit, faults, classes)
 }
