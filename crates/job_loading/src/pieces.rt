@@ -47,7 +47,7 @@ impl<R: Wait> Wait for OneWorker<R> {}
 
 /// Makes the job of a bench file under a model, with no tests, and reads the tests for it from a
 /// file of `size` bytes, of which only two pieces at a time are in memory
-/// ([`read_tests_in_pieces`]). At most one thread more than there are workers reads.
+/// ([`read_tests_in_pieces`]). At most as many threads as there are workers read.
 ///
 /// It returns `None` if there is an error in a file, the tests can't be read so, or memory runs
 /// out.
@@ -79,8 +79,8 @@ where
 }
 
 /// Makes the job of a bench file and then reads the tests, with all workers. If the bench file is
-/// long, it does both at the same time: a further thread reads the tests, which takes no longer
-/// than the job, while the workers make this.
+/// long, it does both at the same time: one worker reads the tests, and the others the bench file.
+/// All make the job, since by then the tests have mostly been read.
 fn read_both<R: Threads + Wait, F: Read + Send>(
     rt: &R,
     alloc: Global,
@@ -100,7 +100,7 @@ where
 {
     let most = u32::try_from(bench.len() / BYTES_OF_A_SOURCE).unwrap_or(u32::MAX);
     if workers < WORKERS_APART || !is_long(bench.len()) {
-        let job = job_without_tests(rt, alloc, model, bench, workers);
+        let job = job_without_tests(rt, alloc, model, bench, workers, workers);
         let piece = if workers < 2 { SMALL_PIECE } else { PIECE };
         let tests = read_tests_in_pieces(rt, alloc, file, most, piece, workers);
         return (job, tests);
@@ -111,7 +111,7 @@ where
     let (tests, job) = thread::join(
         rt,
         move || read_tests_in_pieces(&OneWorker::<R>::new(), alloc, file, most, SMALL_PIECE, 1),
-        move || job_without_tests(rt, alloc, model, bench, workers),
+        move || job_without_tests(rt, alloc, model, bench, workers - 1, workers),
     );
     (job, tests)
 }
@@ -147,19 +147,21 @@ where
     (job, tests)
 }
 
-/// Makes the job of a bench file under a model, with no tests, in at most as many threads as there
-/// are workers. Returns `None` if there is an error in the file, or memory runs out.
+/// Makes the job of a bench file under a model, with no tests: at most `readers` threads read the
+/// file, and at most `workers` threads make the job. Returns `None` if there is an error in the
+/// file, or memory runs out.
 fn job_without_tests<R: Threads + Wait>(
     rt: &R,
     alloc: Global,
     model: Model,
     bench: &[u8],
+    readers: u32,
     workers: u32,
 ) -> Option<Job>
     ensures accepted { IfSome result (λ job. IsAccepted bench.now job.circuit) }
     ensures model { IfSome result (λ job. job.list.model ≡ model) }
 {
-    match read_bench_in_threads(rt, alloc, bench, workers) {
+    match read_bench_in_threads(rt, alloc, bench, readers) {
         Ok(circuit) => job_of_circuit(rt, alloc, model, circuit, workers),
         Err(_) => None,
     }
