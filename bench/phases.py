@@ -1,7 +1,7 @@
 #!/usr/bin/env python3
 """Tells what share of a run each of its phases takes, by the samples of perf.
 
-    bench/phases.py [--program FILE] [--workers N ..] [--only NAME] [--rounds N] [--folder F]
+    bench/phases.py [--program FILE ..] [--workers N ..] [--only NAME] [--rounds N] [--folder F] [--clock]
 
 For each case it runs the program under `perf record` with each number of workers, and prints for each
 phase the milliseconds of processor time of the thread that starts the program, and of the other
@@ -14,6 +14,11 @@ It also prints how long the simulation took by the clock: from the first sample 
 function of the simulation (SIMULATION) to the last, the least of all rounds. This time is only right
 on a quiet machine.
 
+With --clock it prints the steps of a run by the clock in place of that: for each step (STEPS) the
+milliseconds from its first sample in any thread to that of the next step, the least and the median of
+all rounds. So it shows what one thread alone holds up. Give several programs to compare them: their
+runs take turns.
+
 It wants a program with symbols, such as `contrib/build -O 3` leaves in out/faultsim, which is the
 default. The circuits and tests are made in a temporary folder, or stay in the one that --folder names.
 """
@@ -21,6 +26,7 @@ default. The circuits and tests are made in a temporary folder, or stay in the o
 import argparse
 import pathlib
 import re
+import statistics
 import subprocess
 import sys
 import tempfile
@@ -55,6 +61,19 @@ PHASES = {
     "report": r"report::|analysis_reports::|threaded_lines::|part_files::|byte_output::|itoa::",
 }
 BEGIN = "start"
+# The steps of a run by the clock: each begins with the first sample in one of these functions.
+STEPS = {
+    "start, statements": r"",
+    "names": r"bench_net::number::add_names",
+    "numbers": r"bench_net::number::number_of",
+    "levels, sinks": r"bench_net::(tables|levels|sinks)::",
+    "faults, arrays": r"fault_model::faults::|flat_circuit::signal_order::",
+    "fault-free words": r"flat_circuit::(words|fault_free|four_words)::",
+    "order of classes": r"region_runs::class_order::",
+    "simulation": r"region_sim::|<region_sim",
+    "verdicts": r"region_runs::fault_firsts::",
+    "lines": r"threaded_lines::",
+}
 # The functions of a thread that simulates.
 SIMULATION = r"region_sim::(region_simulation|pack|unit_\w+|sensitized|known_\w+)::|region_runs::stretch_run::"
 # Threads read both files at the same time, so until the next phase each has the phase of its own functions.
@@ -108,6 +127,34 @@ def simulation(taken):
     return max(clocks) - min(clocks) if clocks else 0
 
 
+def steps(taken):
+    """The milliseconds of each step by the clock. A step without a sample takes none."""
+    first, end = min(it.clock for it in taken), max(it.clock for it in taken)
+    begins, later = {}, end
+    for name, words in reversed(STEPS.items()):
+        found = [it.clock for it in taken if re.match(words, it.symbol)] if words else [first]
+        begins[name] = min(found, default=later)
+        later = begins[name]
+    starts = [begins[name] for name in STEPS]
+    return dict(zip(STEPS, (late - early for early, late in zip(starts, [*starts[1:], end]))))
+
+
+def tell_steps(case, workers, programs, folder, options):
+    """Runs the programs in turn, and prints the least and the median of each step."""
+    found = {program: [] for program in programs}
+    for _ in range(options.rounds):
+        for program in programs:
+            words = words_of(case, folder, program.resolve(), workers)
+            found[program].append(steps(recorded(words, folder)))
+    print(f"{case.name}, {case.title}, {workers} workers, by the clock")
+    for program, rounds in found.items():
+        whole = [sum(it.values()) for it in rounds]
+        print(f"  {program}: {min(whole):.1f} at least, {statistics.median(whole):.1f} in the median")
+        for name in STEPS:
+            took = [it[name] for it in rounds]
+            print(f"    {name:20} {min(took):8.1f} {statistics.median(took):8.1f}", flush=True)
+
+
 def recorded(words, folder):
     data = folder / "perf.data"
     command = ["perf", "record", "-q", "-F", "5000", "-e", "cpu-clock", "-o", str(data), "--", *words]
@@ -158,7 +205,8 @@ def words_of(case, folder, program, workers):
 
 def main():
     parser = argparse.ArgumentParser(description=__doc__, formatter_class=argparse.RawDescriptionHelpFormatter)
-    parser.add_argument("--program", type=pathlib.Path, default=HERE.parent / "out" / "faultsim")
+    parser.add_argument("--program", type=pathlib.Path, nargs="+", default=[HERE.parent / "out" / "faultsim"])
+    parser.add_argument("--clock", action="store_true")
     parser.add_argument("--workers", type=int, nargs="+", default=[1, 4])
     parser.add_argument("--only", default="")
     parser.add_argument("--rounds", type=int, default=3)
@@ -170,7 +218,10 @@ def main():
             if options.only and options.only != case.name:
                 continue
             for workers in options.workers if case.tests else [1]:
-                words = words_of(case, folder, options.program.resolve(), workers)
+                if options.clock:
+                    tell_steps(case, workers, options.program, folder, options)
+                    continue
+                words = words_of(case, folder, options.program[0].resolve(), workers)
                 own, others, span = measure(words, options, pathlib.Path(name))
                 told(case, workers, own, others, span)
 
