@@ -42,6 +42,11 @@ pub struct Lines {
     pub at: Vec<u64>,
 }
 
+/// The number of bytes of a text for each statement that it gets room for at first. Most lines have
+/// more. Threads that make room step by step wait for each other, and room that isn't used takes no
+/// memory.
+const BYTES_OF_A_STATEMENT: usize = 24;
+
 /// Returns the statements of a text that follows this number of lines, each with the number of its
 /// line.
 pub fn read_statements<'a>(
@@ -55,7 +60,7 @@ pub fn read_statements<'a>(
         AreStatedFrom (before + 1) (lines text.now) (entries_of stated.items)) }
     ensures refused { before ≡ 0 → IfErr result (MayBe text.now) }
 {
-    let mut stated = Vec::new(alloc);
+    let mut stated = Vec::with_capacity(alloc, text.len() / BYTES_OF_A_STATEMENT)?;
     let mut number = before;
     for line in text.split(|byte| *byte == b'\n') {
         number += 1;

@@ -204,7 +204,7 @@ fn number_ends(
         (representatives list.now.model circuit.now)) }
 {
     let mut class_of = Vec::with_capacity(alloc, list.count() as usize)?;
-    let mut representative = Vec::new(alloc);
+    let mut representative = Vec::with_capacity(alloc, list.count() as usize)?;
     for fault in 0..list.count() {
         class_of.push(representative.len() as u32)?;
         if next_in(circuit, list, nexts, fault).is_none() {

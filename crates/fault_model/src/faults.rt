@@ -86,6 +86,9 @@ impl Faults {
     }
 }
 
+/// The number of lines for each signal that a list gets room for at first. Most circuits have fewer.
+const LINES_OF_A_SIGNAL: usize = 4;
+
 /// Lists the stuck-at faults of a circuit: [`list_faults_in`] with [`crate::Model::StuckAt`].
 ///
 /// # Errors
@@ -111,8 +114,9 @@ pub fn list_faults_in(
 ) -> Result<Faults, AllocError>
     ensures { IfOk result (λ list. list ≡ fault_list model circuit.now) }
 {
-    let mut lines = Vec::new(alloc);
-    let mut stems = Vec::new(alloc);
+    let signals = circuit.signals() as usize;
+    let mut lines = Vec::with_capacity(alloc, LINES_OF_A_SIGNAL * signals)?;
+    let mut stems = Vec::with_capacity(alloc, signals)?;
     for signal in 0..circuit.signals() {
         stems.push(lines.len() as u32)?;
         lines.push(Line::Stem(signal))?;

@@ -469,8 +469,12 @@ fn lists_in_halves<R: Threads + Wait>(
     join_lists(first?, rest?)
 }
 
+/// The number of pins for each signal that lists get room for at first. Most circuits have fewer.
+pub(crate) const PINS_OF_A_SIGNAL: usize = 3;
+
 /// Returns the lists of the signals at the places from one up to another, which is not included. A
-/// circuit has an order of its signals, the place of each, and whether it is live.
+/// circuit has an order of its signals, the place of each, and whether it is live. The lists have
+/// room for those of all later places, too.
 fn lists_between(
     alloc: Global,
     circuit: &Circuit,
@@ -492,10 +496,12 @@ fn lists_between(
         places,
         live,
     };
-    let mut rows = Vec::with_capacity(alloc, end - from)?;
-    let mut standings = Vec::with_capacity(alloc, end - from)?;
-    let mut pins = Vec::new(alloc);
-    let mut readers = Vec::new(alloc);
+    let room = order.len() - from;
+    let pin_room = room.saturating_mul(PINS_OF_A_SIGNAL);
+    let mut rows = Vec::with_capacity(alloc, room)?;
+    let mut standings = Vec::with_capacity(alloc, room)?;
+    let mut pins = Vec::with_capacity(alloc, pin_room)?;
+    let mut readers = Vec::with_capacity(alloc, pin_room)?;
     for place in from..end {
         let signal = order[place];
         let row = add_row(placed, signal, &mut pins, &mut readers)?;

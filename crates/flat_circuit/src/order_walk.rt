@@ -11,6 +11,7 @@ ghost use Rattle.bench_net.specs.Circuit.{IsCircuit};
 ghost use Rattle.bench_net.specs.Scan.{names};
 ghost use Rattle.flat_circuit.specs.SignalOrder.{IsWalk};
 
+use crate::flat::PINS_OF_A_SIGNAL;
 use bench_net::Circuit;
 use std::alloc::{AllocError, Global};
 
@@ -84,7 +85,8 @@ fn pin_rows(alloc: Global, circuit: &Circuit) -> Result<PinRows, AllocError>
 {
     let signals = circuit.signals();
     let mut starts = Vec::with_capacity(alloc, signals as usize + 1)?;
-    let mut pins = Vec::new(alloc);
+    let room = (signals as usize).saturating_mul(PINS_OF_A_SIGNAL);
+    let mut pins = Vec::with_capacity(alloc, room)?;
     for signal in 0..signals {
         starts.push(u32::try_from(pins.len()).unwrap_or(u32::MAX))?;
         pins.extend_from_slice(pins_of(circuit, signal))?;

@@ -19,8 +19,8 @@ loop-line-preserved c =
     (omega (arith, c.loop-line.invariant.0)) c.loop-line.invariant.1 read in
     (grind (arith, common_steps), rw append-nil at more)
 
-pub loop-line-preserved-in-Continue-branch-3 : goal.loop-line-preserved-in-Continue-branch-3
-loop-line-preserved-in-Continue-branch-3 c =
+pub loop-line-preserved-in-Continue-branch-4 : goal.loop-line-preserved-in-Continue-branch-4
+loop-line-preserved-in-Continue-branch-4 c =
     let read =
     rw (c.without_carriage_return.ensures, c.in-Some-2.is) at c.in_ok-statement.ensures in
     let more = given_more c.loop-line.yielded c.in-Some.line (c.loop-line.number + 1)
@@ -35,7 +35,7 @@ returns-in_err-statement-clause-refused c =
     let turn = YieldsList-turn road c.loop-line.yielded _ c.loop-line.yielded_by _ _
     c.in-Some.line c.in-Some.is c.next.ensures.steps in
     let front = YieldsList-so_far road c.loop-line.yielded _ c.loop-line.yielded_by in
-    let p = err_from_is_err_and c.from_residual.result c.from_residual.ensures.1 in
+    let p = err_from_is_err_and c.from_residual-in_err-statement.result c.from_residual-in_err-statement.ensures.1 in
     let number : c.args.before ≡ 0 → c.loop-line.number + 1 ≡ suc (length c.loop-line.yielded) =
     λ top. omega (arith, top, c.loop-line.invariant.0) in
     λ top. rw (p.1, p.2) (may_be c.args.text.now (Syntax (c.loop-line.number + 1)) _ _
