@@ -1,18 +1,12 @@
 -- The windows of a run, one after another.
 use Rattle.std.proofs.Common.{◌≡◌, ◌<◌, ◌≤◌, ◌+◌, ◌*◌, ◌∙◌, ℕ, List, ap, arith, length, min, sym}
 use Rattle.std.proofs.lemmas.Grind.{div_ceil_times}
-use Rattle.std.proofs.Math.Nat.{le-min, min-eq_left, min-eq_right, mul-le-mul_right}
+use Rattle.std.proofs.Math.Nat.{min-eq_left, min-eq_right, mul-le-mul_right}
 use Rattle.std.specs.Int.{div_ceil}
 use Rattle.bench_net.specs.Scan.{sources}
 use Rattle.patterns.specs.Tests.{IsTestList, TestList}
 use Rattle.block_sim.specs.Parts.{BelongTogether, Parts, with_tests}
 use Rattle.region_runs.specs.Part.{AreAllByRegion, ArePartOf}
-
--- windows go on by some blocks
-pub some_step : (window step : ℕ) → 0 < window → step ≡ min window 1024 → 0 < step
-some_step window step some is =
-    let low : 1 ≤ min window 1024 = le-min (omega (arith, some)) (omega arith) in
-    omega (arith, low, is)
 
 -- a window that there is begins before the last block
 pub step_within : (blocks step number : ℕ) → 0 < step → number < div_ceil blocks step

@@ -88,7 +88,7 @@ fn of_part(
 }
 
 /// Returns the visit to the region of each class, by the class's number.
-fn visits_of(alloc: Global, job: &Job) -> Result<Vec<u32>, AllocError>
+pub(crate) fn visits_of(alloc: Global, job: &Job) -> Result<Vec<u32>, AllocError>
     ensures visits { IfOk result (λ visits. AreVisits job.now visits.items) }
     ensures few { IfOk result (λ visits. length visits.items < 2 ^ 32) }
 {

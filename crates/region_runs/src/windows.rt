@@ -5,15 +5,16 @@
 //! then those that no test detects yet on the next, and so on.
 
 ghost use Rattle.std.specs.Prelude.{◌≡◌, ◌⊎◌, ◌<◌, ◌≤◌, ◌+◌, ◌*◌, ◌^◌, All, IfErr, IfOk};
-ghost use Rattle.std.specs.Prelude.{[], List, OnOk, Option};
+ghost use Rattle.std.specs.Prelude.{[], IsTrue, List, OnOk, Option};
 ghost use Rattle.std.specs.Prelude.{⊤, ℕ, length, map, min, slice_index_or, zip};
 ghost use Rattle.bench_net.specs.Scan.{sources};
 ghost use Rattle.patterns.specs.Tests.{IsTestList, TestList, blocks};
 ghost use Rattle.block_sim.specs.Parts.{with_tests};
+ghost use Rattle.counting_sort.specs.SortedPlaces.{AreSortedPlaces};
 ghost use Rattle.fault_ledger.specs.Seats.{ClosedFace};
 ghost use Rattle.workers.specs.Stops.{no_stop};
 ghost use Rattle.workers.specs.Verdict.{AreAfterHits, AreClassFirsts, AreFirsts};
-ghost use Rattle.region_runs.specs.Part.{AreClassVerdicts, ArePartVerdicts};
+ghost use Rattle.region_runs.specs.Part.{AreAllByRegion, AreClassVerdicts, ArePartVerdicts};
 ghost use Rattle.region_runs.specs.Refused.{ArePartsWithin, IsPartFault, IsPartsFault};
 ghost use Rattle.region_runs.specs.Refused.{IsPartWithin};
 ghost use Rattle.region_runs.specs.WindowLedgers.{AreFoundByLedger, AreOfWindows};
@@ -21,13 +22,14 @@ ghost use Rattle.region_runs.specs.WindowLedgers.{IsOfWindows, IsPartOfWindows, 
 ghost use Rattle.region_runs.specs.Windows.{AreFirstsBelow, AreWordsFrom, GoesOnFrom};
 ghost use Rattle.region_runs.specs.Windows.{IsWindowOf, advanced, moved};
 
-use crate::class_order::{all_classes, part_classes};
+use crate::class_order::{all_classes, part_classes, visits_of};
 use crate::parts::{
     PartVerdict, by_class, first_in, firsts_of_faults, gather, of_faults, skipped_after, verdict_on,
 };
 use crate::stretch_workers::no_firsts;
 use crate::stretches::{Cut, stretches_for};
 use block_sim::Job;
+use counting_sort::{SortedPlaces, sorted_places};
 use patterns::{BLOCK_SIZE, MAX_TESTS, Tests};
 use std::alloc::{AllocError, Global};
 use std::sync::Wait;
@@ -297,8 +299,98 @@ fn take_window<R: Threads + Wait>(
     Ok(())
 }
 
-/// Runs the classes of a list that have no first test yet on a window. Returns the first tests of
-/// all of them after it. The job has the tests of the window then.
+/// Gives a job the tests of a window as [`take_window`] does, unless it is ready: it has them.
+fn have_window<R: Threads + Wait>(
+    rt: &R,
+    alloc: Global,
+    job: &mut Job,
+    tests: &Tests,
+    window: Window,
+    ready: bool,
+    workers: u32,
+) -> Result<(), RunFault>
+    requires list { IsTestList tests.now }
+    requires width { tests.now.width ≡ length (sources job.old.circuit) }
+    requires window { (first : ℕ) × GoesOnFrom (blocks (length tests.now.tests)) first window }
+    requires ready { IsTrue ready → IsWindowOf tests.now.tests (64 * window.from)
+        (64 * window.end) job.old.tests.tests }
+    ensures tests { OnOk result (IsWindowOf tests.now.tests (64 * window.from)
+        (64 * window.end) job.new.tests.tests) }
+    ensures refused { IfErr result (λ fault. fault ≡ RunFault.Memory) }
+    ensures kept { job.new ≡ with_tests job.old job.new.tests }
+{
+    if ready {
+        return Ok(());
+    }
+    take_window(rt, alloc, job, tests, window, workers)
+}
+
+/// Returns all classes of a job in the order of [`crate::class_order::class_order`], and whether it
+/// has the tests of the first window now: with a second worker a thread sorts the classes while the
+/// job takes them.
+fn classes_and_window<R: Threads + Wait>(
+    rt: &R,
+    alloc: Global,
+    job: &mut Job,
+    tests: &Tests,
+    step: u32,
+    workers: u32,
+) -> Result<(Vec<u32>, bool), RunFault>
+    requires list { IsTestList tests.now }
+    requires width { tests.now.width ≡ length (sources job.old.circuit) }
+    requires step { (0 < step) × (step ≤ 2047) }
+    ensures classes { IfOk result (λ r. AreAllByRegion job.old r.0.items) }
+    ensures ready { IfOk result (λ r. IsTrue r.1 → IsWindowOf tests.now.tests 0
+        (64 * min step (blocks (length tests.now.tests))) job.new.tests.tests) }
+    ensures refused { IfErr result (λ fault. fault ≡ RunFault.Memory) }
+    ensures kept { job.new ≡ with_tests job.old job.new.tests }
+{
+    let blocks = tests.blocks();
+    if workers < 2 || blocks == 0 {
+        return Ok((all_classes(alloc, job)?, false));
+    }
+    let visits = visits_of(alloc, job)?;
+    let signals = job.circuit().signals();
+    let window = Window::new(0, step, blocks);
+    let (sorted, taken) = sort_and_take(rt, alloc, &visits, signals, job, tests, window, workers);
+    taken?;
+    let SortedPlaces {
+        places,
+        positions: _positions,
+    } = sorted?;
+    Ok((places, true))
+}
+
+/// Sorts keys below a bound while a job takes the tests of a window.
+fn sort_and_take<R: Threads + Wait>(
+    rt: &R,
+    alloc: Global,
+    keys: &[u32],
+    bound: u32,
+    job: &mut Job,
+    tests: &Tests,
+    window: Window,
+    workers: u32,
+) -> (Result<SortedPlaces, AllocError>, Result<(), RunFault>)
+    requires keys { All (λ key. key < bound) keys.now }
+    requires few { length keys.now < 2 ^ 32 }
+    requires list { IsTestList tests.now }
+    requires width { tests.now.width ≡ length (sources job.old.circuit) }
+    requires window { (first : ℕ) × GoesOnFrom (blocks (length tests.now.tests)) first window }
+    ensures sorted { IfOk result.0 (λ sorted. AreSortedPlaces keys.now sorted.places.items) }
+    ensures tests { OnOk result.1 (IsWindowOf tests.now.tests (64 * window.from)
+        (64 * window.end) job.new.tests.tests) }
+    ensures refused { IfErr result.1 (λ fault. fault ≡ RunFault.Memory) }
+    ensures kept { job.new ≡ with_tests job.old job.new.tests }
+{
+    let mut sort = move || sorted_places(alloc, keys, bound);
+    let mut take = move || take_window(rt, alloc, job, tests, window, workers);
+    thread::join_mut(rt, &mut sort, &mut take)
+}
+
+/// Runs the classes of a list that have no first test yet on a window, whose tests the job has if it
+/// is ready. Returns the first tests of all of them after it. The job has the tests of the window
+/// then.
 fn run_window<G: Gate + Sync, R: Threads + Wait>(
     rt: &R,
     alloc: Global,
@@ -307,11 +399,14 @@ fn run_window<G: Gate + Sync, R: Threads + Wait>(
     window: Window,
     classes: &[u32],
     firsts: Vec<Option<u32>>,
+    ready: bool,
     workers: u32,
     gate: &G,
 ) -> Result<Vec<Option<u32>>, RunFault>
     requires passing { G.passing gate.now }
     requires list { IsTestList tests.now }
+    requires ready { IsTrue ready → IsWindowOf tests.now.tests (64 * window.from)
+        (64 * window.end) job.old.tests.tests }
     requires width { tests.now.width ≡ length (sources job.old.circuit) }
     requires workers { (0 < workers) × (workers ≤ 64) }
     requires few { length classes.now ≤ length job.old.classes.representative }
@@ -332,7 +427,7 @@ fn run_window<G: Gate + Sync, R: Threads + Wait>(
     if left.is_empty() {
         return Ok(firsts);
     }
-    take_window(rt, alloc, job, tests, window, workers)?;
+    have_window(rt, alloc, job, tests, window, ready, workers)?;
     gate.opens(window.first, window.end);
     let shifted = Shifted {
         gate,
@@ -351,15 +446,18 @@ fn run_windows<G: Gate + Sync, R: Threads + Wait>(
     alloc: Global,
     job: &mut Job,
     tests: &Tests,
-    blocks_of_window: u32,
+    step: u32,
     classes: &[u32],
+    ready: bool,
     workers: u32,
     gate: &G,
 ) -> Result<Vec<Option<u32>>, RunFault>
     requires passing { G.passing gate.now }
     requires list { IsTestList tests.now }
     requires width { tests.now.width ≡ length (sources job.old.circuit) }
-    requires window { 0 < blocks_of_window }
+    requires step { (0 < step) × (step ≤ 2047) }
+    requires ready { IsTrue ready → IsWindowOf tests.now.tests 0
+        (64 * min step (blocks (length tests.now.tests))) job.old.tests.tests }
     requires workers { (0 < workers) × (workers ≤ 64) }
     requires few { length classes.now ≤ length job.old.classes.representative }
     requires within { All (λ class. class < length job.old.classes.representative) classes.now }
@@ -372,17 +470,59 @@ fn run_windows<G: Gate + Sync, R: Threads + Wait>(
         (fault ≡ RunFault.Memory) ⊎ (fault ≡ RunFault.Threads)) }
     ensures kept { (some : TestList) × (job.new ≡ with_tests job.old some) }
 {
-    let step = blocks_of_window.min(MAX_TESTS / BLOCK_SIZE);
     let blocks = tests.blocks();
     let mut firsts = no_firsts(alloc, classes.len())?;
     for number in 0..blocks.div_ceil(step) {
         let window = Window::new(number, step, blocks);
+        let ready = ready && number == 0;
         firsts = run_window(
-            rt, alloc, job, tests, window, classes, firsts, workers, gate,
+            rt, alloc, job, tests, window, classes, firsts, ready, workers, gate,
         )?;
     }
     forget_tests(alloc, job)?;
     Ok(firsts)
+}
+
+/// Runs all classes of a job on a list of tests, window by window. Returns the classes, region by
+/// region, and for each the first test that detects its faults, or none.
+fn run_all_classes<G: Gate + Sync, R: Threads + Wait>(
+    rt: &R,
+    alloc: Global,
+    job: &mut Job,
+    tests: &Tests,
+    blocks_of_window: u32,
+    workers: u32,
+    gate: &G,
+) -> Result<(Vec<u32>, Vec<Option<u32>>), RunFault>
+    requires passing { G.passing gate.now }
+    requires list { IsTestList tests.now }
+    requires width { tests.now.width ≡ length (sources job.old.circuit) }
+    requires window { 0 < blocks_of_window }
+    requires workers { (0 < workers) × (workers ≤ 64) }
+    ensures classes { IfOk result (λ r. AreAllByRegion job.old r.0.items) }
+    ensures firsts { IfOk result (λ r. AreClassFirsts job.old.list.model job.old.circuit
+        tests.now.tests r.0.items r.1.items) }
+    ensures ledgers { IfOk result (λ r. AreOfWindows (with_tests job.old tests.now) workers
+        r.0.items (blocks (length tests.now.tests)) r.1.items) }
+    ensures none { OnOk result (job.new.tests.tests ≡ []) }
+    ensures refused { IfErr result (λ fault.
+        (fault ≡ RunFault.Memory) ⊎ (fault ≡ RunFault.Threads)) }
+    ensures kept { (some : TestList) × (job.new ≡ with_tests job.old some) }
+{
+    let step = blocks_of_window.min(MAX_TESTS / BLOCK_SIZE);
+    let (all, ready) = classes_and_window(rt, alloc, job, tests, step, workers)?;
+    let firsts = run_windows(
+        rt,
+        alloc,
+        job,
+        tests,
+        step,
+        all.as_slice(),
+        ready,
+        workers,
+        gate,
+    )?;
+    Ok((all, firsts))
 }
 
 /// Runs all classes of a job on a list of tests that is not its own, window by window: on this
@@ -429,17 +569,7 @@ pub fn run_in_windows<G: Gate + Sync, R: Threads + Wait>(
     let count = job.classes().count();
     let blocks = tests.blocks();
     check_pieces_of(count.div_ceil(parts), blocks)?;
-    let all = all_classes(alloc, job)?;
-    let firsts = run_windows(
-        rt,
-        alloc,
-        job,
-        tests,
-        blocks_of_window,
-        all.as_slice(),
-        workers,
-        gate,
-    )?;
+    let (all, firsts) = run_all_classes(rt, alloc, job, tests, blocks_of_window, workers, gate)?;
     let table = by_class(alloc, count, all.as_slice(), firsts.as_slice())?;
     let skipped = skipped_after(table.as_slice(), blocks);
     let found = firsts_of_faults(alloc, job, table.as_slice())?;
@@ -483,13 +613,15 @@ pub fn run_part_in_windows<G: Gate + Sync, R: Threads + Wait>(
     check_workers(workers)?;
     let own = part_classes(alloc, job, part, parts)?;
     check_pieces_of(count_in(job, own.as_slice()), tests.blocks())?;
+    let step = blocks_of_window.min(MAX_TESTS / BLOCK_SIZE);
     let firsts = run_windows(
         rt,
         alloc,
         job,
         tests,
-        blocks_of_window,
+        step,
         own.as_slice(),
+        false,
         workers,
         gate,
     )?;

@@ -34,13 +34,13 @@ returns-then-is_empty-clause-firsts g c =
 pub returns-then-is_empty-clause-kept : goal.returns-then-is_empty-clause-kept
 returns-then-is_empty-clause-kept g c = (c.args.job.now.tests, refl)
 
-pub returns-in_err-take_window-clause-kept : goal.returns-in_err-take_window-clause-kept
-returns-in_err-take_window-clause-kept g c =
-    ((c.take_window.new.job).tests, c.in_err-take_window.ensures.kept)
+pub returns-in_err-have_window-clause-kept : goal.returns-in_err-have_window-clause-kept
+returns-in_err-have_window-clause-kept g c =
+    ((c.have_window.new.job).tests, c.in_err-have_window.ensures.kept)
 
 pub run_classes_left-requires-clause-few : goal.run_classes_left-requires-clause-few
 run_classes_left-requires-clause-few g c κs within =
-    let set = c.in_ok-take_window.ensures.kept in
+    let set = c.in_ok-have_window.ensures.kept in
     let is : c.in_ok-left.left.items ≡ open_classes c.args.classes.now c.as_slice.result.now =
     c.in_ok-left.ensures in
     let few = left_few c.args.classes.now c.as_slice.result.now in
@@ -55,7 +55,7 @@ run_classes_left-requires-clause-few g c κs within =
 pub run_classes_left-requires-clause-within : goal.run_classes_left-requires-clause-within
 run_classes_left-requires-clause-within g c κs within =
     let job = c.args.job.now in
-    let set = c.in_ok-take_window.ensures.kept in
+    let set = c.in_ok-have_window.ensures.kept in
     let is : c.in_ok-left.left.items ≡ open_classes c.args.classes.now c.as_slice.result.now =
     c.in_ok-left.ensures in
     subst (λ (j : Parts). All (λ class. class < length j.classes.representative)
@@ -70,9 +70,9 @@ returns-clause-firsts g c =
     let window = c.args.window in
     let classes = c.args.classes.now in
     let firsts = c.args.firsts.items in
-    let some = (c.take_window.new.job).tests in
+    let some = (c.have_window.new.job).tests in
     let left = c.in_ok-left.left.items in
-    let set = c.in_ok-take_window.ensures.kept in
+    let set = c.in_ok-have_window.ensures.kept in
     let table = c.in_ok-table.table.items in
     let found = c.in_ok-table.ensures.found in
     let is : left ≡ open_classes classes firsts =
@@ -89,7 +89,7 @@ returns-clause-firsts g c =
     (zip classes l)) c.as_slice-2.ensures.value in
     firsts_after job.list.model job.circuit c.args.tests.now.tests some.tests (64 * window.from)
     (64 * window.first) (64 * window.end) (32 * window.from) (length job.classes.representative)
-    classes left firsts found.0 c.in_ok-next.next.items table c.in_ok-take_window.ensures.tests
+    classes left firsts found.0 c.in_ok-next.next.items table c.in_ok-have_window.ensures.tests
     (omega arith) (after begins.2) (omega (arith, begins.1))
     (omega (arith, c.requires.window.some))
     (omega (arith, c.requires.window.within, c.requires.list.count)) c.requires.firsts is
@@ -128,8 +128,8 @@ returns-clause-ledgers g c = λ of. goes_on c.args.window.first c.args.window c.
 
     ran : HasRunWindow job c.args.workers classes c.args.window firsts c.in_ok-next.next.items
     ran =
-        let some = (c.take_window.new.job).tests in
-        let set = c.in_ok-take_window.ensures.kept in
+        let some = (c.have_window.new.job).tests in
+        let set = c.in_ok-have_window.ensures.kept in
         let table = c.in_ok-table.table.items in
         let found = c.in_ok-table.ensures.found in
         let ledger = found.3 in
@@ -141,7 +141,7 @@ returns-clause-ledgers g c = λ of. goes_on c.args.window.first c.args.window c.
         (zip classes l)) c.as_slice-2.ensures.value in
         record {
           tests = some;
-          are = c.in_ok-take_window.ensures.tests;
+          are = c.in_ok-have_window.ensures.tests;
           firsts = found.0;
           ledger = ledger.0;
           found = subst (λ l. AreFoundByLedger (with_tests job some) c.args.workers l found.0

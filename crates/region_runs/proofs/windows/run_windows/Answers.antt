@@ -5,7 +5,7 @@ use Rattle.block_sim.specs.Parts.{Parts, with_tests}
 use Rattle.region_runs.specs.WindowLedgers.{AreOfWindows, begins}
 use Rattle.region_runs.specs.Windows.{AreFirstsBelow}
 use Rattle.region_runs.proofs.WindowFirsts.{firsts_begin, firsts_end}
-use Rattle.region_runs.proofs.WindowSteps.{some_step, step_all, step_first, step_within}
+use Rattle.region_runs.proofs.WindowSteps.{step_all, step_first, step_within}
 use Rattle.region_runs.proofs.windows.run_windows.Goals as goal
 
 pub returns-in_err-firsts-clause-kept : goal.returns-in_err-firsts-clause-kept
@@ -15,11 +15,12 @@ pub loop-number-init : goal.loop-number-init
 loop-number-init g c =
     let job = c.args.job.now in
     let tests = c.args.tests.now.tests in
-    let none : 64 * min (0 * c.min-step.result) c.blocks-blocks.result ≡ 0 =
+    let none : 64 * min (0 * c.args.step) c.blocks-blocks.result ≡ 0 =
     omega arith in
-    let zero_low : min (0 * c.min-step.result) c.blocks-blocks.result ≡ 0 = omega arith in
+    let zero_low : min (0 * c.args.step) c.blocks-blocks.result ≡ 0 = omega arith in
     record {
       kept = (job.tests, refl);
+      untouched = λ _. refl;
       firsts = subst (λ n. AreFirstsBelow job.list.model job.circuit tests n c.args.classes.now
           c.in_ok-firsts.firsts.items) (sym none)
           (firsts_begin job.list.model job.circuit tests c.args.classes.now
@@ -33,9 +34,8 @@ loop-number-init g c =
 
 pub new-window-requires-clause-within : goal.new-window-requires-clause-within
 new-window-requires-clause-within g c =
-    step_within c.blocks-blocks.result c.min-step.result c.loop-number.number
-    (some_step c.args.blocks_of_window c.min-step.result
-    c.requires.window c.min-step.ensures)
+    step_within c.blocks-blocks.result c.args.step c.loop-number.number
+    c.requires.step.0
     (subst (λ n. c.loop-number.number < n) c.div_ceil-number-end.ensures c.loop-number-test.true)
 
 pub run_window-requires-clause-width : goal.run_window-requires-clause-width
@@ -60,11 +60,10 @@ pub run_window-requires-clause-firsts : goal.run_window-requires-clause-firsts
 run_window-requires-clause-firsts g c κs within =
     let was = c.loop-number.invariant in
     let tests = c.args.tests.now.tests in
-    let below = step_within c.blocks-blocks.result c.min-step.result c.loop-number.number
-    (some_step c.args.blocks_of_window c.min-step.result
-    c.requires.window c.min-step.ensures)
+    let below = step_within c.blocks-blocks.result c.args.step c.loop-number.number
+    c.requires.step.0
     (subst (λ n. c.loop-number.number < n) c.div_ceil-number-end.ensures c.loop-number-test.true) in
-    let first = step_first c.blocks-blocks.result c.min-step.result c.loop-number.number
+    let first = step_first c.blocks-blocks.result c.args.step c.loop-number.number
     below ∙ sym c.new-window.ensures.window.first_is in
     subst (λ (j : Parts). AreFirstsBelow j.list.model j.circuit tests
     (64 * c.new-window.result.first) c.args.classes.now c.loop-number.firsts.items)
@@ -83,17 +82,18 @@ loop-number-preserved g c =
     let kept = c.run_window.ensures.kept in
     let tests = c.args.tests.now.tests in
     let number = c.loop-number.number in
-    let step = c.min-step.result in
+    let step = c.args.step in
     let next : number * step + step ≡ (number + 1) * step = omega arith in
     let end : c.new-window.result.end ≡ min ((number + 1) * step) c.blocks-blocks.result =
     c.new-window.ensures.end ∙ ap (λ n. min n c.blocks-blocks.result) next in
     let below = step_within c.blocks-blocks.result step number
-    (some_step c.args.blocks_of_window step c.requires.window c.min-step.ensures)
+    c.requires.step.0
     (subst (λ n. number < n) c.div_ceil-number-end.ensures c.loop-number-test.true) in
     let first = step_first c.blocks-blocks.result step number below
     ∙ sym c.new-window.ensures.window.first_is in
     record {
       kept = (kept.0, kept.1 ∙ ap (λ j. with_tests j kept.0) was.kept.1);
+      untouched = λ none. absurd (omega (arith, none));
       firsts = subst (λ n. AreFirstsBelow c.args.job.now.list.model c.args.job.now.circuit tests
           (64 * n) c.args.classes.now c.in_ok-firsts-2.firsts.items) end
           (subst (λ (j : Parts). AreFirstsBelow j.list.model j.circuit tests
@@ -115,9 +115,8 @@ pub returns-clause-firsts : goal.returns-clause-firsts
 returns-clause-firsts g c =
     let job = c.args.job.now in
     let tests = c.args.tests.now.tests in
-    let all = step_all c.blocks-blocks.result c.min-step.result c.loop-number.number
-    (some_step c.args.blocks_of_window c.min-step.result
-    c.requires.window c.min-step.ensures) (omega (
+    let all = step_all c.blocks-blocks.result c.args.step c.loop-number.number
+    c.requires.step.0 (omega (
       arith,
       c.loop-number-test.false,
       c.div_ceil-number-end.ensures,
@@ -149,9 +148,8 @@ returns-clause-kept g c =
 
 pub returns-clause-ledgers : goal.returns-clause-ledgers
 returns-clause-ledgers g c =
-    let all = step_all c.blocks-blocks.result c.min-step.result c.loop-number.number
-    (some_step c.args.blocks_of_window c.min-step.result
-    c.requires.window c.min-step.ensures) (omega (
+    let all = step_all c.blocks-blocks.result c.args.step c.loop-number.number
+    c.requires.step.0 (omega (
       arith,
       c.loop-number-test.false,
       c.div_ceil-number-end.ensures,

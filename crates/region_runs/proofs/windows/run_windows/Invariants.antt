@@ -7,6 +7,7 @@ use Rattle.region_runs.proofs.windows.run_windows.Given as goal
 
 abbrev pub invariant-loop-number : goal.invariant-loop-number
 invariant-loop-number g l = record {
+  untouched : l.number ≡ 0 → l.job ≡ l.fn.job;
   kept : (some : TestList) × (l.job ≡ with_tests l.fn.job some);
   firsts : AreFirstsBelow l.fn.job.list.model l.fn.job.circuit l.tests.tests
       (64 * min (l.number * l.step) l.blocks) l.classes l.firsts.items;

@@ -1,0 +1,15 @@
+use Rattle.std.proofs.Common.{◌<◌, ◌∙◌, ◌^◌, List, ap, length, subst, sym, ℕ}
+use Rattle.std.specs.Prelude.{IfOk}
+use Rattle.counting_sort.specs.SortedPlaces.{AreSortedPlaces}
+use Rattle.region_runs.proofs.ClassOrders.{all_in_order}
+use Rattle.region_runs.proofs.windows.classes_and_window.Goals as goal
+
+pub returns-clause-classes : goal.returns-clause-classes
+returns-clause-classes g c =
+    let classes = c.in_ok-places.field-0.places.items in
+    let sorted : AreSortedPlaces c.deref.result.now classes =
+    subst (λ r. IfOk r (λ sorted. AreSortedPlaces c.deref.result.now sorted.places.items))
+    c.in_ok-places.was c.sort_and_take-sorted.ensures.sorted in
+    all_in_order c.args.job.now c.in_ok-visits.visits.items classes c.in_ok-visits.ensures.visits
+    (subst (λ (l : List ℕ). AreSortedPlaces l classes) c.deref.ensures.value
+    sorted)
