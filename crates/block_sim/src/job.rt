@@ -17,6 +17,7 @@ ghost use Rattle.flat_circuit.specs.Regions.{IsStemOfClass};
 ghost use Rattle.flat_circuit.specs.BlockSpans.{IsTogether, groups, unit_of};
 ghost use Rattle.flat_circuit.specs.Words.{IsFaultFreeWord};
 
+use crate::stand_in::StandIn;
 use bench_net::Circuit;
 use fault_model::{Classes, Faults};
 use flat_circuit::block_lanes::block_word;
@@ -31,7 +32,7 @@ use flat_circuit::origin::ListedClass;
 use flat_circuit::words::Stuck;
 use patterns::{MAX_PIECES, Tests};
 use std::alloc::{AllocError, Global};
-use std::marker::{Model, PhantomData};
+use std::marker::Model;
 use std::sync::Wait;
 use std::thread;
 use std::thread::Threads;
@@ -601,41 +602,24 @@ impl Job {
     }
 }
 
-/// A runtime for a thread that can't borrow the one of the thread that started it.
-#[derive(Drop)]
-struct Lent<R> {
-    of: PhantomData<R>,
-}
-
-impl<R> Lent<R> {
-    fn new() -> Lent<R> {
-        Lent { of: PhantomData }
-    }
-}
-
-impl<R: Threads> Threads for Lent<R> {}
-
-impl<R: Wait> Wait for Lent<R> {}
-
-/// Makes the lists of the classes of a circuit under a model, with a second thread if there are
-/// enough workers.
+/// Makes the lists of the classes of a circuit under a model, in one thread or two.
 fn lists_beside<R: Threads + Wait>(
     alloc: Global,
     circuit: &Circuit,
     model: fault_model::Model,
-    workers: u32,
+    threads: u32,
 ) -> Result<ClassLists, AllocError>
     ensures lists { IfOk result (λ lists. AreClassLists circuit.now lists) }
     ensures model { IfOk result (λ lists. lists.faults.model ≡ model) }
 {
-    if workers < WORKERS_FOR_LISTS {
+    if threads < 2 {
         return class_lists_under(alloc, circuit, model);
     }
-    class_lists_under_in_threads(&Lent::<R>::new(), alloc, circuit, model)
+    class_lists_under_in_threads(&StandIn::<R>::new(), alloc, circuit, model)
 }
 
 /// Makes the flat arrays of a circuit and the lists of its classes under a model. If the circuit is
-/// large, and there is a second worker, a thread makes the lists at the same time.
+/// large, and there is a second worker, a thread or two make the lists at the same time.
 fn rows_and_lists<R: Threads + Wait>(
     rt: &R,
     alloc: Global,
@@ -651,10 +635,11 @@ fn rows_and_lists<R: Threads + Wait>(
         let rows = flat_rows(alloc, circuit);
         return (rows, class_lists_under(alloc, circuit, model));
     }
+    let threads = if workers < WORKERS_FOR_LISTS { 1 } else { 2 };
     let (lists, rows) = thread::join(
         rt,
-        move || lists_beside::<R>(alloc, circuit, model, workers),
-        move || flat_rows_in_threads(rt, alloc, circuit, workers - 1),
+        move || lists_beside::<R>(alloc, circuit, model, threads),
+        move || flat_rows_in_threads(rt, alloc, circuit, workers - threads),
     );
     (rows, lists)
 }

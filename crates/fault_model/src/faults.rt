@@ -86,7 +86,8 @@ impl Faults {
     }
 }
 
-/// The number of lines for each signal that a list gets room for at first. Most circuits have fewer.
+/// The number of lines for each signal that a list gets room for at first. Most circuits have
+/// fewer.
 const LINES_OF_A_SIGNAL: usize = 4;
 
 /// Lists the stuck-at faults of a circuit: [`list_faults_in`] with [`crate::Model::StuckAt`].

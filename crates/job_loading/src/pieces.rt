@@ -11,12 +11,11 @@ use crate::texts::{
 };
 use bench_net::{Circuit, read_bench};
 use bench_threads::read_bench_in_threads;
-use block_sim::Job;
+use block_sim::{Job, StandIn};
 use fault_model::Model;
 use patterns::{Tests, read_tests_in_pieces};
 use std::alloc::Global;
 use std::io::Read;
-use std::marker::PhantomData;
 use std::sync::Wait;
 use std::thread;
 use std::thread::Threads;
@@ -27,23 +26,6 @@ const PIECE: usize = 1 << 23;
 
 /// The number of bytes of a piece for one worker, which reads none ahead.
 const SMALL_PIECE: usize = PIECE / 2;
-
-/// A runtime for calls with one worker, which start no thread. A thread makes it where it can't
-/// borrow the runtime of the thread that started it.
-#[derive(Drop)]
-struct OneWorker<R> {
-    of: PhantomData<R>,
-}
-
-impl<R> OneWorker<R> {
-    fn new() -> OneWorker<R> {
-        OneWorker { of: PhantomData }
-    }
-}
-
-impl<R: Threads> Threads for OneWorker<R> {}
-
-impl<R: Wait> Wait for OneWorker<R> {}
 
 /// Makes the job of a bench file under a model, with no tests, and reads the tests for it from a
 /// file of `size` bytes, of which only two pieces at a time are in memory
@@ -110,7 +92,7 @@ where
     }
     let (tests, job) = thread::join(
         rt,
-        move || read_tests_in_pieces(&OneWorker::<R>::new(), alloc, file, most, SMALL_PIECE, 1),
+        move || read_tests_in_pieces(&StandIn::<R>::new(), alloc, file, most, SMALL_PIECE, 1),
         move || job_without_tests(rt, alloc, model, bench, workers - 1, workers),
     );
     (job, tests)

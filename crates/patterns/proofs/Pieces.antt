@@ -86,10 +86,14 @@ HasTests-piece seen piece width t more lines has has_piece room =
     } in
     let between : AreTestsBetween text width start end more = record {
       order = omega (arith, size);
-      until = record { within = omega arith; after_feed = λ _ below. absurd (omega (arith, below)) };
+      until = record {
+        within = omega arith;
+        after_feed = λ _ below. absurd (omega (arith, below));
+      };
       tests = subst (λ bytes. HasTests bytes width more) (sym part) has_piece;
     } in
-    subst (λ bytes. HasTests bytes width (with_tests t more.tests)) (take_all end text (omega arith))
+    subst (λ bytes. HasTests bytes width (with_tests t more.tests))
+    (take_all end text (omega arith))
     (HasTests-cut text width start end t more begins
     (subst (λ bytes. HasTests bytes width t) (sym front) has) between room)
 

@@ -135,8 +135,8 @@ fn read_and_fill<R: Threads + Wait, F: Read + Send>(
 }
 
 /// Fills a buffer with the next bytes of a file, from a place on. Returns the place after the last
-/// of them, which is the end of the buffer if the file has as many bytes. Returns `None` if the file
-/// can't be read.
+/// of them, which is the end of the buffer if the file has as many bytes. Returns `None` if the
+/// file can't be read.
 fn fill<F: Read>(file: &mut F, buffer: &mut [u8], from: usize) -> Option<usize>
     requires { from ≤ length buffer.old }
     ensures { IfSome result (IsFilled (F.remaining file.old) (F.remaining file.new)
@@ -164,8 +164,8 @@ fn first_width(piece: &[u8], most: u32) -> Option<u32>
     Some(width)
 }
 
-/// Returns the place after the last full block of a piece, if all lines from its first row on are as
-/// long as this row. Returns `None` if the piece has no full block, or no line ends there.
+/// Returns the place after the last full block of a piece, if all lines from its first row on are
+/// as long as this row. Returns `None` if the piece has no full block, or no line ends there.
 fn end_of_blocks(piece: &[u8]) -> Option<usize>
     ensures { IfSome result (IsLineEnd piece.now) }
 {

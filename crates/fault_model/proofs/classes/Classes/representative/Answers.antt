@@ -6,4 +6,5 @@ pub returns : goal.returns
 returns c =
     let within = rw (← c.self.view_is) at c.requires in
     rw (← c.self.view_is) (slice_get_read c.self.inside.representative.items
-    (length c.self.inside.representative.items) c.args.class c.index.result.now refl within c.index.ensures)
+    (length c.self.inside.representative.items) c.args.class c.index.result.now refl within
+    c.index.ensures)
