@@ -13,12 +13,13 @@ use bench_net::{Circuit, read_bench};
 use bench_threads::read_bench_in_threads;
 use block_sim::{Job, StandIn};
 use fault_model::Model;
-use patterns::{Tests, read_tests_in_pieces};
+use patterns::Tests;
 use std::alloc::Global;
 use std::io::Read;
 use std::sync::Wait;
 use std::thread;
 use std::thread::Threads;
+use test_threads::read_tests_in_pieces;
 
 /// The number of bytes of a piece, of which two are in memory. Threads read one in about a
 /// millisecond, and both fit into the cache that processors share.

@@ -163,7 +163,7 @@ pub fn split_run_for<R: Threads + Wait>(
 /// files, with the same errors.
 ///
 /// It returns `None` if it can't read the files so: there is an error in a file, the tests can't be
-/// read piece by piece ([`patterns::read_tests_in_pieces`]), or memory runs out.
+/// read piece by piece ([`test_threads::read_tests_in_pieces`]), or memory runs out.
 pub fn split_run_in_pieces<R: Threads + Wait, F: Read + Send>(
     rt: &R,
     alloc: Global,

@@ -16,11 +16,12 @@ use bench_net::{BenchFault, Circuit, read_bench};
 use bench_threads::read_bench_in_threads;
 use block_sim::Job;
 use fault_model::{Model, collapse, list_faults_in};
-use patterns::{TestFault, Tests, read_tests, read_tests_in_threads};
+use patterns::{TestFault, Tests, read_tests};
 use std::alloc::{AllocError, Global};
 use std::sync::Wait;
 use std::thread;
 use std::thread::Threads;
+use test_threads::read_tests_in_threads;
 use text_lines::Rows;
 
 /// A bench file is long if it has this number of bytes. One thread reads them in about a

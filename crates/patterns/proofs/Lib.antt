@@ -11,4 +11,3 @@ mod CutTests
 mod MadeTests
 mod WrittenTests
 pub mod Public
-mod Pieces

@@ -66,7 +66,7 @@ pub fn read_tests(alloc: Global, text: &[u8], width: u32) -> Result<Tests, TestF
 
 /// Reads rows as tests, and appends them to `before`. If the rows before them in a file have those
 /// tests, the result is the tests of the file.
-pub(crate) fn read_rows(alloc: Global, before: Tests, rows: Rows<'_>) -> Result<Tests, TestFault>
+pub fn read_rows(alloc: Global, before: Tests, rows: Rows<'_>) -> Result<Tests, TestFault>
     ensures tests { IfOk result (λ t. HasTestsAfter before (rows_left rows.entry) t) }
     ensures refused { IfErr result (λ fault. (fault ≡ TestFault.Memory)
         ⊎ IsRefusalAfter before (rows_left rows.entry) fault) }
@@ -210,7 +210,7 @@ impl Tests {
 
     /// Returns whether all blocks are full, and the tests are within the limit with `more` after
     /// them.
-    pub(crate) fn takes(&self, more: &Tests) -> bool
+    pub fn takes(&self, more: &Tests) -> bool
         ensures { IsTrue result ↔ ((length self.now.tests % 64 ≡ 0)
             × (length self.now.tests + length more.now.tests ≤ max_tests)) }
     {
@@ -219,7 +219,7 @@ impl Tests {
     }
 
     /// Appends other tests to blocks that are all full.
-    pub(crate) fn append(&mut self, more: Tests) -> Result<(), AllocError>
+    pub fn append(&mut self, more: Tests) -> Result<(), AllocError>
         requires full { length self.old.tests % 64 ≡ 0 }
         requires width { more.width ≡ self.old.width }
         requires room { length self.old.tests + length more.tests ≤ max_tests }

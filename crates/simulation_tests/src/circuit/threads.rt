@@ -3,10 +3,11 @@
 use crate::checks::check_ok;
 use bench_net::BenchFault;
 use job_loading::{SimFault, read_inputs_in_threads};
-use patterns::{TestFault, Tests, read_tests_in_pieces, read_tests_in_threads};
+use patterns::{TestFault, Tests};
 use std::alloc::{AllocError, Global};
 use std::sync::Wait;
 use std::thread::Threads;
+use test_threads::{read_tests_in_pieces, read_tests_in_threads};
 
 /// The number of sources.
 const WIDTH: u32 = 47;

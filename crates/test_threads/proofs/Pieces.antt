@@ -9,10 +9,10 @@ use Rattle.std.proofs.lemmas.List.{get_or-append-add, get_or_append_left, get_or
 use Rattle.std.specs.List.{copy_within}
 use Rattle.text_lines.specs.Starts.{IsLineStart}
 use Rattle.patterns.specs.LaterRows.{with_tests}
-use Rattle.patterns.specs.Pieces.{IsLineEnd}
-use Rattle.patterns.specs.Stretches.{AreTestsBetween}
+use Rattle.test_threads.specs.Pieces.{IsLineEnd}
+use Rattle.test_threads.specs.Stretches.{AreTestsBetween}
 use Rattle.patterns.specs.Tests.{HasTests, TestList, max_tests}
-use Rattle.patterns.proofs.CutTests.{HasTests-cut}
+use Rattle.test_threads.proofs.CutTests.{HasTests-cut}
 use borrow.Rule.Slice.PartMut.{put_mid, post_of}
 
 pub Consumes-none : (known : Option (List ℕ)) → Consumes known known []

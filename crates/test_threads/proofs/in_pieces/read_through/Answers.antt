@@ -5,12 +5,12 @@ use Rattle.std.specs.Vec.{with_items}
 use Rattle.std.specs.Io.KnownBytes.{Consumes}
 use Rattle.std.proofs.lemmas.List.{with_items_is}
 use Rattle.patterns.specs.LaterRows.{with_tests}
-use Rattle.patterns.specs.Pieces.{IsFilled, IsLineEnd}
+use Rattle.test_threads.specs.Pieces.{IsFilled, IsLineEnd}
 use Rattle.patterns.specs.Tests.{HasTests, IsTestList, max_tests}
-use Rattle.patterns.proofs.CutTests.{HasTests-none}
-use Rattle.patterns.proofs.OneAnswer.{has_tests_list}
-use Rattle.patterns.proofs.Pieces.{Consumes-moved, HasTests-piece, IfSome-read, IsOfLines-more}
-use Rattle.patterns.proofs.in_pieces.read_through.Goals as goal
+use Rattle.patterns.proofs.Public.{HasTests-none}
+use Rattle.patterns.proofs.Public.{has_tests_list}
+use Rattle.test_threads.proofs.Pieces.{Consumes-moved, HasTests-piece, IfSome-read, IsOfLines-more}
+use Rattle.test_threads.proofs.in_pieces.read_through.Goals as goal
 
 pub loop-init : goal.loop-init
 loop-init g c =

@@ -1,12 +1,11 @@
 //! Reads a test file in several threads, each of which reads a range of its lines.
 
 ghost use Rattle.std.specs.Prelude.{◌≡◌, ◌≤◌, ◌⊎◌, IfErr, IfOk, length};
-ghost use Rattle.patterns.specs.Stretches.{HasStretch, HaveStretches};
+ghost use Rattle.test_threads.specs.Stretches.{HasStretch, HaveStretches};
 ghost use Rattle.patterns.specs.Tests.{HasTests, IsTestList, IsTestRefusal};
 ghost use Rattle.text_lines.specs.Starts.{IsLineStart};
 
-use crate::test_text::read_rows;
-use crate::{BLOCK_SIZE, TestFault, Tests, read_tests};
+use patterns::{BLOCK_SIZE, TestFault, Tests, read_rows, read_tests};
 use std::alloc::{AllocError, Global};
 use std::sync::Wait;
 use std::thread;
@@ -112,7 +111,7 @@ struct TestsOf<'a> {
 }
 
 impl<'a> Promise<Result<Stretch, TestFault>> for TestsOf<'a> {
-    ghost use Rattle.patterns.specs.Stretches.{HasStretch};
+    ghost use Rattle.test_threads.specs.Stretches.{HasStretch};
 
     ghost kept_by = { λ p r. HasStretch p.text.now p.width r };
 }

@@ -1,9 +1,9 @@
 use Rattle.std.proofs.Common.{◌<◌, ℕ, get_or, take}
 use Rattle.std.specs.Vec.Iter.{into_iter_items, into_iter_len}
 use Rattle.text_lines.specs.Starts.{IsLineStart}
-use Rattle.patterns.specs.Stretches.{HasStretch}
+use Rattle.test_threads.specs.Stretches.{HasStretch}
 use Rattle.patterns.specs.Tests.{HasTests}
-use Rattle.patterns.proofs.in_threads.join_stretches.Given as goal
+use Rattle.test_threads.proofs.in_threads.join_stretches.Given as goal
 
 abbrev pub invariant-loop-part : goal.invariant-loop-part
 invariant-loop-part l = record {

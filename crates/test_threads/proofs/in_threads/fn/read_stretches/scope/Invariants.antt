@@ -1,5 +1,5 @@
 use Rattle.std.proofs.Common.{◌≡◌, ◌<◌, ◌≤◌, ℕ, get_or, length, vec_items, vec_len}
-use Rattle.patterns.proofs.in_threads.fn.read_stretches.scope.Given as goal
+use Rattle.test_threads.proofs.in_threads.fn.read_stretches.scope.Given as goal
 
 -- no line is given out past the end, and each handle is promised tests of this text
 abbrev pub invariant-loop-thread : goal.invariant-loop-thread

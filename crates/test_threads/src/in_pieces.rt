@@ -3,11 +3,12 @@
 ghost use Rattle.std.specs.Prelude.{◌≡◌, ◌+◌, ◌≤◌, IfOk, IfSome, OnSome, length, take};
 ghost use Rattle.std.specs.List.{slice_range};
 ghost use Rattle.patterns.specs.LaterRows.{with_tests};
-ghost use Rattle.patterns.specs.Pieces.{IsFilled, IsLineEnd};
+ghost use Rattle.test_threads.specs.Pieces.{IsFilled, IsLineEnd};
 ghost use Rattle.patterns.specs.Tests.{HasTests, IsTestList, max_tests};
 
 use crate::in_threads::first_row;
-use crate::{BLOCK_SIZE, MAX_TESTS, TestFault, Tests, read_tests_in_threads};
+use crate::read_tests_in_threads;
+use patterns::{BLOCK_SIZE, MAX_TESTS, TestFault, Tests};
 use std::alloc::{AllocError, Global};
 use std::io::Read;
 use std::mem::swap;
@@ -25,7 +26,7 @@ const MAX_PIECES_OF_A_FILE: u32 = MAX_TESTS / BLOCK_SIZE + 1;
 ///
 /// It returns `None` if it can't read the file so: the file can't be read, memory runs out, a row
 /// has an error, there is no row, or a piece is too short for 64 rows. It also returns `None` if
-/// the rows are not alike, so that a piece doesn't end with full blocks. Then [`crate::read_tests`]
+/// the rows are not alike, so that a piece doesn't end with full blocks. Then [`patterns::read_tests`]
 /// of all bytes has the tests or the error.
 pub fn read_tests_in_pieces<R: Threads + Wait, F: Read + Send>(
     rt: &R,

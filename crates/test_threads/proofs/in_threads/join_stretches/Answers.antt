@@ -5,11 +5,12 @@ use Rattle.std.proofs.lemmas.Result.{IfErr-weaker, IfOk-weaker}
 use Rattle.patterns.specs.declared.TestFault.TheVariants as fault
 use Rattle.text_lines.specs.Reading.{rows_left}
 use Rattle.patterns.specs.LaterRows.{HasTestsAfter, IsRefusalAfter}
-use Rattle.patterns.specs.Stretches.{AreTestsBetween, HasStretch}
+use Rattle.test_threads.specs.Stretches.{AreTestsBetween, HasStretch}
 use Rattle.patterns.specs.Tests.{HasTests, IsTestList, IsTestRefusal, max_tests}
-use Rattle.patterns.proofs.OneAnswer.{has_tests_list}
-use Rattle.patterns.proofs.CutTests.{HasTests-behind, HasTests-cut, refused-behind}
-use Rattle.patterns.proofs.in_threads.join_stretches.Goals as goal
+use Rattle.patterns.proofs.Public.{has_tests_list}
+use Rattle.patterns.proofs.Public.{HasTests-behind, refused-behind}
+use Rattle.test_threads.proofs.CutTests.{HasTests-cut}
+use Rattle.test_threads.proofs.in_threads.join_stretches.Goals as goal
 
 pub loop-part-preserved-in_default-part : goal.loop-part-preserved-in_default-part
 loop-part-preserved-in_default-part c =

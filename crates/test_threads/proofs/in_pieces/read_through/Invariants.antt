@@ -1,8 +1,8 @@
 use Rattle.std.proofs.Common.{◌<◌, ◌≤◌, ◌++◌, List, ℕ, length, take}
 use Rattle.std.specs.Io.KnownBytes.{Consumes, IsAtEnd}
 use Rattle.patterns.specs.Tests.{HasTests}
-use Rattle.patterns.proofs.Pieces.{IsOfLines}
-use Rattle.patterns.proofs.in_pieces.read_through.Given as goal
+use Rattle.test_threads.proofs.Pieces.{IsOfLines}
+use Rattle.test_threads.proofs.in_pieces.read_through.Given as goal
 
 -- the tests are those of the lines before the buffer, and the buffer has the next bytes
 abbrev pub invariant-loop : goal.invariant-loop

@@ -2,8 +2,8 @@ use Rattle.std.proofs.Common.{rules, ◌≡◌, ◌-◌, ◌≤◌, ◌++◌, �
 use Rattle.std.proofs.Common.{append_assoc, Ok}
 use Rattle.std.specs.Io.{ReadsAtMost}
 use Rattle.std.specs.Io.KnownBytes.{ReadConsumes}
-use Rattle.patterns.proofs.Pieces.{Consumes-both, take-put_mid-more}
-use Rattle.patterns.proofs.in_pieces.fill.Goals as goal
+use Rattle.test_threads.proofs.Pieces.{Consumes-both, take-put_mid-more}
+use Rattle.test_threads.proofs.in_pieces.fill.Goals as goal
 
 pub loop-place-preserved : goal.loop-place-preserved
 loop-place-preserved g c =

@@ -3,7 +3,7 @@ use Rattle.std.specs.Prelude.{◌≡◌, ℕ, ◌≤◌, List, Result, Some, IfO
 use Rattle.std.specs.List.{slice_range}
 use Rattle.text_lines.specs.Starts.{IsLineStart}
 use Rattle.patterns.specs.declared.TestFault.{TestFault}
-use Rattle.patterns.specs.declared.in_threads.Stretch.{Stretch}
+use Rattle.test_threads.specs.declared.in_threads.Stretch.{Stretch}
 use Rattle.patterns.specs.Tests.{TestList, HasTests}
 
 -- the tests of the file from one place to another, at which a line begins

@@ -1,0 +1,2 @@
+mod CutTests
+mod Pieces
