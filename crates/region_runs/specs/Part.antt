@@ -60,10 +60,10 @@ abbrev pub stretch_size : ℕ → ℕ → ℕ
 stretch_size count parts = div_ceil count parts
 
 -- The number of stretches in which workers run classes. One worker runs one stretch. Several run
--- eight for each of up to 64 workers, but no more than there are classes and at least one.
+-- 24 for each of up to 64 workers, but no more than there are classes and at least one.
 abbrev pub stretches_for : ℕ → ℕ → ℕ
 stretches_for classes workers =
-    if nat_lt workers 2 then 1 else max (min (8 * min workers 64) classes) 1
+    if nat_lt workers 2 then 1 else max (min (24 * min workers 64) classes) 1
 
 -- the number of parts in which workers run a job if none is given
 abbrev pub parts_for : Parts → ℕ → ℕ

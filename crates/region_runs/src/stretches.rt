@@ -12,9 +12,10 @@ use workers::count_in;
 /// The number of parts for each of several workers. Fewer parts end less evenly: on a circuit of
 /// 5,000 gates with 16,384 tests four workers took 0.18 s with one part each, 0.16 with two and
 /// 0.15 with four. Each part goes over the fault-free words of the run or window once more: one
-/// worker took 0.42 s on this circuit for one part, 0.45 for 16 and 0.50 for 64. With eight parts a
-/// run of a system of 69,000 gates took 0.98 of its time with four.
-const PARTS_OF_A_WORKER: u32 = 8;
+/// worker took 0.42 s on this circuit for one part, 0.45 for 16 and 0.50 for 64. A run of a system
+/// of 69,000 gates with four workers took 0.98 of its time with eight parts in place of four, and
+/// with 16,384 tests 0.97 with 24 in place of eight.
+const PARTS_OF_A_WORKER: u32 = 24;
 
 /// Returns the number of stretches for this number of classes and workers. One worker gets one
 /// stretch. Several get a few times their number, so that all end at about the same time, but no

@@ -388,9 +388,9 @@ fn sort_and_take<R: Threads + Wait>(
     thread::join_mut(rt, &mut sort, &mut take)
 }
 
-/// Runs the classes of a list that have no first test yet on a window, whose tests the job has if it
-/// is ready. Returns the first tests of all of them after it. The job has the tests of the window
-/// then.
+/// Runs the classes of a list that have no first test yet on a window, whose tests the job has if
+/// it is ready. Returns the first tests of all of them after it. The job has the tests of the
+/// window then.
 fn run_window<G: Gate + Sync, R: Threads + Wait>(
     rt: &R,
     alloc: Global,
