@@ -20,8 +20,8 @@ const USUAL_WORKERS: u64 = 4;
 /// The least number of bytes of a test file that a run reads piece by piece.
 const LONG_TEXT: u64 = 1 << 22;
 
-/// The bytes of the two pieces that it has in memory then.
-const TWO_PIECES: u64 = 1 << 24;
+/// The bytes of the piece that each thread has in memory then.
+const PIECE: u64 = 1 << 20;
 
 /// The kinds of gates and their names, in the order of [`Counts::gates`].
 static KINDS: [(Kind, &str); 8] = [
@@ -174,7 +174,11 @@ impl Counts {
         // The blocks by which a window goes on, and the block before.
         let window = window_blocks(self.signals) / 2 + 1;
         let whole = self.text(tests);
-        let text = if whole < LONG_TEXT { whole } else { TWO_PIECES };
+        let text = if whole < LONG_TEXT {
+            whole
+        } else {
+            PIECE.saturating_mul(workers)
+        };
         self.memory(tests, text, window.min(groups_of(tests)), workers)
     }
 }

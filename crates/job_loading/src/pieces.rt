@@ -9,27 +9,23 @@ ghost use Rattle.job_loading.specs.Jobs.{AreTestsFor};
 use crate::texts::{
     BYTES_OF_A_SOURCE, WORKERS_APART, is_long, is_very_long, make_any_job_in_threads,
 };
-use bench_net::{Circuit, read_bench};
+use bench_net::Circuit;
 use bench_threads::read_bench_in_threads;
-use block_sim::{Job, StandIn};
+use block_sim::Job;
 use fault_model::Model;
 use patterns::Tests;
 use std::alloc::Global;
 use std::io::Read;
 use std::sync::Wait;
-use std::thread;
 use std::thread::Threads;
-use test_threads::read_tests_in_pieces;
+use test_threads::{read_tests_beside, read_tests_in_pieces};
 
-/// The number of bytes of a piece, of which two are in memory. Threads read one in about a
-/// millisecond, and both fit into the cache that processors share.
-const PIECE: usize = 1 << 23;
-
-/// The number of bytes of a piece for one worker, which reads none ahead.
-const SMALL_PIECE: usize = PIECE / 2;
+/// The number of bytes of a piece, of which each thread has one in memory. A thread reads it in
+/// half a millisecond, and it fits into the cache of a processor.
+const PIECE: usize = 1 << 20;
 
 /// Makes the job of a bench file under a model, with no tests, and reads the tests for it from a
-/// file of `size` bytes, of which only two pieces at a time are in memory
+/// file of `size` bytes, of which only one piece of each thread is in memory
 /// ([`read_tests_in_pieces`]). At most as many threads as there are workers read.
 ///
 /// It returns `None` if there is an error in a file, the tests can't be read so, or memory runs
@@ -62,8 +58,8 @@ where
 }
 
 /// Makes the job of a bench file and then reads the tests, with all workers. If the bench file is
-/// long, it does both at the same time: one worker reads the tests, and the others the bench file.
-/// All make the job, since by then the tests have mostly been read.
+/// long, it does both at the same time: some workers read the tests, and the others make the job
+/// and then read, too ([`Shares`]).
 fn read_both<R: Threads + Wait, F: Read + Send>(
     rt: &R,
     alloc: Global,
@@ -84,50 +80,55 @@ where
     let most = u32::try_from(bench.len() / BYTES_OF_A_SOURCE).unwrap_or(u32::MAX);
     if workers < WORKERS_APART || !is_long(bench.len()) {
         let job = job_without_tests(rt, alloc, model, bench, workers, workers);
-        let piece = if workers < 2 { SMALL_PIECE } else { PIECE };
-        let tests = read_tests_in_pieces(rt, alloc, file, most, piece, workers);
+        let tests = read_tests_in_pieces(rt, alloc, file, most, PIECE, workers);
         return (job, tests);
     }
-    if is_very_long(bench.len(), size) {
-        return read_very_long(rt, alloc, model, bench, file, most, workers);
-    }
-    let (tests, job) = thread::join(
+    let Shares {
+        tests,
+        bench: readers,
+        job: makers,
+    } = Shares::new(bench.len(), size, workers);
+    read_tests_beside(
         rt,
-        move || read_tests_in_pieces(&StandIn::<R>::new(), alloc, file, most, SMALL_PIECE, 1),
-        move || job_without_tests(rt, alloc, model, bench, workers - 1, workers),
-    );
-    (job, tests)
+        alloc,
+        file,
+        most,
+        PIECE,
+        tests,
+        move || job_without_tests(rt, alloc, model, bench, readers, makers),
+    )
 }
 
-/// Reads both files as [`read_both`] does if the test file is very long: one worker reads the bench
-/// file, and the others the tests. Then all make the job.
-fn read_very_long<R: Threads + Wait, F: Read + Send>(
-    rt: &R,
-    alloc: Global,
-    model: Model,
-    bench: &[u8],
-    file: F,
-    most: u32,
-    workers: u32,
-) -> (Option<Job>, Option<Tests>)
-where
-    F: Drop,
-    ensures accepted { IfSome result.0 (λ job. IsAccepted bench.now job.circuit) }
-    ensures model { IfSome result.0 (λ job. job.list.model ≡ model) }
-    ensures tests { IfSome result.1 (λ t. IfSome (F.remaining file) (λ text.
-        HasTests text t.width t)) }
-    ensures list { IfSome result.1 (λ t. IsTestList t) }
-{
-    let (circuit, tests) = thread::join(
-        rt,
-        move || read_bench(alloc, bench),
-        move || read_tests_in_pieces(rt, alloc, file, most, PIECE, workers.saturating_sub(1)),
-    );
-    let job = match circuit {
-        Ok(circuit) => job_of_circuit(rt, alloc, model, circuit, workers),
-        Err(_) => None,
-    };
-    (job, tests)
+/// How workers share the reading of a bench file and a test file.
+#[derive(Clone, Copy)]
+struct Shares {
+    /// The number of workers that read the tests.
+    tests: u32,
+    /// The number of workers that read the bench file meanwhile.
+    bench: u32,
+    /// The number of workers that then make the job.
+    job: u32,
+}
+
+impl Shares {
+    /// Shares the work for a bench file of some bytes, and a test file of `size` bytes. Half of the
+    /// workers read a very long test file, and one reads others, which end before the bench file.
+    fn new(bench: usize, size: u64, workers: u32) -> Shares {
+        if is_very_long(bench, size) {
+            let half = workers / 2;
+            Shares {
+                tests: half,
+                bench: workers - half,
+                job: workers - half,
+            }
+        } else {
+            Shares {
+                tests: 1,
+                bench: workers.saturating_sub(1),
+                job: workers,
+            }
+        }
+    }
 }
 
 /// Makes the job of a bench file under a model, with no tests: at most `readers` threads read the

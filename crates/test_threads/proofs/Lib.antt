@@ -1,2 +1,3 @@
 mod CutTests
 mod Pieces
+mod SharedFile

@@ -1,33 +1,37 @@
 //! Reads a test file piece by piece, so that its bytes are never all in memory.
 
-ghost use Rattle.std.specs.Prelude.{◌≡◌, ◌+◌, ◌≤◌, IfOk, IfSome, OnSome, length, take};
-ghost use Rattle.std.specs.List.{slice_range};
-ghost use Rattle.patterns.specs.LaterRows.{with_tests};
-ghost use Rattle.test_threads.specs.Pieces.{IsFilled, IsLineEnd};
-ghost use Rattle.patterns.specs.Tests.{HasTests, IsTestList, max_tests};
+ghost use Rattle.std.specs.Prelude.{◌≡◌, ◌≤◌, IfSome, ℕ, List, Some, length, take};
+ghost use Rattle.std.specs.Io.KnownBytes.{Consumes};
+ghost use Rattle.test_threads.specs.Pieces.{text_of};
+ghost use Rattle.patterns.specs.Tests.{HasTests, IsTestList};
 
-use crate::in_threads::first_row;
-use crate::read_tests_in_threads;
-use patterns::{BLOCK_SIZE, MAX_TESTS, TestFault, Tests};
-use std::alloc::{AllocError, Global};
+use crate::shared_file::{
+    OpenFile, Piece, TestFile, end_of_blocks, fill, read_share, share_file, zeros,
+};
+use patterns::Tests;
+use std::alloc::Global;
 use std::io::Read;
-use std::mem::swap;
-use std::sync::Wait;
+use std::marker::{Brand, PhantomData};
+use std::sync::{Mutex, Wait};
 use std::thread;
 use std::thread::Threads;
-use text_lines::{Rows, line_start_from};
+use text_lines::Rows;
 
-/// The greatest number of pieces: each but the last has a block of tests or more.
-const MAX_PIECES_OF_A_FILE: u32 = MAX_TESTS / BLOCK_SIZE + 1;
+/// How many times as large a piece becomes if it has no room for 64 rows.
+const TIMES_AS_LARGE: usize = 8;
+
+/// The most threads that read a file, whatever number is requested: by then they wait for the file.
+const MAX_THREADS: u32 = 8;
 
 /// Reads the tests of a file, from where its reader stands to its end, with at most `workers`
-/// threads ([`read_tests_in_threads`]). The digits of the first row are the width, if they are at
-/// most `most`. Only one piece of `size` bytes at a time is in memory.
+/// threads, which read pieces of the file in turn. The digits of the first row are the width, if
+/// they are at most `most`. A piece has `size` bytes, or eight times as many if 64 rows have more.
+/// Only one piece of each thread is in memory, and there are at most eight threads.
 ///
 /// It returns `None` if it can't read the file so: the file can't be read, memory runs out, a row
 /// has an error, there is no row, or a piece is too short for 64 rows. It also returns `None` if
-/// the rows are not alike, so that a piece doesn't end with full blocks. Then [`patterns::read_tests`]
-/// of all bytes has the tests or the error.
+/// the rows are not alike, so that a piece doesn't end with full blocks. Then
+/// [`patterns::read_tests`] of all bytes has the tests or the error.
 pub fn read_tests_in_pieces<R: Threads + Wait, F: Read + Send>(
     rt: &R,
     alloc: Global,
@@ -43,114 +47,79 @@ where
     ensures list { IfSome result (λ t. IsTestList t) }
     ensures width { IfSome result (λ t. (1 ≤ t.width) × (t.width ≤ most)) }
 {
-    let mut file = file;
-    let buffer = zeros(alloc, size).ok()?;
-    let spare = zeros(alloc, size).ok()?;
-    read_through(rt, alloc, &mut file, buffer, spare, most, workers)
+    let readers = workers.saturating_sub(1);
+    let (_nothing, tests) = read_tests_beside(rt, alloc, file, most, size, readers, || ());
+    tests
 }
 
-/// Returns this number of zeros.
-fn zeros(alloc: Global, count: usize) -> Result<Vec<u8>, AllocError> {
-    let mut bytes = Vec::new(alloc);
-    bytes.resize(count, 0)?;
-    Ok(bytes)
-}
-
-/// Reads the tests of a file as [`read_tests_in_pieces`] does, through two buffers. While the tests
-/// of one are read, the rest of it and the next bytes of the file go into the other.
-fn read_through<R: Threads + Wait, F: Read + Send>(
+/// Reads the tests of a file as [`read_tests_in_pieces`] does, with `readers` threads besides the
+/// caller's, while that one does other work. Then it reads with them. Returns the result of this
+/// work, too.
+pub fn read_tests_beside<R: Threads + Wait, F: Read + Send, W: FnOnce() -> A, A>(
     rt: &R,
     alloc: Global,
-    file: &mut F,
-    buffer: Vec<u8>,
-    spare: Vec<u8>,
+    file: F,
     most: u32,
-    workers: u32,
-) -> Option<Tests>
-    ensures tests { IfSome result (λ t. IfSome (F.remaining file.old) (λ text.
+    size: usize,
+    readers: u32,
+    work: W,
+) -> (A, Option<Tests>)
+where
+    F: Drop,
+    requires work { W.pre work }
+    ensures work { W.post work result.0 }
+    ensures tests { IfSome result.1 (λ t. IfSome (F.remaining file) (λ text.
         HasTests text t.width t)) }
-    ensures list { IfSome result (λ t. IsTestList t) }
-    ensures width { IfSome result (λ t. (1 ≤ t.width) × (t.width ≤ most)) }
+    ensures list { IfSome result.1 (λ t. IsTestList t) }
+    ensures width { IfSome result.1 (λ t. (1 ≤ t.width) × (t.width ≤ most)) }
 {
-    let mut buffer = buffer;
-    let mut spare = spare;
-    let mut filled = fill(file, &mut buffer, 0)?;
-    let width = first_width(&buffer[..filled], most)?;
-    let mut all = Tests::new(alloc, width);
-    for _ in 0..MAX_PIECES_OF_A_FILE {
-        if filled < buffer.len() {
-            let tests = read_tests_in_threads(rt, alloc, &buffer[..filled], width, workers);
-            add_piece(&mut all, tests.ok()?)?;
-            return Some(all);
+    let mut file = file;
+    match begin(alloc, &mut file, most, size) {
+        Some(Begun { first, width, size }) => {
+            read_in_turn::<R, F, Brand, W, A>(rt, alloc, file, first, width, size, readers, work)
         }
-        let end = end_of_blocks(&buffer)?;
-        let kept = keep_rest(&buffer[end..], &mut spare)?;
-        let piece = &buffer[..end];
-        let (next, tests) = read_and_fill(rt, alloc, piece, width, file, &mut spare, kept, workers);
-        add_piece(&mut all, tests.ok()?)?;
-        filled = next?;
-        swap(&mut buffer, &mut spare);
+        None => (work(), None),
     }
-    None
 }
 
-/// Copies bytes to the front of a buffer. Returns their number, or `None` if there is no room.
-fn keep_rest(rest: &[u8], buffer: &mut [u8]) -> Option<usize>
-    ensures kept { IfSome result (λ kept. (kept ≤ length buffer.new)
-        × (take kept buffer.new ≡ rest.now)) }
-    ensures size { length buffer.new ≡ length buffer.old }
-{
-    let count = rest.len();
-    if count > buffer.len() {
-        return None;
-    }
-    buffer[..count].copy_from_slice(rest);
-    Some(count)
-}
-
-/// Reads the tests of a piece, and at the same time fills a buffer with the next bytes of the file,
-/// from a place on.
-fn read_and_fill<R: Threads + Wait, F: Read + Send>(
-    rt: &R,
-    alloc: Global,
-    piece: &[u8],
+/// The first bytes of a test file.
+#[derive(Drop)]
+struct Begun {
+    first: Vec<u8>,
+    /// The number of digits of the first row.
     width: u32,
-    file: &mut F,
-    buffer: &mut [u8],
-    from: usize,
-    workers: u32,
-) -> (Option<usize>, Result<Tests, TestFault>)
-    requires width { 1 ≤ width }
-    requires from { from ≤ length buffer.old }
-    ensures filled { IfSome result.0 (IsFilled (F.remaining file.old) (F.remaining file.new)
-        buffer.old buffer.new from) }
-    ensures tests { IfOk result.1 (HasTests piece.now width) }
-{
-    if workers < 2 {
-        let tests = read_tests_in_threads(rt, alloc, piece, width, workers);
-        return (fill(file, buffer, from), tests);
-    }
-    let mut fill_next = || fill(file, buffer, from);
-    let mut read_piece = || read_tests_in_threads(rt, alloc, piece, width, workers - 1);
-    thread::join_mut(rt, &mut fill_next, &mut read_piece)
+    /// The number of bytes of a piece.
+    size: usize,
 }
 
-/// Fills a buffer with the next bytes of a file, from a place on. Returns the place after the last
-/// of them, which is the end of the buffer if the file has as many bytes. Returns `None` if the
-/// file can't be read.
-fn fill<F: Read>(file: &mut F, buffer: &mut [u8], from: usize) -> Option<usize>
-    requires { from ≤ length buffer.old }
-    ensures { IfSome result (IsFilled (F.remaining file.old) (F.remaining file.new)
-        buffer.old buffer.new from) }
+/// Reads the first bytes of a file. Returns `None` if it can't be read, if the first row has no
+/// digit or more than `most`, or if memory runs out.
+fn begin<F: Read>(alloc: Global, file: &mut F, most: u32, size: usize) -> Option<Begun>
+    ensures read { IfSome result (λ b.
+        Consumes (F.remaining file.old) (F.remaining file.new) b.first.items) }
+    ensures width { IfSome result (λ b. (1 ≤ b.width) × (b.width ≤ most)) }
 {
-    let mut place = from;
-    while place < buffer.len() {
-        match file.read(&mut buffer[place..]).ok()? {
-            0 => return Some(place),
-            count => place += count,
-        }
+    let mut first = zeros(alloc, size).ok()?;
+    let filled = fill_first(file, &mut first)?;
+    let width = first_width(&first[..filled], most)?;
+    let size = first.len();
+    first.truncate(filled);
+    Some(Begun { first, width, size })
+}
+
+/// Fills a buffer with the first bytes of a file. The buffer becomes larger if it has no room for
+/// 64 rows. Returns the number of bytes, or `None` if the file can't be read or memory runs out.
+fn fill_first<F: Read>(file: &mut F, buffer: &mut Vec<u8>) -> Option<usize>
+    ensures { IfSome result (λ filled. (filled ≤ length buffer.new.items)
+        × Consumes (F.remaining file.old) (F.remaining file.new) (take filled buffer.new.items)) }
+{
+    let filled = fill(file, buffer, 0)?;
+    if filled < buffer.len() || end_of_blocks(buffer).is_some() {
+        return Some(filled);
     }
-    Some(place)
+    let larger = filled.saturating_mul(TIMES_AS_LARGE);
+    buffer.resize(larger, 0).ok()?;
+    fill(file, buffer, filled)
 }
 
 /// Returns the number of digits of the first row, if there is a row and it has at most `most`.
@@ -165,32 +134,160 @@ fn first_width(piece: &[u8], most: u32) -> Option<u32>
     Some(width)
 }
 
-/// Returns the place after the last full block of a piece, if all lines from its first row on are
-/// as long as this row. Returns `None` if the piece has no full block, or no line ends there.
-fn end_of_blocks(piece: &[u8]) -> Option<usize>
-    ensures { IfSome result (IsLineEnd piece.now) }
+/// Reads the tests of a file of which some bytes were read, in threads that take pieces in turn.
+/// The caller's thread does other work, and then takes pieces, too.
+fn read_in_turn<R: Threads + Wait, F: Read + Send, T: TestFile + Send + Sync, W: FnOnce() -> A, A>(
+    rt: &R,
+    alloc: Global,
+    file: F,
+    first: Vec<u8>,
+    width: u32,
+    size: usize,
+    readers: u32,
+    work: W,
+) -> (A, Option<Tests>)
+where
+    F: Drop,
+    requires text { T.text ≡ text_of first.items (F.remaining file) }
+    requires width { (T.width ≡ width) × (1 ≤ width) }
+    requires work { W.pre work }
+    ensures work { W.post work result.0 }
+    ensures tests { IfSome result.1 (λ t. (text : List ℕ) → T.text ≡ Some text
+        → HasTests text width t) }
+    ensures list { IfSome result.1 (λ t. IsTestList t) }
+    ensures width { IfSome result.1 (λ t. t.width ≡ width) }
 {
-    let head = first_row(piece);
-    let rest = &piece[head..];
-    let line = line_start_from(rest, rest.len().min(1));
-    let block = line.saturating_mul(BLOCK_SIZE as usize).max(1);
-    let full = rest.len() / block * block;
-    let end = head + full;
-    if full == 0 || piece[end - 1] != b'\n' {
-        return None;
-    }
-    Some(end)
+    let shared = share_file::<F, T>(file, first);
+    let (done, pieces) = read_all(rt, alloc, &shared, width, size, readers, work);
+    let tests = match pieces {
+        Some(pieces) => join_pieces(alloc, width, pieces),
+        None => None,
+    };
+    (done, tests)
 }
 
-/// Adds the tests of a piece to full blocks of others. Returns `None` if the last block of the
-/// others isn't full, if they are too many, or if memory runs out.
-fn add_piece(all: &mut Tests, tests: Tests) -> Option<()>
-    requires { tests.width ≡ all.old.width }
-    ensures { OnSome result ((length all.old.tests + length tests.tests ≤ max_tests)
-        × (all.new ≡ with_tests all.old tests.tests)) }
+/// Reads the pieces of a file in a number of threads. The caller's thread does other work, and then
+/// takes pieces, too.
+fn read_all<R: Threads + Wait, F: Read + Send, T: TestFile + Send + Sync, W: FnOnce() -> A, A>(
+    rt: &R,
+    alloc: Global,
+    shared: &Mutex<Option<OpenFile<F, T>>>,
+    width: u32,
+    size: usize,
+    readers: u32,
+    work: W,
+) -> (A, Option<Vec<Piece<T>>>)
+where
+    F: Drop,
+    requires width { (T.width ≡ width) × (1 ≤ width) }
+    requires work { W.pre work }
+    ensures { W.post work result.0 }
 {
-    if !all.takes(&tests) {
-        return None;
+    let readers = readers.min(MAX_THREADS - 1);
+    if readers == 0 {
+        let done = work();
+        return (done, read_share(rt, alloc, shared, width, size));
     }
-    all.append(tests).ok()
+    let (others, (done, own)) = thread::join(
+        rt,
+        move || -> Option<Vec<Piece<T>>>
+            requires { (T.width ≡ width) × (1 ≤ width) }
+        { read_shares(&StandIn::<R>::new(), alloc, shared, width, size, readers) },
+        move || -> (A, Option<Vec<Piece<T>>>)
+            requires width { (T.width ≡ width) × (1 ≤ width) }
+            requires work { W.pre work }
+            ensures { W.post work result.0 }
+        {
+            let done = work();
+            (done, read_share(rt, alloc, shared, width, size))
+        },
+    );
+    (done, both(own, others))
+}
+
+/// Returns the pieces of two lists, or `None` if there is one list or memory runs out.
+fn both<T: TestFile>(
+    one: Option<Vec<Piece<T>>>,
+    other: Option<Vec<Piece<T>>>,
+) -> Option<Vec<Piece<T>>> {
+    let mut pieces = one?;
+    pieces.append(&mut other?).ok()?;
+    Some(pieces)
+}
+
+/// Stands in for the runtime in a thread, which can't borrow that of the thread that started it.
+#[derive(Drop)]
+struct StandIn<R> {
+    of: PhantomData<R>,
+}
+
+impl<R> StandIn<R> {
+    fn new() -> StandIn<R> {
+        StandIn { of: PhantomData }
+    }
+}
+
+impl<R: Threads> Threads for StandIn<R> {}
+
+impl<R: Wait> Wait for StandIn<R> {}
+
+/// Reads the pieces of a file in a number of threads, of which the caller's is one. The caller's
+/// thread also does the work of a thread that can't start.
+fn read_shares<R: Threads + Wait, F: Read + Send, T: TestFile + Send + Sync>(
+    rt: &R,
+    alloc: Global,
+    shared: &Mutex<Option<OpenFile<F, T>>>,
+    width: u32,
+    size: usize,
+    threads: u32,
+) -> Option<Vec<Piece<T>>>
+where
+    F: Drop,
+    requires { (T.width ≡ width) × (1 ≤ width) }
+{
+    if threads < 2 {
+        return read_share(rt, alloc, shared, width, size);
+    }
+    let (share, others) = thread::join(
+        rt,
+        move || -> Option<Vec<Piece<T>>>
+            requires { (T.width ≡ width) × (1 ≤ width) }
+        { read_share(&StandIn::<R>::new(), alloc, shared, width, size) },
+        move || -> Option<Vec<Piece<T>>>
+            requires { (T.width ≡ width) × (1 ≤ width) × (2 ≤ threads) }
+        { read_shares(rt, alloc, shared, width, size, threads - 1) },
+    );
+    both(others, share)
+}
+
+/// Joins the tests of all pieces of a file. Returns `None` if a piece is missing, if one but the
+/// last has a block that isn't full, if there are too many tests, or if memory runs out.
+fn join_pieces<T: TestFile>(alloc: Global, width: u32, pieces: Vec<Piece<T>>) -> Option<Tests>
+    requires { T.width ≡ width }
+    ensures tests { IfSome result (λ t. (text : List ℕ) → T.text ≡ Some text
+        → HasTests text width t) }
+    ensures list { IfSome result (λ t. IsTestList t) }
+    ensures width { IfSome result (λ t. t.width ≡ width) }
+{
+    let mut pieces = pieces;
+    pieces.sort_unstable_by_key(|piece| piece.start);
+    let mut all = Tests::new(alloc, width);
+    let mut place = 0;
+    let mut ended = false;
+    for piece in pieces {
+        let Piece {
+            start,
+            end,
+            last,
+            tests,
+            of: _,
+        } = piece;
+        if start != place || !all.takes(&tests) {
+            return None;
+        }
+        all.append(tests).ok()?;
+        place = end;
+        ended = last;
+    }
+    if ended { Some(all) } else { None }
 }

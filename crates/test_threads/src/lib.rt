@@ -6,6 +6,7 @@
 
 mod in_pieces;
 mod in_threads;
+mod shared_file;
 
-pub use in_pieces::read_tests_in_pieces;
+pub use in_pieces::{read_tests_beside, read_tests_in_pieces};
 pub use in_threads::read_tests_in_threads;

@@ -1,6 +1,6 @@
 use Rattle.std.proofs.Common.{length, ◌-◌, ◌≡◌, ◌≤◌, ◌++◌, List, ℕ, take}
 use Rattle.std.specs.Io.KnownBytes.{Consumes}
-use Rattle.test_threads.proofs.in_pieces.fill.Given as goal
+use Rattle.test_threads.proofs.shared_file.fill.Given as goal
 
 -- behind the bytes before the first place stand the next ones of the file
 abbrev pub invariant-loop-place : goal.invariant-loop-place

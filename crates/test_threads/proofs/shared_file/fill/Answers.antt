@@ -3,7 +3,7 @@ use Rattle.std.proofs.Common.{append_assoc, Ok}
 use Rattle.std.specs.Io.{ReadsAtMost}
 use Rattle.std.specs.Io.KnownBytes.{ReadConsumes}
 use Rattle.test_threads.proofs.Pieces.{Consumes-both, take-put_mid-more}
-use Rattle.test_threads.proofs.in_pieces.fill.Goals as goal
+use Rattle.test_threads.proofs.shared_file.fill.Goals as goal
 
 pub loop-place-preserved : goal.loop-place-preserved
 loop-place-preserved g c =
