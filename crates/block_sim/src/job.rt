@@ -1,6 +1,6 @@
 //! A job: a circuit with its faults, its classes and its tests.
 
-ghost use Rattle.std.specs.Prelude.{◌≡◌, ◌↔◌, ◌<◌, ◌≤◌, ◌*◌, ◌⊎◌, List, ℕ, None, length, map};
+ghost use Rattle.std.specs.Prelude.{◌≡◌, ◌↔◌, ◌<◌, ◌≤◌, ◌*◌, ◌⊎◌, [], List, ℕ, None, length, map};
 ghost use Rattle.std.specs.Prelude.{Err, IfErr, IfOk, IsTrue, OnOk, Some, slice_get, true};
 ghost use Rattle.bench_net.specs.Scan.{names, sources};
 ghost use Rattle.bench_net.specs.Statement.{Statement};
@@ -33,6 +33,7 @@ use flat_circuit::words::Stuck;
 use patterns::{MAX_PIECES, Tests};
 use std::alloc::{AllocError, Global};
 use std::marker::Model;
+use std::mem::replace;
 use std::sync::Wait;
 use std::thread;
 use std::thread::Threads;
@@ -91,7 +92,25 @@ struct JobParts {
     representatives: Vec<Stuck>,
 }
 
+/// The tests of a job and their fault-free words, which the job no longer has. They take some
+/// milliseconds to free.
+#[derive(Drop)]
+pub struct SpentTests {
+    tests: Tests,
+    rows: Vec<Vec<u128>>,
+}
+
 impl JobParts {
+    /// Takes other tests and their words, and returns those before.
+    fn exchange_tests(&mut self, tests: Tests, rows: Vec<Vec<u128>>) -> SpentTests
+        ensures { self.new ≡ record self.old { tests = tests; rows = rows } }
+    {
+        SpentTests {
+            tests: replace(&mut self.tests, tests),
+            rows: replace(&mut self.rows, rows),
+        }
+    }
+
     /// Takes other tests and their words.
     fn take_tests(&mut self, tests: Tests, rows: Vec<Vec<u128>>)
         ensures { self.new ≡ record self.old { tests = tests; rows = rows } }
@@ -454,6 +473,18 @@ impl Job {
         let rows = fault_free_rows_in_threads(rt, alloc, &self.parts.flat, &tests, workers)?;
         self.parts.take_tests(tests, rows);
         Ok(())
+    }
+
+    /// Returns the tests and their fault-free words, so that another thread can free them. The job
+    /// has no tests then. It fails only for memory, and then the job is as it was.
+    pub fn give_tests(&mut self, alloc: Global) -> Result<SpentTests, AllocError>
+        ensures job { OnOk result (self.new ≡ with_tests self.old
+            (record { width = self.old.tests.width; tests = [] })) }
+        ensures kept { IfErr result (λ fault. self.new ≡ self.old) }
+    {
+        let none = Tests::new(alloc, self.parts.tests.width());
+        let rows = fault_free_rows(alloc, &self.parts.flat, &none)?;
+        Ok(self.parts.exchange_tests(none, rows))
     }
 
     /// Returns the circuit.

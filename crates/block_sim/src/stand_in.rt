@@ -4,8 +4,8 @@ use std::marker::PhantomData;
 use std::sync::Wait;
 use std::thread::Threads;
 
-/// Stands in for a runtime in a thread that can't borrow it, as a thread that `thread::join` starts:
-/// the thread makes one of its own.
+/// Stands in for a runtime in a thread that can't borrow it, as a thread that `thread::join`
+/// starts: the thread makes one of its own.
 #[derive(Drop)]
 pub struct StandIn<R> {
     of: PhantomData<R>,

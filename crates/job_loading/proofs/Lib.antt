@@ -1,4 +1,5 @@
 mod JobsOfTexts
 mod FewestParts
+mod GivenTests
 mod PartsApart
 pub mod Public

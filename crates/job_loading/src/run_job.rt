@@ -2,7 +2,7 @@
 
 ghost use Rattle.std.specs.Prelude.{◌≡◌, ◌<◌, ◌≤◌, IfErr, IfOk, OnOk, false, length, true};
 ghost use Rattle.bench_net.specs.Scan.{sources};
-ghost use Rattle.patterns.specs.Tests.{IsTestList};
+ghost use Rattle.patterns.specs.Tests.{IsTestList, TestList};
 ghost use Rattle.block_sim.specs.Parts.{BelongTogether, with_tests};
 ghost use Rattle.workers.specs.Verdict.{AreAfterHits, AreFirsts};
 ghost use Rattle.region_runs.specs.Part.{ArePartVerdicts};
@@ -13,7 +13,7 @@ ghost use Rattle.job_loading.specs.Jobs.{AreTestsFor};
 
 use crate::texts::make_any_job_in_threads;
 use bench_net::Circuit;
-use block_sim::Job;
+use block_sim::{Job, SpentTests};
 use fault_model::Model;
 use patterns::Tests;
 use region_runs::{
@@ -87,6 +87,15 @@ impl RunJob {
             Some(tests) => tests,
             None => own,
         }
+    }
+
+    /// Returns the tests of the job and their fault-free words, so that another thread can free
+    /// them. The run has none then, unless they stand apart. It returns `None` if memory runs out,
+    /// and then the run is as it was.
+    pub fn give_tests(&mut self, alloc: Global) -> Option<SpentTests>
+        ensures kept { (some : TestList) × (self.new.parts ≡ with_tests self.old.parts some) }
+    {
+        self.job.give_tests(alloc).ok()
     }
 
     /// Runs all classes in a number of parts, by workers in threads of their own, with the verdicts

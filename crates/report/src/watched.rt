@@ -14,7 +14,8 @@ use fault_model::Model;
 use job_loading::{RunJob, SimFault, Split, Watch, run_apart_watched, split_run_of};
 use std::alloc::Global;
 use std::sync::Wait;
-use std::thread::Threads;
+use std::thread;
+use std::thread::{JoinHandle, Threads};
 
 /// Reads a circuit and tests for it, and writes the report that [`crate::simulate_text_with`]
 /// writes, with the same bytes. It calls the gate when the run begins and when it ends, and asks it
@@ -80,6 +81,30 @@ pub fn write_report_of_run<R: Threads + Wait, G: Watch + Sync, W: Out>(
     ensures within { OnOk result (ArePartsWithin run.old.parts parts) }
 {
     let verdicts = run_apart_watched(rt, alloc, run, parts, workers, gate)?;
-    write_report_in_threads(rt, alloc, run.job(), &verdicts, contents, workers, out)?;
+    let freeing = free_tests_in_thread(rt, alloc, run, workers);
+    let written = write_report_in_threads(rt, alloc, run.job(), &verdicts, contents, workers, out);
+    if let Some(thread) = freeing {
+        thread.join(rt);
+    }
+    written?;
     Ok(())
+}
+
+/// Starts a thread that frees the tests of a run and their fault-free words, if there is more than
+/// one worker: it takes about as long as the report, which doesn't need them.
+fn free_tests_in_thread<R: Threads>(
+    rt: &R,
+    alloc: Global,
+    run: &mut RunJob,
+    workers: u32,
+) -> Option<JoinHandle<()>>
+    ensures circuit { run.new.parts.circuit ≡ run.old.parts.circuit }
+    ensures list { run.new.parts.list ≡ run.old.parts.list }
+    ensures classes { run.new.parts.classes ≡ run.old.parts.classes }
+{
+    if workers < 2 {
+        return None;
+    }
+    let spent = run.give_tests(alloc)?;
+    thread::spawn(rt, move || drop(spent)).ok()
 }
