@@ -38,7 +38,7 @@ static CASES: [Case; 5] = [
     Case {
         name: "comment_among_the_rows",
         rows: 65_000,
-        comment_behind: 30_001,
+        comment_behind: 40_001,
         last: "# end",
         refused: None,
         in_pieces: false,
