@@ -1,1 +1,2 @@
 mod StretchLines
+mod Waiting

@@ -2,13 +2,15 @@
 use Rattle.std.proofs.Common.{◌≡◌, ℕ, zero, suc, ◌+◌, ◌-◌, ◌<◌, ◌≤◌, refl, sym, ap, ◌∙◌, subst}
 use Rattle.std.proofs.Common.{List, [], ◌∷◌, ◌++◌, map, filter, length, length-append, take, drop}
 use Rattle.std.proofs.Common.{get_or, arith, append-nil, append_assoc, take_all, ⊎_elim}
-use Rattle.std.specs.Prelude.{Option, Some, None, flat_map, slice_get, unwrap_or}
+use Rattle.std.specs.Prelude.{Option, Some, None, cond, count_by, flat_map, slice_get, unwrap_or}
 use Rattle.std.specs.List.{All, AllZip, slice_range}
 use Rattle.std.proofs.lemmas.Bool.{cases_lt}
-use Rattle.std.proofs.lemmas.List.{map-append, take_more, take-append-drop, drop_all}
+use Rattle.std.proofs.lemmas.List.{map-append, take_more, take-append-drop, take-take, drop_all}
+use Rattle.std.proofs.lemmas.List.{drop-take}
+use Rattle.std.proofs.lemmas.List.Sums.{sum_by-take-drop}
 use Rattle.std.proofs.lemmas.List.Concat.{flat_map-append}
 use Rattle.std.proofs.lemmas.List.Elements.{All-append, All-get_or, filter-append}
-use Rattle.text_lines.specs.Lines.{lines}
+use Rattle.text_lines.specs.Lines.{ends_line, lines}
 use Rattle.text_lines.specs.Starts.{IsLineStart}
 use Rattle.text_lines.proofs.Public.{lines-cut}
 use Rattle.bench_net.specs.declared.line.NumberedLine.{NumberedLine}
@@ -120,6 +122,18 @@ stated_more text start end before after from are between =
     ∙ ap (λ l. entries_of before ++ l) (sym none)
     ∙ sym (map-append entry_of before after)) are))
     (cases_lt start (length text))
+
+-- the line feeds before a place and up to another
+pub feeds_up_to : (text : List ℕ) (start end : ℕ) → start ≤ end
+    → count_by ends_line (take end text)
+    ≡ count_by ends_line (take start text) + count_by ends_line (slice_range text start end)
+feeds_up_to text start end le =
+    let whole = sum_by-take-drop (λ y. cond (ends_line y) 1 0) (take end text) start in
+    let n : start + (end - start) ≡ end = omega (arith, le) in
+    let behind : drop start (take end text) ≡ slice_range text start end =
+    subst (λ m. drop start (take m text) ≡ take (end - start) (drop start text)) n
+    (drop-take start (end - start) text) in
+    sym whole ∙ rw (take-take start end text le, behind) refl
 
 -- ---- lists that are one after another
 

@@ -1,6 +1,6 @@
 -- The statements of a part of a file's lines, as a thread returns them.
-use Rattle.std.specs.Prelude.{◌≡◌, ℕ, ◌+◌, ◌≤◌, List, map, filter, flat_map, take}
-use Rattle.std.specs.Prelude.{Result, Some, IfOk, slice_get, count_by}
+use Rattle.std.specs.Prelude.{◌≡◌, ◌≢◌, ℕ, ◌+◌, ◌≤◌, List, map, filter, flat_map, length, take}
+use Rattle.std.specs.Prelude.{AllPairs, Result, Some, IfOk, slice_get, count_by}
 use Rattle.std.specs.List.{All, slice_range}
 use Rattle.text_lines.specs.Lines.{lines, ends_line}
 use Rattle.text_lines.specs.Starts.{IsLineStart}
@@ -8,8 +8,9 @@ use Rattle.bench_net.specs.declared.BenchFault.{BenchFault}
 use Rattle.bench_net.specs.declared.number.StatedLine.{StatedLine}
 use Rattle.bench_net.specs.Statement.{Name, defines}
 use Rattle.bench_net.specs.reader.Parsed.{stands_for}
-use Rattle.bench_net.specs.reader.Entries.{AreStatedFrom, AreNumberedLines, AreCounts, entries_of}
-use Rattle.bench_net.specs.reader.Entries.{names_in, reads_in}
+use Rattle.bench_net.specs.declared.read.Counts.{Counts}
+use Rattle.bench_net.specs.reader.Entries.{AreCounts, AreFew, AreNumberedLines, AreStated}
+use Rattle.bench_net.specs.reader.Entries.{AreStatedFrom, entries_of, names_in, reads_in}
 use Rattle.bench_threads.specs.declared.stretch.Stretch.{Stretch}
 use Rattle.bench_threads.specs.declared.stretch.Numbered.{Numbered}
 
@@ -37,14 +38,27 @@ abbrev pub HasStretch : List ℕ → Result Stretch BenchFault → Type 0
 HasStretch text part =
     IfOk part (λ own. AreStatedBetween text own.start own.end own.stated.items × IsCounted own)
 
--- each of several results has such statements
-abbrev pub HaveStretches : List ℕ → List (Result Stretch BenchFault) → Type 0
-HaveStretches text parts = (i : ℕ) (part : Result Stretch BenchFault)
-    → slice_get parts i ≡ Some part → HasStretch text part
+-- lines of the file from one place to another, and the number of the lines before them
+pub record IsRange (text : List ℕ) (start end before : ℕ) : Type 0 where
+  pub order : start ≤ end
+  pub until : IsLineStart text end
+  pub count : before ≡ count_by ends_line (take start text)
 
 -- the statements of stretches, one after another
 abbrev pub joined : List Stretch → List StatedLine
 joined stretches = flat_map (λ own. own.stated.items) stretches
+
+-- the stretches of the file up to a place, the names that they define, and the numbers of the names
+-- that they define and read, which are within the limits
+pub record AreFirst (text : List ℕ) (end : ℕ) (stretches : List Stretch) (ns : List Name)
+    (counts : Counts) : Type 0 where
+  pub start : IsLineStart text end
+  pub stated : AreStated (lines (take end text)) (entries_of (joined stretches))
+  pub counted : AreCounted stretches
+  pub numbers : AreCounts (names_in (joined stretches)) (reads_in (joined stretches)) counts
+  pub few : AreFew (length (names_in (joined stretches))) (length (reads_in (joined stretches)))
+  pub names : ns ≡ names_in (joined stretches)
+  pub once : AllPairs (λ m n. m ≢ n) ns
 
 -- the numbers of the lines that define a name
 abbrev pub line_numbers_in : List StatedLine → List ℕ
@@ -62,8 +76,3 @@ pub record AreOfStretch (ns : List Name) (stretches : List Stretch) (place : ℕ
 -- the result of a thread has such lines, unless they have an error
 abbrev pub HasNumbered : List Name → List Stretch → ℕ → Result Numbered BenchFault → Type 0
 HasNumbered ns stretches place part = IfOk part (AreOfStretch ns stretches place)
-
--- the results for the first stretches, in order
-abbrev pub HaveNumbered : List Name → List Stretch → List (Result Numbered BenchFault) → Type 0
-HaveNumbered ns stretches parts = (i : ℕ) (part : Result Numbered BenchFault)
-    → slice_get parts i ≡ Some part → HasNumbered ns stretches i part

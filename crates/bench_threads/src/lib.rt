@@ -10,6 +10,9 @@ ghost use Rattle.bench_net.specs.Refusal.{IsAccepted, IsRefused};
 
 mod circuit;
 mod in_threads;
+mod numbering;
+mod reading;
+mod setback;
 mod stretch;
 
 use bench_net::{BenchFault, Circuit, read_bench};
