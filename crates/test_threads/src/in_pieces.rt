@@ -6,7 +6,7 @@ ghost use Rattle.test_threads.specs.Pieces.{text_of};
 ghost use Rattle.patterns.specs.Tests.{HasTests, IsTestList};
 
 use crate::shared_file::{
-    OpenFile, Piece, TestFile, end_of_blocks, fill, read_share, share_file, zeros,
+    OpenFile, Piece, TestFile, fill, has_full_block, read_share, share_file, zeros,
 };
 use patterns::Tests;
 use std::alloc::Global;
@@ -20,13 +20,17 @@ use text_lines::Rows;
 /// How many times as large a piece becomes if it has no room for 64 rows.
 const TIMES_AS_LARGE: usize = 8;
 
+/// The greatest number of bytes that it then has, unless it had more.
+const LARGE_PIECE: usize = 1 << 23;
+
 /// The most threads that read a file, whatever number is requested: by then they wait for the file.
 const MAX_THREADS: u32 = 8;
 
 /// Reads the tests of a file, from where its reader stands to its end, with at most `workers`
 /// threads, which read pieces of the file in turn. The digits of the first row are the width, if
-/// they are at most `most`. A piece has `size` bytes, or eight times as many if 64 rows have more.
-/// Only one piece of each thread is in memory, and there are at most eight threads.
+/// they are at most `most`. A piece has `size` bytes. If 64 rows have more, it has eight times as
+/// many, up to 8 MB. Only one piece of each thread is in memory, and there are at most eight
+/// threads.
 ///
 /// It returns `None` if it can't read the file so: the file can't be read, memory runs out, a row
 /// has an error, there is no row, or a piece is too short for 64 rows. It also returns `None` if
@@ -114,10 +118,11 @@ fn fill_first<F: Read>(file: &mut F, buffer: &mut Vec<u8>) -> Option<usize>
         × Consumes (F.remaining file.old) (F.remaining file.new) (take filled buffer.new.items)) }
 {
     let filled = fill(file, buffer, 0)?;
-    if filled < buffer.len() || end_of_blocks(buffer).is_some() {
+    if filled < buffer.len() || has_full_block(buffer) {
         return Some(filled);
     }
-    let larger = filled.saturating_mul(TIMES_AS_LARGE);
+    let larger = filled.saturating_mul(TIMES_AS_LARGE).min(LARGE_PIECE);
+    let larger = larger.max(filled);
     buffer.resize(larger, 0).ok()?;
     fill(file, buffer, filled)
 }

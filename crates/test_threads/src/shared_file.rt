@@ -107,15 +107,29 @@ pub(crate) fn fill<F: Read>(file: &mut F, buffer: &mut [u8], from: usize) -> Opt
     Some(place)
 }
 
+/// Returns the number of bytes of a block of rows that are as long as the first one, at which these
+/// lines begin.
+fn bytes_of_block(rows: &[u8]) -> usize
+    ensures { 1 ≤ result }
+{
+    let line = line_start_from(rows, rows.len().min(1));
+    line.saturating_mul(BLOCK_SIZE as usize).max(1)
+}
+
+/// Returns whether a piece has room for a block of rows that are as long as its first one.
+pub(crate) fn has_full_block(piece: &[u8]) -> bool {
+    let rows = &piece[first_row(piece)..];
+    bytes_of_block(rows) <= rows.len()
+}
+
 /// Returns the place after the last full block of a piece, if all lines from its first row on are
 /// as long as this row. Returns `None` if the piece has no full block, or no line ends there.
-pub(crate) fn end_of_blocks(piece: &[u8]) -> Option<usize>
+fn end_of_blocks(piece: &[u8]) -> Option<usize>
     ensures { IfSome result (IsLineEnd piece.now) }
 {
     let head = first_row(piece);
     let rest = &piece[head..];
-    let line = line_start_from(rest, rest.len().min(1));
-    let block = line.saturating_mul(BLOCK_SIZE as usize).max(1);
+    let block = bytes_of_block(rest);
     let full = rest.len() / block * block;
     let end = head + full;
     if full == 0 || piece[end - 1] != b'\n' {
