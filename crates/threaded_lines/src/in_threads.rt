@@ -13,9 +13,14 @@ use std::sync::Wait;
 use std::thread;
 use std::thread::{Promise, Threads};
 
-/// The greatest number of faults of a stretch. A thread puts their lines together in some ten times
-/// the time of its start, and they take about 400 kB.
+/// The number of faults of a stretch if one thread puts the lines together. These take about 400
+/// kB, so they fit into a cache.
 const FAULTS_OF_A_STRETCH: u32 = 1 << 14;
+
+/// The greatest number of faults of a stretch if several threads put the lines together. Each
+/// stretch starts a thread, so few large ones take less time than many small ones. The lines of one
+/// take about 1.6 MB.
+const MOST_FAULTS: u32 = 1 << 16;
 
 /// The greatest number of threads that put lines together.
 const MAX_THREADS: u32 = 64;
@@ -57,10 +62,11 @@ pub fn put_in_threads<R: Threads + Wait, L: FaultLines + Sync, W: Out>(
 {
     let count = lines.count();
     let threads = threads_for(count, workers);
+    let size = stretch_size(count, threads);
     let mut spare = Vec::new(alloc);
     let mut place = 0;
     while place < count {
-        let (end, texts) = put_round(rt, alloc, lines, place, threads, spare, out)?;
+        let (end, texts) = put_round(rt, alloc, lines, place, size, threads, spare, out)?;
         place = end;
         spare = texts;
     }
@@ -74,15 +80,29 @@ fn threads_for(faults: u32, workers: u32) -> u32 {
         .min(faults.div_ceil(FAULTS_OF_A_STRETCH))
 }
 
-/// Returns the end of the stretch that begins with a fault of a list with this number of faults.
-fn end_of(count: u32, start: u32) -> u32
-    requires { start ≤ count }
+/// Returns the number of faults of a stretch of a list with this number of faults: for several
+/// threads as many as give each of them the same, in as few rounds as [`MOST_FAULTS`] allows.
+fn stretch_size(count: u32, threads: u32) -> u32
+    ensures { 0 < result }
+{
+    if threads < 2 {
+        return FAULTS_OF_A_STRETCH;
+    }
+    let rounds = count.div_ceil(threads.saturating_mul(MOST_FAULTS)).max(1);
+    count.div_ceil(threads.saturating_mul(rounds)).max(1)
+}
+
+/// Returns the end of the stretch of at most this size that begins with a fault of a list with this
+/// number of faults.
+fn end_of(count: u32, start: u32, size: u32) -> u32
+    requires start { start ≤ count }
+    requires size { 0 < size }
     ensures order { start ≤ result }
     ensures within { result ≤ count }
     ensures some { start < count → start < result }
 {
     let left = count - start;
-    start + left.min(FAULTS_OF_A_STRETCH)
+    start + left.min(size)
 }
 
 /// Writes the lines of some faults from one on, and returns the number after that of the last one,
@@ -92,19 +112,21 @@ fn put_round<R: Threads + Wait, L: FaultLines + Sync, W: Out>(
     alloc: Global,
     lines: &L,
     place: u32,
+    size: u32,
     threads: u32,
     spare: Vec<Vec<u8>>,
     out: &mut W,
 ) -> Result<(u32, Vec<Vec<u8>>), OutFailed>
     requires some { place < length (L.texts lines.now) }
+    requires size { 0 < size }
     ensures { PutsSome (L.texts lines.now) place result (W.seen out.old) (W.seen out.new) }
 {
-    let parts = parts_from(rt, alloc, lines, place, threads, spare);
+    let parts = parts_from(rt, alloc, lines, place, size, threads, spare);
     let (end, texts) = put_parts(alloc, lines, place, parts, out)?;
     if end > place {
         return Ok((end, texts));
     }
-    let end = end_of(lines.count(), place);
+    let end = end_of(lines.count(), place, size);
     lines.put(place, end, out)?;
     Ok((end, texts))
 }
@@ -150,24 +172,32 @@ fn parts_from<R: Threads + Wait, L: FaultLines + Sync>(
     alloc: Global,
     lines: &L,
     place: u32,
+    size: u32,
     threads: u32,
     spare: Vec<Vec<u8>>,
 ) -> Vec<Result<Stretch, OutFailed>>
     requires place { place ≤ length (L.texts lines.now) }
+    requires size { 0 < size }
     ensures { HaveStretches (L.texts lines.now) result.items }
 {
-    match share_lines(rt, alloc, lines, place, threads, spare) {
+    match share_lines(rt, alloc, lines, place, size, threads, spare) {
         Ok(parts) => parts,
         Err(AllocError) => Vec::new(alloc),
     }
 }
 
 /// Puts the lines of one stretch into a buffer.
-fn stretch_of<L: FaultLines>(lines: &L, start: u32, text: Vec<u8>) -> Result<Stretch, OutFailed>
+fn stretch_of<L: FaultLines>(
+    lines: &L,
+    start: u32,
+    size: u32,
+    text: Vec<u8>,
+) -> Result<Stretch, OutFailed>
     requires place { start ≤ length (L.texts lines.now) }
+    requires size { 0 < size }
     ensures { HasStretch (L.texts lines.now) result }
 {
-    let end = end_of(lines.count(), start);
+    let end = end_of(lines.count(), start, size);
     let mut text = text;
     text.clear();
     let mut out = Plain::new(text);
@@ -184,10 +214,12 @@ fn share_lines<R: Threads + Wait, L: FaultLines + Sync>(
     alloc: Global,
     lines: &L,
     place: u32,
+    size: u32,
     threads: u32,
     spare: Vec<Vec<u8>>,
 ) -> Result<Vec<Result<Stretch, OutFailed>>, AllocError>
     requires place { place ≤ length (L.texts lines.now) }
+    requires size { 0 < size }
     ensures { IfOk result (λ parts. HaveStretches (L.texts lines.now) parts.items) }
 {
     thread::scope(
@@ -195,6 +227,7 @@ fn share_lines<R: Threads + Wait, L: FaultLines + Sync>(
         rt,
         move |scope| -> Result<Vec<Result<Stretch, OutFailed>>, AllocError>
             requires place { place ≤ length (L.texts lines.now) }
+            requires size { 0 < size }
             ensures { IfOk result (λ parts. HaveStretches (L.texts lines.entry.now) parts.items) }
         {
             let mut buffers = spare.into_iter();
@@ -205,15 +238,17 @@ fn share_lines<R: Threads + Wait, L: FaultLines + Sync>(
                 let promised = LinesOf {
                     lines: Snapshot::of(lines),
                 };
-                let Ok(handle) = scope.spawn_with(promised, move || stretch_of(lines, start, text))
-                else {
+                let Ok(handle) = scope.spawn_with(
+                    promised,
+                    move || stretch_of(lines, start, size, text),
+                ) else {
                     break;
                 };
                 handles.push(handle)?;
-                start = end_of(lines.count(), start);
+                start = end_of(lines.count(), start, size);
             }
             let text = buffers.next().unwrap_or(Vec::new(alloc));
-            let own = stretch_of(lines, start, text);
+            let own = stretch_of(lines, start, size, text);
             let Ok(mut parts) = thread::join_promised(rt, handles) else {
                 return Err(AllocError);
             };
