@@ -6,6 +6,7 @@ ghost use Rattle.input_check.specs.Counts.{AreCountsOf, AreLeastParts, AreTestCo
 
 use bench_net::{Circuit, Kind};
 use fault_model::{Model, collapse, list_faults_in};
+use job_loading::piece_bytes;
 use patterns::{BLOCK_SIZE, MAX_PIECES, MAX_TESTS, Tests};
 use region_runs::window_blocks;
 use std::alloc::{AllocError, Global};
@@ -20,8 +21,9 @@ const USUAL_WORKERS: u64 = 4;
 /// The least number of bytes of a test file that a run reads piece by piece.
 const LONG_TEXT: u64 = 1 << 22;
 
-/// The bytes of the piece that each thread has in memory then.
-const PIECE: u64 = 1 << 20;
+/// The bytes of a piece that each thread has in memory then, if 64 rows take more than the pieces
+/// of other files have ([`piece_bytes`]).
+const LARGE_PIECE: u64 = 1 << 23;
 
 /// The kinds of gates and their names, in the order of [`Counts::gates`].
 static KINDS: [(Kind, &str); 8] = [
@@ -168,17 +170,25 @@ impl Counts {
         self.memory(tests, self.text(tests), groups_of(tests), workers)
     }
 
+    /// Estimates the bytes of a test file that a run with this number of tests has at a time, if it
+    /// reads a long file piece by piece.
+    fn text_at_a_time(&self, tests: u32, workers: u64) -> u64 {
+        let whole = self.text(tests);
+        let rows = self.text(BLOCK_SIZE);
+        if whole < LONG_TEXT || rows > LARGE_PIECE {
+            return whole;
+        }
+        let usual = piece_bytes(whole);
+        let piece = if rows <= usual { usual } else { LARGE_PIECE };
+        piece.saturating_mul(workers)
+    }
+
     /// Estimates the bytes of a run that goes window by window, and reads a long test file piece by
     /// piece.
     fn memory_in_windows(&self, tests: u32, workers: u64) -> u64 {
         // The blocks by which a window goes on, and the block before.
         let window = window_blocks(self.signals) / 2 + 1;
-        let whole = self.text(tests);
-        let text = if whole < LONG_TEXT {
-            whole
-        } else {
-            PIECE.saturating_mul(workers)
-        };
+        let text = self.text_at_a_time(tests, workers);
         self.memory(tests, text, window.min(groups_of(tests)), workers)
     }
 }
