@@ -343,7 +343,7 @@ impl Display for Excess {
             f,
             "found {pieces} pieces: {classes} classes on {blocks} blocks of 64 tests; "
         )?;
-        write!(f, "try --parts {parts} or more")
+        write!(f, "try --parts auto, or --parts {parts} or more")
     }
 }
 
