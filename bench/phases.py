@@ -45,8 +45,8 @@ CASES = [
     Case("V2", "22,179 random gates, 10 outputs, 2,048 tests", compare.DEEP + " --join-unread", 2048),
     Case("list900k", "900,000 random gates, listed", compare.R900K),
 ]
-# As many parts as the tests of these need.
-PARTS = {"picosoc16k": 8, "r100k64k": 32}
+# The tests of these are too many for a run in one part.
+MANY_TESTS = ("picosoc16k", "r100k64k")
 
 # The functions whose first sample begins a phase. Those of no phase belong to the one before.
 PHASES = {
@@ -200,7 +200,7 @@ def words_of(case, folder, program, workers):
         compare.generated(folder, tests.name, ["tests", "--bench", str(bench), "--count", str(case.tests)])
     words = [str(program), "run", "--bench", str(bench), "--tests", str(tests), "--list"]
     words += ["--workers", str(workers)]
-    return words + (["--parts", str(PARTS[case.name])] if case.name in PARTS else [])
+    return words + (["--parts", "auto"] if case.name in MANY_TESTS else [])
 
 
 def main():
