@@ -253,7 +253,8 @@ pub counted_past : (names reads : List Name) (counts : Counts) (limit : Limit)
     → ArePast (length names) (length reads) limit
 counted_past names reads counts Bytes are past = absurd past
 counted_past names reads counts Signals are past = omega (arith, are, past)
-counted_past names reads counts Sinks are past = (omega (arith, are, past), omega (arith, are, past))
+counted_past names reads counts Sinks are past =
+    (omega (arith, are, past), omega (arith, are, past))
 
 -- the limits on signals and sinks
 module _ (text : List ℕ) (stated : List StatedLine)

@@ -5,6 +5,8 @@ use Rattle.std.specs.Prelude.{slice_index_or}
 use Rattle.std.specs.List.{filter_map}
 use Rattle.bench_net.specs.declared.line.NumberedLine.{NumberedLine}
 use Rattle.bench_net.specs.declared.tables.LineTables.{LineTables}
+use Rattle.bench_net.specs.declared.tables.SignalTables.{SignalTables}
+use Rattle.bench_net.specs.declared.tables.SinkTables.{SinkTables}
 use Rattle.bench_net.specs.declared.tables.Tables.{Tables}
 use Rattle.bench_net.specs.Statement.{Name, Statement}
 use Rattle.bench_net.specs.Scan.{names, signal, name_of, gate_of, inputs, outputs, cells, sources}
@@ -39,6 +41,21 @@ pub record AreLineTables (lines : List NumberedLine) (tables : LineTables) : Typ
   pub definitions_are : tables.definitions.items ≡ definition_places lines
   pub places_are : ArePlaces (source_signals lines) (signals_in lines)
       (length (source_signals lines)) tables.source_places.items
+  pub sinks_are : AreSinkRows (all_readers lines (filter_map output_number lines))
+      (signals_in lines) tables.sinks.starts.items tables.sinks.sinks.items
+
+-- those of the signals that lines define
+pub record AreSignalTables (lines : List NumberedLine) (tables : SignalTables) : Type 0 where
+  pub inputs_are : tables.inputs.items ≡ filter_map input_number lines
+  pub cells_are : tables.cells.items ≡ filter_map cell_numbers lines
+  pub sources_are : tables.sources.items ≡ source_signals lines
+  pub definitions_are : tables.definitions.items ≡ definition_places lines
+  pub places_are : ArePlaces (source_signals lines) (signals_in lines)
+      (length (source_signals lines)) tables.source_places.items
+
+-- and those of what reads the signals
+pub record AreSinkTables (lines : List NumberedLine) (tables : SinkTables) : Type 0 where
+  pub outputs_are : tables.outputs.items ≡ filter_map output_number lines
   pub sinks_are : AreSinkRows (all_readers lines (filter_map output_number lines))
       (signals_in lines) tables.sinks.starts.items tables.sinks.sinks.items
 

@@ -20,6 +20,10 @@ pub struct Reader {
     sink: Sink,
 }
 
+/// The number of readers for each line that get room at first. Most circuits have fewer, and more
+/// readers get room as they come.
+const READERS_OF_A_LINE: usize = 3;
+
 /// The sinks of all signals. Signal `s` has `sinks[starts[s]..starts[s + 1]]`.
 #[derive(Drop)]
 pub struct SinkRows {
@@ -128,7 +132,8 @@ pub fn readers_of(
     requires pins { (l : NumberedLine) → Contains lines.now l → PinsFit l }
     ensures { IfOk result (λ readers. readers.items ≡ all_readers lines.now outputs.now) }
 {
-    let mut readers = Vec::new(alloc);
+    let room = lines.len().saturating_mul(READERS_OF_A_LINE);
+    let mut readers = Vec::with_capacity(alloc, room)?;
     add_lines(&mut readers, lines)?;
     add_outputs(&mut readers, outputs)?;
     Ok(readers)

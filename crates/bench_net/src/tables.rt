@@ -1,11 +1,13 @@
 //! Tables made of a circuit's lines: inputs, outputs, cells, places in a test, definitions.
 
-ghost use Rattle.std.specs.Prelude.{◌≡◌, ◌^◌, ◌++◌, ◌<◌, map, length, All, IfOk, IfErr};
+ghost use Rattle.std.specs.Prelude.{◌≡◌, ◌^◌, ◌++◌, ◌<◌, List, map, length, All, IfOk, IfErr};
 ghost use Rattle.std.specs.List.{filter_map};
 ghost use Rattle.bench_net.specs.Tables.{input_number, output_number, cell_numbers};
 ghost use Rattle.bench_net.specs.Tables.{definition_places, signals_in, gate_pins, ArePlaces};
 ghost use Rattle.bench_net.specs.Marks.{IsLevelFault};
 ghost use Rattle.bench_net.specs.Inside.{AreTableLines, AreLineTables, AreTables};
+ghost use Rattle.bench_net.specs.Inside.{AreSignalTables, AreSinkTables};
+ghost use Rattle.bench_net.specs.declared.line.NumberedLine.{NumberedLine};
 
 use crate::levels::{Levels, levels_of};
 use crate::line::{NumberedLine, defines};
@@ -37,6 +39,56 @@ pub struct LineTables {
     pub source_places: Vec<Option<u32>>,
     /// For each signal the place of the line that defines it.
     pub definitions: Vec<usize>,
+    /// For each signal its sinks.
+    pub sinks: SinkRows,
+}
+
+impl LineTables {
+    /// Joins the tables of the same lines.
+    pub fn of(signals: SignalTables, sinks: SinkTables) -> LineTables
+        ensures { (lines : List NumberedLine) → AreSignalTables lines signals
+            → AreSinkTables lines sinks → AreLineTables lines result }
+    {
+        let SignalTables {
+            inputs,
+            cells,
+            sources,
+            source_places,
+            definitions,
+        } = signals;
+        let SinkTables { outputs, sinks } = sinks;
+        LineTables {
+            inputs,
+            cells,
+            outputs,
+            sources,
+            source_places,
+            definitions,
+            sinks,
+        }
+    }
+}
+
+/// The tables of the signals that lines define.
+#[derive(Drop)]
+pub struct SignalTables {
+    /// The signals of the INPUT lines.
+    pub inputs: Vec<u32>,
+    /// The flip-flop cells.
+    pub cells: Vec<ScanCell>,
+    /// The signals that take a bit of a test, in the order of the bits.
+    pub sources: Vec<u32>,
+    /// For each signal its place in a test.
+    pub source_places: Vec<Option<u32>>,
+    /// For each signal the place of the line that defines it.
+    pub definitions: Vec<usize>,
+}
+
+/// The tables of what reads the signals of lines.
+#[derive(Drop)]
+pub struct SinkTables {
+    /// The signals of the OUTPUT lines.
+    pub outputs: Vec<u32>,
     /// For each signal its sinks.
     pub sinks: SinkRows,
 }
@@ -126,28 +178,49 @@ pub(crate) fn source_places(
     Ok(places)
 }
 
-/// Returns the tables that passes over the lines compute.
-pub fn line_tables(alloc: Global, lines: &[NumberedLine]) -> Result<LineTables, AllocError>
+/// Returns the tables of the signals that lines define.
+pub fn signal_tables(alloc: Global, lines: &[NumberedLine]) -> Result<SignalTables, AllocError>
     requires { AreTableLines lines.now }
-    ensures { IfOk result (AreLineTables lines.now) }
+    ensures { IfOk result (AreSignalTables lines.now) }
 {
     let inputs = input_signals(alloc, lines)?;
     let cells = cells(alloc, lines)?;
-    let outputs = output_signals(alloc, lines)?;
     let sources = sources(alloc, &inputs, &cells)?;
     let definitions = definitions(alloc, lines)?;
     let source_places = source_places(alloc, &sources, definitions.len())?;
-    let readers = readers_of(alloc, lines, &outputs)?;
-    let sinks = sink_rows(alloc, &readers, definitions.len())?;
-    Ok(LineTables {
+    Ok(SignalTables {
         inputs,
         cells,
-        outputs,
         sources,
         source_places,
         definitions,
-        sinks,
     })
+}
+
+/// Returns the tables of what reads the signals of lines, given the number of these signals.
+pub fn sink_tables(
+    alloc: Global,
+    lines: &[NumberedLine],
+    signals: usize,
+) -> Result<SinkTables, AllocError>
+    requires lines { AreTableLines lines.now }
+    requires signals { signals ≡ signals_in lines.now }
+    ensures { IfOk result (AreSinkTables lines.now) }
+{
+    let outputs = output_signals(alloc, lines)?;
+    let readers = readers_of(alloc, lines, &outputs)?;
+    let sinks = sink_rows(alloc, &readers, signals)?;
+    Ok(SinkTables { outputs, sinks })
+}
+
+/// Returns the tables that passes over the lines compute.
+fn line_tables(alloc: Global, lines: &[NumberedLine]) -> Result<LineTables, AllocError>
+    requires { AreTableLines lines.now }
+    ensures { IfOk result (AreLineTables lines.now) }
+{
+    let signals = signal_tables(alloc, lines)?;
+    let sinks = sink_tables(alloc, lines, signals.definitions.len())?;
+    Ok(LineTables::of(signals, sinks))
 }
 
 /// Returns the tables of lines, given the number of each signal's line. It fails if a signal is on

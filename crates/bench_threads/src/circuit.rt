@@ -1,8 +1,8 @@
-//! A circuit of numbered statements, with its tables made in two threads.
+//! A circuit of numbered statements, with its tables made in three threads.
 
 ghost use Rattle.std.specs.Prelude.{◌≡◌, ◌⊎◌, ◌+◌, ℕ, List, length, IfOk, IfErr};
 ghost use Rattle.bench_net.specs.Circuit.{IsCircuit};
-ghost use Rattle.bench_net.specs.Inside.{AreTableLines, AreTables};
+ghost use Rattle.bench_net.specs.Inside.{AreSignalTables, AreTableLines, AreTables};
 ghost use Rattle.bench_net.specs.Level.{greatest};
 ghost use Rattle.bench_net.specs.Marks.{AreLevelsOf, IsGraph, IsLevelFault};
 ghost use Rattle.bench_net.specs.Rows.{AreRows};
@@ -12,9 +12,9 @@ ghost use Rattle.bench_net.specs.Tables.{gate_pins, signals_in};
 use bench_net::levels::{Levels, levels_of};
 use bench_net::line::NumberedLine;
 use bench_net::read::Lines;
-use bench_net::tables::{Tables, line_tables};
+use bench_net::tables::{LineTables, SignalTables, Tables, signal_tables, sink_tables};
 use bench_net::{BenchFault, Circuit};
-use std::alloc::Global;
+use std::alloc::{AllocError, Global};
 use std::sync::Wait;
 use std::thread;
 use std::thread::Threads;
@@ -40,9 +40,37 @@ fn levels_and_free<S: Drop>(
     levels_of(alloc, lines, at)
 }
 
+/// Returns the tables of the signals that lines define, which another thread makes, and the levels
+/// of these signals. Then it lets go of what is no longer needed.
+fn signals_and_levels<R: Threads + Wait, S: Drop>(
+    rt: &R,
+    alloc: Global,
+    lines: &[NumberedLine],
+    at: &[u64],
+    spent: S,
+) -> (Result<SignalTables, AllocError>, Result<Levels, BenchFault>)
+    requires lines { AreTableLines lines.now }
+    requires at { length at.now ≡ signals_in lines.now }
+    ensures signals { IfOk result.0 (AreSignalTables lines.now) }
+    ensures levels { IfOk result.1 (λ l. AreLevelsOf (gate_pins lines.now) (signals_in lines.now)
+        l.levels.items) }
+    ensures order { IfOk result.1 (λ l. (starts : List ℕ)
+        × AreRows l.levels.items (l.depth + 1) starts l.order.items) }
+    ensures depth { IfOk result.1 (λ l. l.depth ≡ greatest l.levels.items) }
+    ensures fault { IfErr result.1
+        (IsLevelFault (gate_pins lines.now) (signals_in lines.now) at.now) }
+{
+    thread::join(
+        rt,
+        move || signal_tables(alloc, lines),
+        move || levels_and_free(alloc, lines, at, spent),
+    )
+}
+
 /// Returns the tables of lines, given the number of each signal's line. One thread finds the levels
-/// and frees what is no longer needed, while another one makes the other tables. It fails if a
-/// signal is on a cycle of gates or fed by one, with the lowest such line by its number.
+/// and frees what is no longer needed, while another one finds the sinks, and a third one makes the
+/// other tables. It fails if a signal is on a cycle of gates or fed by one, with the lowest such
+/// line by its number.
 fn tables_of_in_threads<R: Threads + Wait, S: Drop>(
     rt: &R,
     alloc: Global,
@@ -56,18 +84,19 @@ fn tables_of_in_threads<R: Threads + Wait, S: Drop>(
     ensures fault { IfErr result
         (IsLevelFault (gate_pins lines.now) (signals_in lines.now) at.now) }
 {
-    let (of_lines, levels) = thread::join(
+    let signals = at.len();
+    let (sinks, (signals, levels)) = thread::join(
         rt,
-        move || line_tables(alloc, lines),
-        move || levels_and_free(alloc, lines, at, spent),
+        move || sink_tables(alloc, lines, signals),
+        move || signals_and_levels(rt, alloc, lines, at, spent),
     );
-    let of_lines = of_lines?;
+    let of_lines = LineTables::of(signals?, sinks?);
     let levels = levels?;
     Ok(Tables { of_lines, levels })
 }
 
 /// Makes the circuit of numbered statements as [`bench_net::read_bench`] does, with the same
-/// errors, in two threads, one of which frees what reading no longer needs.
+/// errors, in three threads, one of which frees what reading no longer needs.
 pub fn circuit_of_in_threads<R: Threads + Wait, S: Drop>(
     rt: &R,
     alloc: Global,

@@ -17,7 +17,8 @@ returns-in-Some-clause-refused c =
     inr (past c.args.text.now c.as_slice-stated.result.now
     (rw c.as_slice-stated.ensures.value c.in_ok-read.ensures.ok) (omega arith)
     c.in-Some.limit
-    (counted_past _ _ c.counts_of.result c.in-Some.limit c.counts_of.ensures c.in-Some.ensures.past))
+    (counted_past _ _ c.counts_of.result c.in-Some.limit c.counts_of.ensures
+    c.in-Some.ensures.past))
 
 pub number_lines-requires-clause-own : goal.number_lines-requires-clause-own
 number_lines-requires-clause-own c = (

@@ -35,7 +35,8 @@ returns-in_err-statement-clause-refused c =
     let turn = YieldsList-turn road c.loop-line.yielded _ c.loop-line.yielded_by _ _
     c.in-Some.line c.in-Some.is c.next.ensures.steps in
     let front = YieldsList-so_far road c.loop-line.yielded _ c.loop-line.yielded_by in
-    let p = err_from_is_err_and c.from_residual-in_err-statement.result c.from_residual-in_err-statement.ensures.1 in
+    let back = c.from_residual-in_err-statement.result in
+    let p = err_from_is_err_and back c.from_residual-in_err-statement.ensures.1 in
     let number : c.args.before ≡ 0 → c.loop-line.number + 1 ≡ suc (length c.loop-line.yielded) =
     λ top. omega (arith, top, c.loop-line.invariant.0) in
     λ top. rw (p.1, p.2) (may_be c.args.text.now (Syntax (c.loop-line.number + 1)) _ _
