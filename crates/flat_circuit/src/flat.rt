@@ -419,7 +419,7 @@ struct Placed<'a> {
 }
 
 /// Returns the lists of a circuit in the order of its signals, made by two threads, or by three if
-/// there are as many workers.
+/// there are as many workers. Each of the others' lists is copied once.
 fn lists_in_threads<R: Threads + Wait>(
     rt: &R,
     alloc: Global,
@@ -434,17 +434,20 @@ fn lists_in_threads<R: Threads + Wait>(
         0 (length order.entry.now)) }
 {
     let end = order.len();
-    let first_end = if workers < 3 { 0 } else { end / 3 };
-    let (first, rest) = thread::join(
+    if workers < 3 {
+        return lists_in_halves(rt, alloc, circuit, order, places, live, end);
+    }
+    let last = end - end / 3;
+    let (rest, first) = thread::join(
         rt,
-        move || lists_between(alloc, circuit, order, places, live, 0, first_end),
-        move || lists_in_halves(rt, alloc, circuit, order, places, live, first_end, end),
+        move || lists_between(alloc, circuit, order, places, live, last, end),
+        move || lists_in_halves(rt, alloc, circuit, order, places, live, last),
     );
     join_lists(first?, rest?)
 }
 
-/// Returns the lists of the signals at the places from one up to another, which is not included,
-/// made by two threads.
+/// Returns the lists of the signals at the places up to one, which is not included, made by two
+/// threads.
 fn lists_in_halves<R: Threads + Wait>(
     rt: &R,
     alloc: Global,
@@ -452,19 +455,17 @@ fn lists_in_halves<R: Threads + Wait>(
     order: &[u32],
     places: &[u32],
     live: &[bool],
-    from: usize,
     end: usize,
 ) -> Result<Lists, AllocError>
     requires placed { ArePlaced circuit.now order.now places.now live.now }
-    requires order { from ≤ end }
     requires end { end ≤ length order.now }
-    ensures { IfOk result (AreListsOf (in_order circuit.entry.now order.entry.now) from end) }
+    ensures { IfOk result (AreListsOf (in_order circuit.entry.now order.entry.now) 0 end) }
 {
-    let middle = from + (end - from) / 2;
-    let (first, rest) = thread::join(
+    let middle = end / 2;
+    let (rest, first) = thread::join(
         rt,
-        move || lists_between(alloc, circuit, order, places, live, from, middle),
         move || lists_between(alloc, circuit, order, places, live, middle, end),
+        move || lists_between(alloc, circuit, order, places, live, 0, middle),
     );
     join_lists(first?, rest?)
 }

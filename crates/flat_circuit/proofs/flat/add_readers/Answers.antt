@@ -15,7 +15,9 @@ use Rattle.flat_circuit.proofs.ReorderedReaders.{same_readers}
 use Rattle.flat_circuit.proofs.ObservedSinks.{HasObserver, observer_none, sink_gate}
 use Rattle.flat_circuit.proofs.ObservedSinks.{observer_passed, observer_found, observer_all}
 use Rattle.flat_circuit.proofs.flat.add_readers.Goals as goal
-use Rattle.flat_circuit.proofs.flat.add_readers.Goals.{in-Pin+else-not-placed-gate+in_ok-push-in-Pin}
+use Rattle.flat_circuit.proofs.flat.add_readers.Goals.{
+  in-Pin+else-not-placed-gate+in_ok-push-in-Pin,
+}
 use Rattle.flat_circuit.proofs.flat.add_readers.Goals.{in-Data, in-Out}
 
 pub loop-sink-init : goal.loop-sink-init
