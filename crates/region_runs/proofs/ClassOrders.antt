@@ -150,16 +150,6 @@ is_kept {X} p (y ∷ xs) (suc j) x e is = go (p y) (is_kept p xs j x e is)
     go true h = (suc h.0, h.1)
     go false h = h
 
--- and no more
-pub kept_few : {X : Type 0} (p : X → Bool) (xs : List X) → length (filter p xs) ≤ length xs
-kept_few p [] = omega arith
-kept_few {X} p (x ∷ xs) = go (p x) (kept_few p xs)
-  where
-    go : (t : Bool) → length (filter p xs) ≤ length xs
-        → length (cond t (x ∷ filter p xs) (filter p xs)) ≤ suc (length xs)
-    go true rest = omega (arith, rest)
-    go false rest = omega (arith, rest)
-
 -- ---- the classes of a part
 
 -- the classes of a part among the first n of a list

@@ -15,7 +15,7 @@ use Rattle.region_runs.specs.declared.parts.PartVerdict.{PartVerdict}
 use Rattle.region_runs.specs.declared.parts.PartVerdict.TheVariants.{First, OtherPart}
 use Rattle.region_runs.specs.ListRunners.{AreMarked}
 use Rattle.region_runs.specs.Part.{AreAllByRegion, AreClassVerdicts, IsClassVerdict, first_in}
-use Rattle.region_runs.proofs.ClassOrders.{is_kept, kept_few}
+use Rattle.region_runs.proofs.ClassOrders.{is_kept}
 use Rattle.region_runs.proofs.PartsOfClasses.{all_within}
 
 module _ (job : Parts) (order : List ℕ) (all : AreAllByRegion job order) where
@@ -24,10 +24,6 @@ module _ (job : Parts) (order : List ℕ) (all : AreAllByRegion job order) where
       → All (λ class. class < length job.classes.representative) (filter p order)
   listed_within p = All-filter p (λ class. class < length job.classes.representative) order
       (all_within job order all)
-
-  pub listed_few : (p : ℕ → Bool)
-      → length (filter p order) ≤ length job.classes.representative
-  listed_few p = let few = kept_few p order in let most = all.few in omega (arith, few, most)
 
   -- each class of a list whose classes are marked is kept
   pub listed_all : (classes : List ℕ) (marks : List Bool)

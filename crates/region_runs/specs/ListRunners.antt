@@ -9,9 +9,9 @@ pub record Runner : Type 0 where
   pub simulation : RegionsSimulated
   pub order : List ℕ
 
--- it is large enough for the classes of the job, and has all of them region by region
+-- it has room for the signals of the job, and all of its classes region by region
 pub record ServesLists (runner : Runner) (job : Parts) : Type 0 where
-  pub regions : ServesRegions runner.simulation job
+  pub regions : ServesRegions runner.simulation job 0
   pub order : AreAllByRegion job runner.order
 
 -- the first n classes of a list are marked

@@ -39,8 +39,8 @@ impl Model for ListRunner {
 }
 
 impl ListRunner {
-    /// Makes room for the runs of a job. It takes a word and a few numbers for each signal, and a
-    /// few numbers for each class.
+    /// Makes room for the runs of a job. It takes a few words and numbers for each signal, and a
+    /// number for each class.
     pub fn new(alloc: Global, job: &Job) -> Result<ListRunner, AllocError>
         ensures { IfOk result (λ runner. ServesLists runner job.now) }
     {
@@ -137,14 +137,14 @@ fn run_alone(
     classes: &[u32],
     simulation: &mut RegionSimulation,
 ) -> Result<Vec<Option<u32>>, AllocError>
-    requires few { length classes.now ≤ length job.now.classes.representative }
     requires classes { All (λ class. class < length job.now.classes.representative) classes.now }
-    requires serves { ServesRegions simulation.old job.now }
+    requires serves { ServesRegions simulation.old job.now 0 }
     ensures firsts { IfOk result (λ firsts. AreClassFirsts job.now.list.model job.now.circuit
         job.now.tests.tests classes.now firsts.items) }
-    ensures serves { ServesRegions simulation.new job.now }
+    ensures serves { ServesRegions simulation.new job.now 0 }
 {
     let _tests = job.tests();
+    simulation.make_room(classes.len())?;
     let rows = rows_of(alloc, job, classes)?;
     let mut firsts = no_firsts(alloc, classes.len())?;
     let mut open = all_open(alloc, firsts.as_slice())?;

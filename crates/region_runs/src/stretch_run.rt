@@ -103,14 +103,13 @@ pub(crate) fn run_list<G: Gate>(
     firsts: &mut [Option<u32>],
 ) -> Option<Stop>
     requires rows { All (IsListed job.now) rows.now }
-    requires few { length rows.now ≤ length job.now.classes.representative }
-    requires serves { ServesRegions simulation.old job.now }
+    requires serves { ServesRegions simulation.old job.now (length rows.now) }
     requires none { AreFoundUpTo job.now (classes_of rows.now) 0 0 firsts.old }
     requires next { AreNextOpen firsts.old next.old }
     ensures ended { HasEnded job.now (classes_of rows.now) worker (G.stops gate.now) result
         firsts.new }
     ensures passing { G.passing gate.now → result ≡ None }
-    ensures serves { ServesRegions simulation.new job.now }
+    ensures serves { ServesRegions simulation.new job.now 0 }
 {
     if !gate.lets_all_pass() {
         return run_rows(job, rows, worker, simulation, gate, next, firsts);
@@ -172,14 +171,13 @@ fn run_rows<G: Gate>(
     firsts: &mut [Option<u32>],
 ) -> Option<Stop>
     requires rows { All (IsListed job.now) rows.now }
-    requires few { length rows.now ≤ length job.now.classes.representative }
-    requires serves { ServesRegions simulation.old job.now }
+    requires serves { ServesRegions simulation.old job.now (length rows.now) }
     requires none { AreFoundUpTo job.now (classes_of rows.now) 0 0 firsts.old }
     requires next { AreNextOpen firsts.old next.old }
     ensures ended { HasEnded job.now (classes_of rows.now) worker (G.stops gate.now) result
         firsts.new }
     ensures passing { G.passing gate.now → result ≡ None }
-    ensures serves { ServesRegions simulation.new job.now }
+    ensures serves { ServesRegions simulation.new job.now (length rows.now) }
 {
     let mut known = 0;
     let mut block = 0;
@@ -209,10 +207,9 @@ fn finish_sweep<G: Gate>(
 ) -> u32
     requires together { BelongTogether job.now }
     requires rows { All (IsListed job.now) rows.now }
-    requires few { length rows.now ≤ length job.now.classes.representative }
     requires sweep { (sweep.block ≤ sweep.last)
         × (sweep.last < blocks (length job.now.tests.tests)) }
-    requires serves { ServesRegions simulation.now job.now }
+    requires serves { ServesRegions simulation.now job.now (length rows.now) }
     requires found { AreFoundUpTo job.now (classes_of rows.now) 0 (sweep.block + 1) firsts.old }
     requires passed { ArePassed job.now (classes_of rows.now) worker (G.stops gate.now) 0
         (sweep.block + 1) }
@@ -291,10 +288,9 @@ fn settle_rest(
 )
     requires together { BelongTogether job.now }
     requires rows { All (IsListed job.now) rows.now }
-    requires few { length rows.now ≤ length job.now.classes.representative }
     requires sweep { (sweep.block ≤ sweep.last)
         × (sweep.last < blocks (length job.now.tests.tests)) }
-    requires serves { ServesRegions simulation.now job.now }
+    requires serves { ServesRegions simulation.now job.now (length rows.now) }
     requires found { AreFoundUpTo job.now (classes_of rows.now) 0 (sweep.block + 1) firsts.old }
     requires following { HaveFirstsAfter job.now rows.now firsts.old sweep (length rows.now)
         simulation.now.hits }
@@ -367,10 +363,9 @@ fn run_block<G: Gate>(
 ) -> Option<Stop>
     requires together { BelongTogether job.now }
     requires rows { All (IsListed job.now) rows.now }
-    requires few { length rows.now ≤ length job.now.classes.representative }
     requires block { sweep.block < blocks (length job.now.tests.tests) }
     requires sweep { (known : ℕ) × IsBlockSweep job.now rows.now known sweep }
-    requires serves { ServesRegions simulation.old job.now }
+    requires serves { ServesRegions simulation.old job.now (length rows.now) }
     requires found { AreFoundUpTo job.now (classes_of rows.now) 0 sweep.block firsts.old }
     requires passed { ArePassed job.now (classes_of rows.now) worker (G.stops gate.now) 0
         sweep.block }
@@ -391,7 +386,7 @@ fn run_block<G: Gate>(
         simulation.new.hits) }
     ensures next { IfNone result (AreNextOpen firsts.new next.new) }
     ensures passing { G.passing gate.now → result ≡ None }
-    ensures serves { ServesRegions simulation.new job.now }
+    ensures serves { ServesRegions simulation.new job.now (length rows.now) }
 {
     let mut found = sweep.found;
     let mut before = 0;
@@ -435,13 +430,12 @@ fn region_from(
     firsts: &[Option<u32>],
 ) -> usize
     requires rows { All (IsListed job.now) rows.now }
-    requires few { length rows.now ≤ length job.now.classes.representative }
     requires block { sweep.block < blocks (length job.now.tests.tests) }
     requires firsts { length firsts.now ≡ length rows.now }
     requires next { AreNextOpen firsts.now next.now }
     requires place { place < length rows.now }
     requires whole { IsWhole job.now rows.now sweep found }
-    requires serves { ServesRegions simulation.old job.now }
+    requires serves { ServesRegions simulation.old job.now (length rows.now) }
     requires firsts_from { HaveFirstsFrom job.now rows.now firsts.now sweep place found
         simulation.old.hits }
     requires following { HaveFirstsAfter job.now rows.now firsts.now sweep place
@@ -452,7 +446,7 @@ fn region_from(
         simulation.new.hits }
     ensures following { HaveFirstsAfter job.now rows.now firsts.now sweep place
         simulation.new.hits }
-    ensures serves { ServesRegions simulation.new job.now }
+    ensures serves { ServesRegions simulation.new job.now (length rows.now) }
 {
     if place < found {
         return found;

@@ -54,7 +54,7 @@ impl Member {
     /// Makes the worker of a number.
     pub(crate) fn new(alloc: Global, job: &Job, number: u32) -> Result<Member, AllocError>
         ensures number { IfOk result (λ member. member.number ≡ number) }
-        ensures serves { IfOk result (λ member. ServesRegions member.simulation job.now) }
+        ensures serves { IfOk result (λ member. ServesRegions member.simulation job.now 0) }
     {
         let simulation = RegionSimulation::new(alloc, job)?;
         Ok(Member { number, simulation })
@@ -71,14 +71,15 @@ pub(crate) fn run_alone<G: Gate>(
     gate: &G,
 ) -> Result<Done, AllocError>
     requires cut { IsCutOf job.now cut.now.parts cut.now.size cut.now.classes.items }
-    requires serves { ServesRegions member.old.simulation job.now }
+    requires serves { ServesRegions member.old.simulation job.now 0 }
     ensures done { IfOk result (IsDone job.now cut.now.size cut.now.classes.items
         member.old.number (G.passing gate.now) (G.stops gate.now)) }
     ensures part { IfOk result (λ done. done.part ≡ part) }
     ensures member { member.new.number ≡ member.old.number }
-    ensures serves { ServesRegions member.new.simulation job.now }
+    ensures serves { ServesRegions member.new.simulation job.now 0 }
 {
     let own = cut.stretch(part);
+    member.simulation.make_room(own.len())?;
     let rows = rows_of(alloc, job, own)?;
     let mut firsts = no_firsts(alloc, own.len())?;
     let mut open = all_open(alloc, firsts.as_slice())?;
@@ -193,13 +194,13 @@ fn run_held<G: Gate>(
     requires cut { IsCutOf job.now cut.now.parts cut.now.size cut.now.classes.items }
     requires place { seat.old.place ≡ ledger.now }
     requires holding { held_by seat.old.worker seat.old.seen ≡ Some part }
-    requires serves { ServesRegions member.old.simulation job.now }
+    requires serves { ServesRegions member.old.simulation job.now 0 }
     ensures done { IfOk result (IsDone job.now cut.now.size cut.now.classes.items
         member.old.number (G.passing gate.now) (G.stops gate.now)) }
     ensures part { IfOk result (λ done. done.part ≡ part) }
     ensures after { IfOk result (λ done. AfterRun seat.old done.waiting seat.new) }
     ensures member { member.new.number ≡ member.old.number }
-    ensures serves { ServesRegions member.new.simulation job.now }
+    ensures serves { ServesRegions member.new.simulation job.now 0 }
 {
     let done = run_alone(alloc, job, cut, part, member, gate)?;
     if done.waiting.is_none() {

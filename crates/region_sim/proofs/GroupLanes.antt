@@ -1,5 +1,5 @@
 -- The tests of a group that detect a class.
-use Rattle.std.proofs.Common.{◌≡◌, ◌≢◌, ◌⊎◌, ◌<◌, ◌≤◌, ℕ, ◌+◌, ◌-◌, ◌*◌, zero, suc, refl, sym}
+use Rattle.std.proofs.Common.{◌≡◌, ◌≢◌, ◌⊎◌, ◌<◌, ℕ, ◌+◌, ◌-◌, ◌*◌, zero, suc, refl, sym}
 use Rattle.std.proofs.Common.{◌∙◌, ap, subst, inl, inr, Bool, true, false, List, [], ◌∷◌, ◌++◌}
 use Rattle.std.proofs.Common.{length, set, arith}
 use Rattle.std.specs.Prelude.{Some, None, ◌||◌, bit_and, bit_or, slice_get, unwrap_or}

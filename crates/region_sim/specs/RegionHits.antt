@@ -123,11 +123,11 @@ pub record RegionsSimulated : Type 0 where
   pub hits : List (Option ℕ)
   pub capacity : ℕ
 
--- it is large enough for lists of classes of the job
-pub record ServesRegions (simulation : RegionsSimulated) (job : Parts) : Type 0 where
+-- it is large enough for lists of this number of classes of the job
+pub record ServesRegions (simulation : RegionsSimulated) (job : Parts) (count : ℕ) : Type 0 where
   pub room : length (names job.circuit) ≤ simulation.signals
-  pub places : length simulation.hits ≡ length job.classes.representative
-  pub followed : length job.classes.representative ≤ simulation.capacity
+  pub places : count ≤ length simulation.hits
+  pub followed : count ≤ simulation.capacity
 
 -- ---- several regions in one pack
 -- more classes are followed, and each of them came to the signal

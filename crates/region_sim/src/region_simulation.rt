@@ -1,8 +1,8 @@
 //! The first tests of the classes of a list, computed region by region.
 
 ghost use Rattle.std.specs.Prelude.{◌≡◌, ◌⊎◌, ◌+◌, ◌++◌, ◌^◌, ◌<◌, ◌≤◌, ◌∷◌, ℕ, All, Contains};
-ghost use Rattle.std.specs.Prelude.{IfOk, List, [], None, Option, Some, length, slice_get};
-ghost use Rattle.std.specs.Prelude.{slice_set};
+ghost use Rattle.std.specs.Prelude.{IfOk, List, [], None, OnOk, Option, Some, length, slice_get};
+ghost use Rattle.std.specs.Prelude.{◌-◌, replicate, slice_set};
 ghost use Rattle.std.specs.Prelude.{vec_capacity, vec_len};
 ghost use Rattle.std.specs.List.{sum_by};
 ghost use Rattle.bench_net.specs.Scan.{names};
@@ -13,6 +13,7 @@ ghost use Rattle.flat_circuit.specs.BlockSpans.{AreInSpan, IsSpan, group_of, uni
 ghost use Rattle.flat_circuit.specs.Readers.{IsObserved};
 ghost use Rattle.region_sim.specs.OpenPlaces.{AreNextOpen};
 ghost use Rattle.block_sim.specs.Listed.{IsListed};
+ghost use Rattle.block_sim.specs.Parts.{Parts};
 ghost use Rattle.region_sim.specs.Pack.{AreSlots, HasPackRoom, IsPackClear, IsWithin};
 ghost use Rattle.block_sim.specs.PropagationState.{HasRoomFor, IsAsLarge, IsClear};
 ghost use Rattle.region_sim.specs.RegionHits.{AreConcluded, AreCopied, AreFollowedAt, AreGathered};
@@ -75,18 +76,17 @@ impl Model for RegionSimulation {
 }
 
 impl RegionSimulation {
-    /// Makes room for the simulation of lists of classes of a job. It takes a few words and numbers
-    /// for each signal, and a few numbers for each class.
+    /// Makes room for the simulation of the regions of a job, with no room for lists of classes yet
+    /// ([`RegionSimulation::make_room`]). It takes a few words and numbers for each signal.
     pub fn new(alloc: Global, job: &Job) -> Result<RegionSimulation, AllocError>
-        ensures serves { IfOk result (λ simulation. ServesRegions simulation job.now) }
+        ensures serves { IfOk result (λ simulation. ServesRegions simulation job.now 0) }
         ensures fresh { IfOk result (λ simulation. simulation.evaluations ≡ 0) }
-        ensures none { IfOk result (λ simulation. All (λ hit. hit ≡ None) simulation.hits) }
+        ensures none { IfOk result (λ simulation. simulation.hits ≡ []) }
     {
-        let classes = job.classes().count() as usize;
         let signals = job.circuit().signals();
         let changes = PropagationState::new(alloc, signals)?;
-        let followed = Vec::with_capacity(alloc, classes)?;
-        let hits = vec![in alloc; None; classes]?;
+        let followed = Vec::new(alloc);
+        let hits = Vec::new(alloc);
         let region = Sensitized::new(alloc, signals)?;
         let pack = Pack::new(alloc, signals)?;
         let unit = Unit::new(alloc, signals)?;
@@ -98,6 +98,23 @@ impl RegionSimulation {
             pack,
             unit,
         })
+    }
+
+    /// Makes room for lists of this number of classes. It takes a few numbers for each of them, if
+    /// no list before had as many.
+    pub fn make_room(&mut self, places: usize) -> Result<(), AllocError>
+        ensures serves { (job : Parts) → ServesRegions self.old job 0
+            → OnOk result (ServesRegions self.new job places) }
+        ensures kept { (job : Parts) → ServesRegions self.old job 0
+            → ServesRegions self.new job 0 }
+        ensures none { OnOk result (self.new.hits
+            ≡ self.old.hits ++ replicate (places - length self.old.hits) None) }
+        ensures same { self.new.evaluations ≡ self.old.evaluations }
+    {
+        let longest = self.hits.len().max(places);
+        self.hits.resize(longest, None)?;
+        self.followed.clear();
+        self.followed.reserve(places)
     }
 
     /// Returns how often a gate was evaluated on a word since the simulation was made. It stays at
@@ -136,10 +153,9 @@ impl RegionSimulation {
         from: usize,
         firsts: &[Option<u32>],
     ) -> usize
-        requires serves { ServesRegions self.old job.now }
+        requires serves { ServesRegions self.old job.now (length rows.now) }
         requires block { block < blocks (length job.now.tests.tests) }
         requires rows { All (IsListed job.now) rows.now }
-        requires few { length rows.now ≤ length job.now.classes.representative }
         requires firsts { length firsts.now ≡ length rows.now }
         requires next { AreNextOpen firsts.now next.now }
         requires from { from < length rows.now }
@@ -151,7 +167,7 @@ impl RegionSimulation {
             → slice_get self.new.hits place ≡ slice_get self.old.hits place }
         ensures known { (place test : ℕ) → slice_get firsts.now place ≡ Some (Some test)
             → slice_get self.new.hits place ≡ slice_get self.old.hits place }
-        ensures serves { ServesRegions self.new job.now }
+        ensures serves { ServesRegions self.new job.now (length rows.now) }
         ensures counted { (way : ℕ → ℕ) (gates : List ℕ) → AreWays job.now way
             → ((place : ℕ) (row : ListedClass) → from ≤ place → place < result
             → IsOpenAt rows.now firsts.now place row

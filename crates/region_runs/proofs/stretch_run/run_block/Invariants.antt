@@ -17,7 +17,7 @@ invariant-loop-place g l = record {
   whole : IsWhole l.job l.rows l.sweep l.found;
   firsts_from : HaveFirstsFrom l.job l.rows l.firsts l.sweep l.place l.found l.simulation.hits;
   following : HaveFirstsAfter l.job l.rows l.firsts l.sweep l.place l.simulation.hits;
-  serves : ServesRegions l.simulation l.job;
+  serves : ServesRegions l.simulation l.job (length l.rows);
 }
 
 abbrev pub decreases-loop-place : goal.decreases-loop-place

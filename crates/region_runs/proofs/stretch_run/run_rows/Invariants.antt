@@ -16,7 +16,7 @@ invariant-loop-block g l = record {
   firsts_from : (k : ℕ) (row : ListedClass) → l.block < l.known → IsOpenAt l.rows l.firsts k row
       → HasFirst l.job (between l.block (l.known - 1)) row l.simulation.hits k;
   next : AreNextOpen l.firsts l.next;
-  serves : ServesRegions l.simulation l.job;
+  serves : ServesRegions l.simulation l.job (length l.rows);
 }
 
 abbrev pub decreases-loop-block : goal.decreases-loop-block

@@ -71,8 +71,7 @@ loop-place-preserved-in-Some c =
 pub hit_at-hit-requires : goal.hit_at-hit-requires
 hit_at-hit-requires c =
     let places = c.requires.serves.places in
-    let few = c.requires.few in
-    omega (arith, places, few, c.loop-place-test.true)
+    omega (arith, places, c.loop-place-test.true)
 
 pub first_through-first-requires-clause-class : goal.first_through-first-requires-clause-class
 first_through-first-requires-clause-class c =

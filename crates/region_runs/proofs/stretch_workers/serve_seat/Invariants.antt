@@ -7,7 +7,7 @@ use Rattle.region_runs.proofs.stretch_workers.serve_seat.Given as goal
 abbrev pub invariant-claims : goal.invariant-claims
 invariant-claims g l = record {
   number : l.member.number ≡ l.fn.seat.worker;
-  room : ServesRegions l.member.simulation l.job;
+  room : ServesRegions l.member.simulation l.job 0;
   serving : Serving l.job l.cut.size l.cut.classes.items l.ledger l.fn.seat.worker
       (g.G.Gate.passing l.gate) (g.G.Gate.stops l.gate) l.seat l.dones.items;
   free : held_by l.seat.worker l.seat.seen ≡ None;

@@ -1,4 +1,4 @@
-use Rattle.std.proofs.Common.{◌≡◌, true, refl, sym, ◌∙◌, ap, subst, arith}
+use Rattle.std.proofs.Common.{◌≡◌, true, refl, sym, ◌∙◌, ap, subst}
 use Rattle.std.specs.Prelude.{Contains, Option, bit_and, unwrap_or}
 use Rattle.fault_model.specs.Fault.{Fault, faults}
 use Rattle.fault_model.specs.Reordered.{moved_fault, place}
@@ -10,7 +10,7 @@ use Rattle.region_sim.specs.Reached.{IsReached}
 use Rattle.flat_circuit.specs.Stuck.{stuck_fault}
 use Rattle.flat_circuit.specs.Words.{lane}
 use Rattle.flat_circuit.proofs.Public.{reordered, circuit_there, listed_there, starts_there}
-use Rattle.flat_circuit.proofs.Public.{same_readers, lanes_decide}
+use Rattle.flat_circuit.proofs.Public.{lanes_decide}
 use Rattle.block_sim.proofs.Public.{room_there, lanes_first, same_flips, same_stems}
 use Rattle.region_sim.proofs.ArrangedReaches.{reached_there}
 use Rattle.flat_circuit.specs.Origins.{IsStuckOf}

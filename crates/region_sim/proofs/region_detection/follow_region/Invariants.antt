@@ -1,4 +1,4 @@
-use Rattle.std.proofs.Common.{◌≡◌, ◌+◌, ◌-◌, ◌<◌, ◌≤◌, length}
+use Rattle.std.proofs.Common.{◌≡◌, ◌+◌, ◌-◌, ◌≤◌, length}
 use Rattle.std.specs.Prelude.{vec_capacity}
 use Rattle.region_sim.specs.GroupLanes.{AreAmongLanes, AreApproaches}
 use Rattle.block_sim.specs.PropagationState.{IsAsLarge, IsClear}

@@ -6,18 +6,9 @@ use Rattle.region_runs.specs.declared.parts.PartVerdict.{PartVerdict}
 use Rattle.region_runs.specs.declared.parts.PartVerdict.TheVariants.{OtherPart}
 use Rattle.region_runs.specs.ListRunners.{AreMarked}
 use Rattle.region_runs.specs.Part.{AreAllByRegion, first_in}
-use Rattle.region_runs.proofs.ListedRuns.{asked_firsts, listed_all, listed_few, listed_within}
+use Rattle.region_runs.proofs.ListedRuns.{asked_firsts, listed_all, listed_within}
 use Rattle.region_runs.proofs.PartsOfClasses.{verdicts_under}
 use Rattle.region_runs.proofs.list_runner.ListRunner.first_tests.Goals as goal
-
-pub run_alone-requires-clause-few : goal.run_alone-requires-clause-few
-run_alone-requires-clause-few c =
-    let job = c.args.job.now in
-    let order_is : c.as_slice.result.now ≡ c.args.self.now.order = search rules in
-    let all = subst (AreAllByRegion job) (sym order_is) c.requires.serves.order in
-    let is = c.as_slice-3.ensures.value ∙ c.in_ok-listed.ensures in
-    subst (λ (l : List ℕ). length l ≤ length job.classes.representative) (sym is)
-    (listed_few job c.as_slice.result.now all (λ class. get_or c.as_slice-2.result.now class false))
 
 pub run_alone-requires-clause-classes : goal.run_alone-requires-clause-classes
 run_alone-requires-clause-classes c =

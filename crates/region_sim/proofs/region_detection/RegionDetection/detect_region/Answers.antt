@@ -1,10 +1,8 @@
 use Rattle.std.proofs.Common.{◌≡◌, ◌∙◌, ◌+◌, ap, arith, length, subst, sym}
 use Rattle.std.specs.Prelude.{Option, unwrap_or}
-use Rattle.bench_net.specs.Scan.{names}
 use Rattle.fault_model.specs.Fault.{Fault}
 use Rattle.fault_model.specs.Reordered.{place}
 use Rattle.patterns.specs.Tests.{TestList}
-use Rattle.flat_circuit.specs.BlockSpans.{group_of}
 use Rattle.region_sim.specs.GroupLanes.{AreAmongLanes, AreApproaches, HasWholeGroup, HaveGroupLanes}
 use Rattle.block_sim.specs.Parts.{HasRoom}
 use Rattle.flat_circuit.specs.Regions.{IsStem, IsStemOfLine}
