@@ -104,36 +104,38 @@ fn fault_firsts(
     Ok(FaultFirsts { start, firsts })
 }
 
-/// Finds first tests of faults in this number of threads. Each thread has the same number of
-/// faults, except the last. If a thread doesn't start, no further one is started, and the first
-/// tests of the remaining faults are missing.
+/// Returns the first tests of all faults. This number of threads find them, of which one is the
+/// caller's, which has the first faults. Each has the same number of adjacent faults, except the
+/// last. If a thread doesn't start, no further one is started, and the caller's thread does the
+/// rest.
 fn share_faults<R: Threads + Wait>(
     rt: &R,
     alloc: Global,
     job: &Job,
     ordered: &OrderedFirsts,
     threads: u32,
-) -> Result<Vec<Result<FaultFirsts, AllocError>>, AllocError>
+) -> Result<Vec<Option<u32>>, AllocError>
     requires serves { ServesFaults job.now ordered.now.positions.items ordered.now.firsts.items }
     requires some { 0 < threads }
-    ensures { IfOk result (λ parts. HaveFirsts job.now.classes.class_of
-        ordered.now.positions.items ordered.now.firsts.items parts.items) }
+    ensures { IfOk result (λ found. found.items ≡ firsts_of_faults job.now
+        ordered.now.positions.items ordered.now.firsts.items) }
 {
     thread::scope(
         thread::scope_env(),
         rt,
-        |scope| -> Result<Vec<Result<FaultFirsts, AllocError>>, AllocError>
+        |scope| -> Result<Vec<Option<u32>>, AllocError>
             requires serves { ServesFaults job.now ordered.now.positions.items
                 ordered.now.firsts.items }
             requires some { 0 < threads }
-            ensures { IfOk result (λ parts. HaveFirsts job.entry.now.classes.class_of
-                ordered.entry.now.positions.items ordered.entry.now.firsts.items parts.items) }
+            ensures { IfOk result (λ found. found.items ≡ firsts_of_faults job.entry.now
+                ordered.entry.now.positions.items ordered.entry.now.firsts.items) }
         {
             let count = fault_count(job);
             let size = count.div_ceil(threads);
             let mut handles = Vec::with_capacity(alloc, threads as usize)?;
-            let mut start = 0;
-            for _thread in 0..threads {
+            let own = size.min(count);
+            let mut start = own;
+            for _thread in 1..threads {
                 let end = start + size.min(count - start);
                 let promised = FirstsOf {
                     job: Snapshot::of(job),
@@ -148,8 +150,9 @@ fn share_faults<R: Threads + Wait>(
                 handles.push(handle)?;
                 start = end;
             }
+            let first = firsts_between(alloc, job, ordered, 0, own)?;
             match thread::join_promised(rt, handles) {
-                Ok(parts) => Ok(parts),
+                Ok(parts) => join_firsts(alloc, job, ordered, first, parts),
                 Err(_) => Err(AllocError),
             }
         },
@@ -164,14 +167,17 @@ fn fault_count(job: &Job) -> u32
     job.faults().count()
 }
 
-/// Joins the first tests of all faults: those that threads returned, one part after another, and
-/// then the missing ones.
+/// Joins the first tests of all faults: those of the first faults, those that threads returned, one
+/// part after another, and then the missing ones.
 fn join_firsts(
     alloc: Global,
     job: &Job,
     ordered: &OrderedFirsts,
+    first: Vec<Option<u32>>,
     parts: Vec<Result<FaultFirsts, AllocError>>,
 ) -> Result<Vec<Option<u32>>, AllocError>
+    requires first { AreFirstsFrom job.now.classes.class_of ordered.now.positions.items
+        ordered.now.firsts.items 0 first.items }
     requires serves { ServesFaults job.now ordered.now.positions.items ordered.now.firsts.items }
     requires parts { HaveFirsts job.now.classes.class_of ordered.now.positions.items
         ordered.now.firsts.items parts.items }
@@ -179,7 +185,8 @@ fn join_firsts(
         ordered.now.positions.items ordered.now.firsts.items) }
 {
     let count = fault_count(job);
-    let mut all = Vec::with_capacity(alloc, count as usize)?;
+    let mut all = first;
+    all.reserve((count as usize).saturating_sub(all.len()))?;
     for part in parts {
         let FaultFirsts { start, mut firsts } = part?;
         if start as usize == all.len() {
@@ -216,8 +223,7 @@ fn first_tests<R: Threads + Wait>(
         let all = firsts_between(alloc, job, ordered, 0, count)?;
         return Ok(all);
     }
-    let parts = share_faults(rt, alloc, job, ordered, threads)?;
-    join_firsts(alloc, job, ordered, parts)
+    share_faults(rt, alloc, job, ordered, threads)
 }
 
 /// Returns the number of pieces after the first hits of classes with these first tests.
