@@ -18,6 +18,10 @@ const MAX_BLOCKS: u32 = MAX_TESTS / BLOCK_SIZE;
 /// The number of workers of `run` by default.
 const USUAL_WORKERS: u64 = 4;
 
+/// The number of stretches into which a run with so many workers cuts the classes. Each worker runs
+/// one stretch at a time.
+const USUAL_STRETCHES: u64 = 96;
+
 /// The least number of bytes of a test file that a run reads piece by piece.
 const LONG_TEXT: u64 = 1 << 22;
 
@@ -157,9 +161,10 @@ impl Counts {
             .saturating_add(self.pins.saturating_mul(12))
             .saturating_add(u64::from(self.faults).saturating_mul(4))
             .saturating_add(classes.saturating_mul(12 + 40));
+        let stretch = classes.div_ceil(USUAL_STRETCHES);
         let each = signals
             .saturating_mul(61)
-            .saturating_add(classes.saturating_mul(48));
+            .saturating_add(stretch.saturating_mul(80));
         text.saturating_add(words)
             .saturating_add(lists)
             .saturating_add(each.saturating_mul(workers))

@@ -96,15 +96,15 @@ returns-then-is_unit-clause-counted c = λ way gates ways active.
 
 pub gather_regions-end-requires-clause-room : goal.gather_regions-end-requires-clause-room
 gather_regions-end-requires-clause-room c =
-    let served = subst (λ v. ServesRegions v c.args.job.now (length c.args.rows.now)) (sym c.self.view_is)
-    c.requires.serves in
+    let served = subst (λ v. ServesRegions v c.args.job.now (length c.args.rows.now))
+    (sym c.self.view_is) c.requires.serves in
     room_at_rest c.args.job.now c.self.inside.changes
     c.tests.ensures.together.circuit.well_formed c.self.invariant.regions.rest served.room
 
 pub gather_regions-end-requires-clause-regions : goal.gather_regions-end-requires-clause-regions
 gather_regions-end-requires-clause-regions c =
-    let served = subst (λ v. ServesRegions v c.args.job.now (length c.args.rows.now)) (sym c.self.view_is)
-    c.requires.serves in
+    let served = subst (λ v. ServesRegions v c.args.job.now (length c.args.rows.now))
+    (sym c.self.view_is) c.requires.serves in
     let many = served.room in
     let own = c.self.invariant.regions.room in
     record {
@@ -124,8 +124,8 @@ flip_all-requires-clause-places c = λ one there.
     let own = c.gather_regions-end.ensures.gathered.at one
     (subst (λ l. Contains l one) c.as_slice-all.ensures.value there) in
     let low = own.1 in
-    let served = subst (λ v. ServesRegions v c.args.job.now (length c.args.rows.now)) (sym c.self.view_is)
-    c.requires.serves in
+    let served = subst (λ v. ServesRegions v c.args.job.now (length c.args.rows.now))
+    (sym c.self.view_is) c.requires.serves in
     let room = served.places in
     let within = c.gather_regions-end.ensures.within in
     let kept = c.gather_regions-end.ensures.places in
@@ -137,8 +137,8 @@ flip_all-requires-clause-room c =
     let circuit = c.args.job.now.circuit in
     let there = c.view_of-view.result.circuit.now.arranged in
     let view = c.view_of-view.ensures in
-    let served = subst (λ v. ServesRegions v c.args.job.now (length c.args.rows.now)) (sym c.self.view_is)
-    c.requires.serves in
+    let served = subst (λ v. ServesRegions v c.args.job.now (length c.args.rows.now))
+    (sym c.self.view_is) c.requires.serves in
     let many = served.room in
     let deltas = c.self.invariant.deltas in
     let waiting = c.self.invariant.waiting in
