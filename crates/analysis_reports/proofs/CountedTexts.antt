@@ -16,7 +16,7 @@ use Rattle.job_loading.specs.Jobs.{IsJobOf, IsJobWithin}
 use Rattle.analysis_reports.specs.Detected.{IsCountFault, IsDetectionReportOf}
 use Rattle.analysis_reports.specs.Detected.{IsDetectionReportOfJob}
 use Rattle.analysis_reports.specs.Detected.{count_line, detection_report}
-use Rattle.report.specs.EndToEnd.{IsJobReportFault, IsReportFault, IsRunReportFault}
+use Rattle.report.specs.EndToEnd.{IsJobReportFault, IsReportFault}
 use Rattle.report.specs.Report.{fault_text}
 use Rattle.report.proofs.Public.{job_run_fault, report_fault_as}
 
@@ -51,19 +51,9 @@ pub job_count_fault : (m : Model) (bench text : List ℕ) (workers : ℕ) (job :
     → IsJobWithin m bench text job → (f : SimFault)
     → IsJobReportFault workers (IsCountFault workers) f → IsReportFault m bench text workers f
 job_count_fault m bench text workers job within f h =
-    job_run_fault m bench text workers job within f (run_report f
+    job_run_fault m bench text workers job within f
     (report_fault_as workers (IsCountFault workers) (IsRunFault job workers ⊤ no_stop)
-    (count_fault job workers) f h))
-  where
-    run_report : (f : SimFault) → IsJobReportFault workers (IsRunFault job workers ⊤ no_stop) f
-        → IsRunReportFault job workers f
-    run_report (fault.Run f) h = h
-    run_report (fault.Report f) h = h
-    run_report (fault.Bench f) h = absurd h
-    run_report (fault.Tests f) h = absurd h
-    run_report (fault.Order f) h = absurd h
-    run_report (fault.Job f) h = absurd h
-    run_report fault.Memory h = absurd h
+    (count_fault job workers) f h)
 
 -- the line of a fault with the number of tests that detect it
 pub is_count_line : (c : List Statement) (f : Fault) (count : ℕ) (said : List ℕ)

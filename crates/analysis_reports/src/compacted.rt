@@ -1,9 +1,8 @@
 //! Fewer tests that detect the same faults, from the bytes of files to the bytes of rows or of
 //! numbers.
 
-ghost use Rattle.std.specs.Prelude.{◌≡◌, ◌<◌, ◌≤◌, ⊤, IfErr, OnOk, length};
+ghost use Rattle.std.specs.Prelude.{◌≡◌, ◌<◌, ◌≤◌, ⊤, IfErr, OnOk};
 ghost use Rattle.std.specs.List.{flat_map};
-ghost use Rattle.block_sim.specs.Parts.{BelongTogether};
 ghost use Rattle.job_loading.specs.Splits.{HasSomePart};
 ghost use Rattle.byte_output.specs.Output.{Writes};
 ghost use Rattle.analysis_reports.specs.Compacted.{GivesOneOf, IsCompactionOf, IsKeptText};

@@ -1,16 +1,14 @@
 //! The histogram of detections: how many faults each number of tests detects.
 
 ghost use Rattle.std.specs.Prelude.{◌≡◌, ◌+◌, ◌-◌, ◌<◌, ◌≤◌, ◌^◌, ◌++◌, ℕ, IfErr, IfOk, OnOk};
-ghost use Rattle.std.specs.Prelude.{get_or, length, map, zip};
-ghost use Rattle.std.specs.List.{flat_map};
+ghost use Rattle.std.specs.Prelude.{get_or, length};
 ghost use Rattle.block_sim.specs.Parts.{BelongTogether};
 ghost use Rattle.job_loading.specs.Splits.{HasSomePart};
 ghost use Rattle.byte_output.specs.Output.{Writes};
-ghost use Rattle.patterns.specs.Least.{below};
 ghost use Rattle.analysis_reports.specs.Detected.{IsCountFault, detection_report};
 ghost use Rattle.report.specs.EndToEnd.{IsJobReportFault, WritesOneOf};
 ghost use Rattle.analysis_reports.specs.Histogram.{IsCountedFault, IsHistogramReportOf};
-ghost use Rattle.analysis_reports.specs.Histogram.{IsHistogramReportOfJob, faults_with, histogram};
+ghost use Rattle.analysis_reports.specs.Histogram.{IsHistogramReportOfJob, histogram};
 ghost use Rattle.analysis_reports.specs.Histogram.{histogram_line, histogram_text, one_with};
 
 use crate::detected::{counts_of, write_detections};

@@ -393,23 +393,23 @@ module _ (ns : List Name) (lines : List NumberedLine) (at : List ℕ)
   inside tables tabled some = record {
     circuit = circuit tables tabled some;
     names_are = are.names_are;
-    inputs_are = tabled.of_lines_are.inputs_are ∙ inputs_are ns (signal c) lines all;
-    cells_are = ap (map {B = ℕ × ℕ} (λ cell. (cell.q, cell.d))) tabled.of_lines_are.cells_are
+    inputs_are = tabled.of_signals_are.inputs_are ∙ inputs_are ns (signal c) lines all;
+    cells_are = ap (map {B = ℕ × ℕ} (λ cell. (cell.q, cell.d))) tabled.of_signals_are.cells_are
         ∙ cells_are ns (signal c) lines all;
-    outputs_are = tabled.of_lines_are.outputs_are ∙ outputs_are ns (signal c) lines all;
-    source_count = ap length tabled.of_lines_are.sources_are ∙ source_count;
-    place_count = tabled.of_lines_are.places_are.count ∙ count ∙ sym name_count;
+    outputs_are = tabled.of_sinks_are.outputs_are ∙ outputs_are ns (signal c) lines all;
+    source_count = ap length tabled.of_signals_are.sources_are ∙ source_count;
+    place_count = tabled.of_signals_are.places_are.count ∙ count ∙ sym name_count;
     places_are = λ s lt. place_at s lt _ refl;
     few_lines = omega (arith, table_lines.few_lines);
-    definitions_are = tabled.of_lines_are.definitions_are;
-    definition_count = ap length tabled.of_lines_are.definitions_are ∙ count ∙ sym name_count;
+    definitions_are = tabled.of_signals_are.definitions_are;
+    definition_count = ap length tabled.of_signals_are.definitions_are ∙ count ∙ sym name_count;
     gates_are = λ s. gate_is ns c lines s all;
     have_rows = λ s lt.
-        (tabled.of_lines_are.sinks_are.row s (omega (arith, lt, count, name_count))).0;
+        (tabled.of_sinks_are.sinks_are.row s (omega (arith, lt, count, name_count))).0;
     sinks_are = λ s n e.
         let has = contained (names c) n (at_place (names c) s n e) in
         let lt = slice_get_within (names c) s n e in
-        (tabled.of_lines_are.sinks_are.row s (omega (arith, lt, count, name_count))).1
+        (tabled.of_sinks_are.sinks_are.row s (omega (arith, lt, count, name_count))).1
         ∙ rw (← number_of s n e) (sinks_are c n has ns lines refl all
         (cells_once c (distinct_from_pairs (names c) once)));
     level_count = levelled.count;
@@ -436,9 +436,9 @@ module _ (ns : List Name) (lines : List NumberedLine) (at : List ℕ)
       levelled = by_names levels tabled.levels_are
 
       place_at : (s : ℕ) → s < length (names c) → (place : Option ℕ)
-          → slice_index_or tables.of_lines.source_places.items s None ≡ place → IsPlace c s place
+          → slice_index_or tables.of_signals.source_places.items s None ≡ place → IsPlace c s place
       place_at s lt (Some i) e =
-          let at = tabled.of_lines_are.places_are.some s i
+          let at = tabled.of_signals_are.places_are.some s i
           (omega (arith, lt, count, name_count)) e in
           let within : i < length (sources c) = omega (arith, at.0, source_count) in
           let number = sym (source_at i within) ∙ at.1 in
@@ -459,7 +459,7 @@ module _ (ns : List Name) (lines : List NumberedLine) (at : List ℕ)
               within,
               name,
               source_at i within,
-              tabled.of_lines_are.places_are.none s i,
+              tabled.of_signals_are.places_are.none s i,
               number_of s _ (slice_get-get_or (names c) s [] lt),
             ),
       )

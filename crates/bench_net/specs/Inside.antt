@@ -4,7 +4,6 @@ use Rattle.std.specs.Prelude.{Option, Some, None, IfSome, IfNone, slice_get, sli
 use Rattle.std.specs.Prelude.{slice_index_or}
 use Rattle.std.specs.List.{filter_map}
 use Rattle.bench_net.specs.declared.line.NumberedLine.{NumberedLine}
-use Rattle.bench_net.specs.declared.tables.LineTables.{LineTables}
 use Rattle.bench_net.specs.declared.tables.SignalTables.{SignalTables}
 use Rattle.bench_net.specs.declared.tables.SinkTables.{SinkTables}
 use Rattle.bench_net.specs.declared.tables.Tables.{Tables}
@@ -32,19 +31,7 @@ pub record AreTableLines (lines : List NumberedLine) : Type 0 where
   pub pins_fit : (l : NumberedLine) → Contains lines l → PinsFit l
   pub graph : IsGraph lines
 
--- the tables that passes over lines compute
-pub record AreLineTables (lines : List NumberedLine) (tables : LineTables) : Type 0 where
-  pub inputs_are : tables.inputs.items ≡ filter_map input_number lines
-  pub cells_are : tables.cells.items ≡ filter_map cell_numbers lines
-  pub outputs_are : tables.outputs.items ≡ filter_map output_number lines
-  pub sources_are : tables.sources.items ≡ source_signals lines
-  pub definitions_are : tables.definitions.items ≡ definition_places lines
-  pub places_are : ArePlaces (source_signals lines) (signals_in lines)
-      (length (source_signals lines)) tables.source_places.items
-  pub sinks_are : AreSinkRows (all_readers lines (filter_map output_number lines))
-      (signals_in lines) tables.sinks.starts.items tables.sinks.sinks.items
-
--- those of the signals that lines define
+-- the tables of the signals that lines define
 pub record AreSignalTables (lines : List NumberedLine) (tables : SignalTables) : Type 0 where
   pub inputs_are : tables.inputs.items ≡ filter_map input_number lines
   pub cells_are : tables.cells.items ≡ filter_map cell_numbers lines
@@ -61,7 +48,8 @@ pub record AreSinkTables (lines : List NumberedLine) (tables : SinkTables) : Typ
 
 -- the tables of lines over numbered signals
 pub record AreTables (lines : List NumberedLine) (tables : Tables) : Type 0 where
-  pub of_lines_are : AreLineTables lines tables.of_lines
+  pub of_signals_are : AreSignalTables lines tables.of_signals
+  pub of_sinks_are : AreSinkTables lines tables.of_sinks
   pub levels_are : AreLevelsOf (gate_pins lines) (signals_in lines) tables.levels.levels.items
   pub order_is : (starts : List ℕ) × AreRows tables.levels.levels.items (tables.levels.depth + 1)
       starts tables.levels.order.items
@@ -77,22 +65,22 @@ pub record IsInside (c : List Statement) (ns : List Name) (lines : List Numbered
     (tables : Tables) : Type 0 where
   pub circuit : IsCircuit c
   pub names_are : names c ≡ ns
-  pub inputs_are : tables.of_lines.inputs.items ≡ map (signal c) (inputs c)
-  pub cells_are : map {B = ℕ × ℕ} (λ cell. (cell.q, cell.d)) tables.of_lines.cells.items
+  pub inputs_are : tables.of_signals.inputs.items ≡ map (signal c) (inputs c)
+  pub cells_are : map {B = ℕ × ℕ} (λ cell. (cell.q, cell.d)) tables.of_signals.cells.items
       ≡ map (λ cell. (signal c cell.0, signal c cell.1)) (cells c)
-  pub outputs_are : tables.of_lines.outputs.items ≡ map (signal c) (outputs c)
-  pub source_count : length tables.of_lines.sources.items ≡ length (sources c)
-  pub place_count : length tables.of_lines.source_places.items ≡ length (names c)
+  pub outputs_are : tables.of_sinks.outputs.items ≡ map (signal c) (outputs c)
+  pub source_count : length tables.of_signals.sources.items ≡ length (sources c)
+  pub place_count : length tables.of_signals.source_places.items ≡ length (names c)
   pub places_are : (s : ℕ) → s < length (names c)
-      → IsPlace c s (slice_index_or tables.of_lines.source_places.items s None)
+      → IsPlace c s (slice_index_or tables.of_signals.source_places.items s None)
   pub few_lines : length lines < 2 ^ 32
-  pub definitions_are : tables.of_lines.definitions.items ≡ definition_places lines
-  pub definition_count : length tables.of_lines.definitions.items ≡ length (names c)
+  pub definitions_are : tables.of_signals.definitions.items ≡ definition_places lines
+  pub definition_count : length tables.of_signals.definitions.items ≡ length (names c)
   pub gates_are : (s : ℕ) → line_gate (slice_get (filter defines_number lines) s) ≡ gate_of c s
   pub have_rows : (s : ℕ) → s < length (names c)
-      → HasRow tables.of_lines.sinks.starts.items tables.of_lines.sinks.sinks.items s
+      → HasRow tables.of_sinks.sinks.starts.items tables.of_sinks.sinks.sinks.items s
   pub sinks_are : (s : ℕ) (n : Name) → name_of c s ≡ Some n
-      → row_of tables.of_lines.sinks.starts.items tables.of_lines.sinks.sinks.items s ≡ sinks c n
+      → row_of tables.of_sinks.sinks.starts.items tables.of_sinks.sinks.sinks.items s ≡ sinks c n
   pub level_count : length tables.levels.levels.items ≡ length (names c)
   pub levels_are : (s : ℕ) → s < length (names c)
       → HasLevel c s (slice_index tables.levels.levels.items s)

@@ -70,14 +70,14 @@ impl Circuit {
         ensures count { result ≡ length (sources self.now) }
         ensures some { 1 ≤ result }
     {
-        self.tables.of_lines.sources.len() as u32
+        self.tables.of_signals.sources.len() as u32
     }
 
     /// Returns the signals of the INPUT lines, in order.
     pub fn inputs(&self) -> &[u32]
         ensures { result.now ≡ map (signal self.now) (inputs self.now) }
     {
-        self.tables.of_lines.inputs.as_slice()
+        self.tables.of_signals.inputs.as_slice()
     }
 
     /// Returns the flip-flop cells in order, under full scan: `q` is a source and `d` is observed.
@@ -85,14 +85,14 @@ impl Circuit {
         ensures { map {B = ℕ × ℕ} (λ cell. (cell.q, cell.d)) result.now
             ≡ map (λ cell. (signal self.now cell.0, signal self.now cell.1)) (cells self.now) }
     {
-        self.tables.of_lines.cells.as_slice()
+        self.tables.of_signals.cells.as_slice()
     }
 
     /// Returns the signal of each OUTPUT line, in order.
     pub fn outputs(&self) -> &[u32]
         ensures { result.now ≡ map (signal self.now) (outputs self.now) }
     {
-        self.tables.of_lines.outputs.as_slice()
+        self.tables.of_sinks.outputs.as_slice()
     }
 
     /// Returns the place of a signal in a test, from 0; `None` for the signal of a gate.
@@ -103,7 +103,7 @@ impl Circuit {
         ensures none { IfNone result ((i : ℕ) →
             slice_get (sources self.now) i ≢ name_of self.now signal) }
     {
-        self.tables.of_lines.source_places[signal as usize]
+        self.tables.of_signals.source_places[signal as usize]
     }
 
     /// Returns the name of a signal, as the bench file spells it.
@@ -120,7 +120,7 @@ impl Circuit {
         ensures { option_map {U = Kind × List ℕ} (λ g. (g.now.kind, g.now.pins.items)) result
             ≡ gate_of self.now signal }
     {
-        match line_of(&self.lines, &self.tables.of_lines.definitions, signal) {
+        match line_of(&self.lines, &self.tables.of_signals.definitions, signal) {
             NumberedLine::Gate(_, gate) => Some(gate),
             NumberedLine::Input(_) | NumberedLine::Output(_) | NumberedLine::Dff(_, _) => None,
         }
@@ -132,7 +132,7 @@ impl Circuit {
         requires { signal < length (names self.now) }
         ensures { (n : List ℕ) → name_of self.now signal ≡ Some n → result.now ≡ sinks self.now n }
     {
-        self.tables.of_lines.sinks.row(signal)
+        self.tables.of_sinks.sinks.row(signal)
     }
 
     /// Returns the level of a signal: 0 for a source, and for a gate one more than the greatest

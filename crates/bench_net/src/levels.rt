@@ -3,8 +3,8 @@
 //! The search goes along a path of open gates, without recursion, because a circuit may be as deep
 //! as it has gates.
 
-ghost use Rattle.std.specs.Prelude.{◌≡◌, ◌+◌, ◌<◌, ◌≤◌, ℕ, List, length, map, reverse};
-ghost use Rattle.std.specs.Prelude.{slice_index, [], ◌∷◌, ◌^◌, Some, IfOk, IfErr, OnOk};
+ghost use Rattle.std.specs.Prelude.{◌≡◌, ◌+◌, ◌<◌, ℕ, List, length, map, reverse};
+ghost use Rattle.std.specs.Prelude.{[], ◌∷◌, ◌^◌, Some, IfOk, IfErr, OnOk};
 ghost use Rattle.bench_net.specs.Level.{greatest};
 ghost use Rattle.bench_net.specs.Rows.{AreRows};
 ghost use Rattle.bench_net.specs.Tables.{line_gate, all_pins, signals_in, HasRow};

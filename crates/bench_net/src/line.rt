@@ -8,9 +8,13 @@ use crate::GateLine;
 /// A statement over signal numbers: each name that it defines or reads is given by its number.
 #[derive(Drop)]
 pub enum NumberedLine {
+    /// A primary input.
     Input(u32),
+    /// A signal that is a primary output.
     Output(u32),
+    /// A signal and the gate that drives it.
     Gate(u32, GateLine),
+    /// The output of a flip-flop and its data input.
     Dff(u32, u32),
 }
 

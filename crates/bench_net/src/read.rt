@@ -37,8 +37,11 @@ const MAX_SINKS: usize = 4_000_000;
 /// numbers. Each name has the number, from 1, of the line that defines it.
 #[derive(Drop)]
 pub struct Lines {
+    /// The names of the signals, in the order of their numbers.
     pub names: NameTable,
+    /// The lines that have a statement, in the order of the file.
     pub lines: Vec<NumberedLine>,
+    /// For each signal the number of the line that defines it, from 1.
     pub at: Vec<u64>,
 }
 
@@ -86,7 +89,9 @@ fn read_count(statement: &Stated) -> usize
 /// The numbers of names that lines define and read.
 #[derive(Clone, Copy)]
 pub struct Counts {
+    /// The names that they define: one for each line but those of outputs.
     pub signals: usize,
+    /// The names that they read, one by one: pins of gates, data inputs and outputs.
     pub sinks: usize,
 }
 

@@ -1,6 +1,6 @@
 //! The sinks of each signal.
 
-ghost use Rattle.std.specs.Prelude.{◌≡◌, ◌++◌, ◌^◌, ◌<◌, ◌+◌, ◌≤◌, map, length, slice_index, All};
+ghost use Rattle.std.specs.Prelude.{◌≡◌, ◌++◌, ◌^◌, ◌<◌, ◌+◌, map, length, All};
 ghost use Rattle.std.specs.Prelude.{Contains, OnOk, IfOk};
 ghost use Rattle.bench_net.specs.Tables.{pin_readers, output_readers, line_readers, all_readers};
 ghost use Rattle.bench_net.specs.Tables.{signal_read, reader_at, row_of, HasRow, AreSinkRows};

@@ -1,11 +1,11 @@
 //! Tables made of a circuit's lines: inputs, outputs, cells, places in a test, definitions.
 
-ghost use Rattle.std.specs.Prelude.{◌≡◌, ◌^◌, ◌++◌, ◌<◌, List, map, length, All, IfOk, IfErr};
+ghost use Rattle.std.specs.Prelude.{◌≡◌, ◌^◌, ◌++◌, ◌<◌, map, length, All, IfOk, IfErr};
 ghost use Rattle.std.specs.List.{filter_map};
 ghost use Rattle.bench_net.specs.Tables.{input_number, output_number, cell_numbers};
 ghost use Rattle.bench_net.specs.Tables.{definition_places, signals_in, gate_pins, ArePlaces};
 ghost use Rattle.bench_net.specs.Marks.{IsLevelFault};
-ghost use Rattle.bench_net.specs.Inside.{AreTableLines, AreLineTables, AreTables};
+ghost use Rattle.bench_net.specs.Inside.{AreTableLines, AreTables};
 ghost use Rattle.bench_net.specs.Inside.{AreSignalTables, AreSinkTables};
 ghost use Rattle.bench_net.specs.declared.line.NumberedLine.{NumberedLine};
 
@@ -18,55 +18,12 @@ use std::alloc::{AllocError, Global};
 /// The tables of a circuit.
 #[derive(Drop)]
 pub struct Tables {
-    /// The tables of its lines.
-    pub of_lines: LineTables,
+    /// The tables of the signals that its lines define.
+    pub of_signals: SignalTables,
+    /// The tables of what reads these signals.
+    pub of_sinks: SinkTables,
     /// For each signal its level.
     pub levels: Levels,
-}
-
-/// The tables that passes over the lines of a circuit compute.
-#[derive(Drop)]
-pub struct LineTables {
-    /// The signals of the INPUT lines.
-    pub inputs: Vec<u32>,
-    /// The flip-flop cells.
-    pub cells: Vec<ScanCell>,
-    /// The signals of the OUTPUT lines.
-    pub outputs: Vec<u32>,
-    /// The signals that take a bit of a test, in the order of the bits.
-    pub sources: Vec<u32>,
-    /// For each signal its place in a test.
-    pub source_places: Vec<Option<u32>>,
-    /// For each signal the place of the line that defines it.
-    pub definitions: Vec<usize>,
-    /// For each signal its sinks.
-    pub sinks: SinkRows,
-}
-
-impl LineTables {
-    /// Joins the tables of the same lines.
-    pub fn of(signals: SignalTables, sinks: SinkTables) -> LineTables
-        ensures { (lines : List NumberedLine) → AreSignalTables lines signals
-            → AreSinkTables lines sinks → AreLineTables lines result }
-    {
-        let SignalTables {
-            inputs,
-            cells,
-            sources,
-            source_places,
-            definitions,
-        } = signals;
-        let SinkTables { outputs, sinks } = sinks;
-        LineTables {
-            inputs,
-            cells,
-            outputs,
-            sources,
-            source_places,
-            definitions,
-            sinks,
-        }
-    }
 }
 
 /// The tables of the signals that lines define.
@@ -213,16 +170,6 @@ pub fn sink_tables(
     Ok(SinkTables { outputs, sinks })
 }
 
-/// Returns the tables that passes over the lines compute.
-fn line_tables(alloc: Global, lines: &[NumberedLine]) -> Result<LineTables, AllocError>
-    requires { AreTableLines lines.now }
-    ensures { IfOk result (AreLineTables lines.now) }
-{
-    let signals = signal_tables(alloc, lines)?;
-    let sinks = sink_tables(alloc, lines, signals.definitions.len())?;
-    Ok(LineTables::of(signals, sinks))
-}
-
 /// Returns the tables of lines, given the number of each signal's line. It fails if a signal is on
 /// a cycle of gates or fed by one, with the lowest such line by its number.
 pub(crate) fn tables_of(
@@ -236,7 +183,12 @@ pub(crate) fn tables_of(
     ensures fault { IfErr result
         (IsLevelFault (gate_pins lines.now) (signals_in lines.now) at.now) }
 {
-    let of_lines = line_tables(alloc, lines)?;
+    let of_signals = signal_tables(alloc, lines)?;
+    let of_sinks = sink_tables(alloc, lines, of_signals.definitions.len())?;
     let levels = levels_of(alloc, lines, at)?;
-    Ok(Tables { of_lines, levels })
+    Ok(Tables {
+        of_signals,
+        of_sinks,
+        levels,
+    })
 }

@@ -12,7 +12,7 @@ ghost use Rattle.bench_net.specs.Tables.{gate_pins, signals_in};
 use bench_net::levels::{Levels, levels_of};
 use bench_net::line::NumberedLine;
 use bench_net::read::Lines;
-use bench_net::tables::{LineTables, SignalTables, Tables, signal_tables, sink_tables};
+use bench_net::tables::{SignalTables, Tables, signal_tables, sink_tables};
 use bench_net::{BenchFault, Circuit};
 use std::alloc::{AllocError, Global};
 use std::sync::Wait;
@@ -90,9 +90,14 @@ fn tables_of_in_threads<R: Threads + Wait, S: Drop>(
         move || sink_tables(alloc, lines, signals),
         move || signals_and_levels(rt, alloc, lines, at, spent),
     );
-    let of_lines = LineTables::of(signals?, sinks?);
+    let of_signals = signals?;
+    let of_sinks = sinks?;
     let levels = levels?;
-    Ok(Tables { of_lines, levels })
+    Ok(Tables {
+        of_signals,
+        of_sinks,
+        levels,
+    })
 }
 
 /// Makes the circuit of numbered statements as [`bench_net::read_bench`] does, with the same

@@ -31,11 +31,11 @@ pub struct LinesRead<'a> {
     pub spent: Option<File<'a>>,
 }
 
-/// Returns the statements of a file over numbers, or its error, as [`read_lines`] does, in at most
-/// `workers` threads besides the caller's. Each thread reads the statements of a stretch of the
-/// lines, and meanwhile the caller's thread numbers the names of the stretches before. Then threads
-/// number the statements, each those of one stretch. The caller's thread alone reads a short file,
-/// and it reads a file with an error again.
+/// Returns the statements of a file over numbers, or its error, as [`read_lines`] does, in about as
+/// many threads as there are workers. Each thread reads the statements of a stretch of the lines,
+/// and meanwhile the caller's thread numbers the names of the stretches before. Then threads number
+/// the statements, each those of one stretch. The caller's thread alone reads a short file, and it
+/// reads a file with an error again.
 pub fn read_lines_in_threads<'a, R: Threads + Wait>(
     rt: &R,
     alloc: Global,

@@ -22,10 +22,11 @@ use std::alloc::Global;
 use std::sync::Wait;
 use std::thread::Threads;
 
-/// Reads the circuit of a bench file as [`read_bench`] does, with the same errors, in at most
-/// `workers` threads besides the caller's. The threads read ranges of the lines, and then number
-/// their statements. Then one thread computes the levels of the signals, and another one their
-/// sinks. Only the caller's thread reads a short file, and a file again that has an error.
+/// Reads the circuit of a bench file as [`read_bench`] does, with the same errors, in about as many
+/// threads as there are workers. The threads read ranges of the lines, and then number their
+/// statements. Then one thread computes the levels of the signals, another one their sinks, and a
+/// third one the other tables. Only the caller's thread reads a short file, and a file again that
+/// has an error.
 pub fn read_bench_in_threads<R: Threads + Wait>(
     rt: &R,
     alloc: Global,

@@ -173,8 +173,8 @@ fn number_and_name<R: Threads + Wait, F: StretchedFile + Sync>(
     Ok((numbered, named?))
 }
 
-/// Numbers the lines of the stretches of a file in threads, of which this number work at a time.
-/// The caller's thread appends them to `room`, which is empty.
+/// Numbers the lines of the stretches of a file in threads. While this number of threads work, and
+/// one more that starts, the caller's thread appends the lines before to `room`, which is empty.
 fn number_stretches<R: Threads + Wait, F: StretchedFile + Sync>(
     rt: &R,
     alloc: Global,

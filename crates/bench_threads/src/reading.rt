@@ -211,8 +211,8 @@ fn read_stretch<'a>(text: &'a [u8], alloc: Global, range: Range) -> Result<Stret
     })
 }
 
-/// Reads the stretches of a file in threads, of which this number read at a time. The caller's
-/// thread adds each stretch to those before it.
+/// Reads the stretches of a file in threads. While this number of threads read, and one more that
+/// starts, the caller's thread adds the stretches before to each other.
 fn read_stretches<'a, R: Threads + Wait>(
     rt: &R,
     alloc: Global,

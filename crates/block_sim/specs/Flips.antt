@@ -1,6 +1,6 @@
 -- The effect of a complemented signal at the stem of its fanout-free region.
 use Rattle.std.specs.Prelude.{◌≡◌, ◌≢◌, ◌↔◌, ◌==◌, ◌<◌, ◌≤◌, ◌+◌, ◌*◌, ℕ, Bool, true, false, not}
-use Rattle.std.specs.Prelude.{List, length, map, bit_and, slice_index_or}
+use Rattle.std.specs.Prelude.{List, length, map, bit_and}
 use Rattle.std.specs.Prelude.{Contains, Option, Some, None, if◌then◌else◌}
 use Rattle.std.specs.Bool.{Decides}
 use Rattle.bench_net.specs.declared.Kind.{Kind}
@@ -123,7 +123,3 @@ LanesLaw c = (tests : List Test) (span : BlockSpan) (f : Fault) (s lanes arrived
     → AreLanesFor tests span c f lanes → HasCome c tests (group_of span) f lanes s arrived
     → TellsFirstFlips c tests (group_of span) (bit_and lanes arrived) s seen
     → TellsFirst c tests span f (bit_and (bit_and lanes arrived) seen)
-
--- the faults that complement a signal, in each lane from the bit that the signal has there
-abbrev pub flips : List ℕ → ℕ → ℕ → Fault
-flips good s k = flip s (lane (slice_index_or good s 0) k)

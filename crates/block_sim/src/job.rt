@@ -1,7 +1,7 @@
 //! A job: a circuit with its faults, its classes and its tests.
 
 ghost use Rattle.std.specs.Prelude.{◌≡◌, ◌↔◌, ◌<◌, ◌≤◌, ◌*◌, ◌⊎◌, [], List, ℕ, None, length, map};
-ghost use Rattle.std.specs.Prelude.{Err, IfErr, IfOk, IsTrue, OnOk, Some, slice_get, true};
+ghost use Rattle.std.specs.Prelude.{Err, IfErr, IfOk, IsTrue, OnOk, true};
 ghost use Rattle.bench_net.specs.Scan.{names, sources};
 ghost use Rattle.bench_net.specs.Statement.{Statement};
 ghost use Rattle.patterns.specs.Tests.{IsTestList, blocks, max_pieces};

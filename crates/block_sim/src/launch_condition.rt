@@ -5,7 +5,7 @@
 
 ghost use Rattle.std.specs.Prelude.{◌≡◌, ◌↔◌, ◌+◌, ◌*◌, ◌<◌, All, Bool, Contains, List, ℕ, suc};
 ghost use Rattle.std.specs.Prelude.{Some};
-ghost use Rattle.std.specs.Prelude.{[], length, slice_get, slice_index_or, map};
+ghost use Rattle.std.specs.Prelude.{[], length, slice_index_or, map};
 ghost use Rattle.std.specs.Bool.{Decides};
 ghost use Rattle.bench_net.specs.Statement.{Name, Statement};
 ghost use Rattle.bench_net.specs.Scan.{names, signal};

@@ -82,9 +82,7 @@ pub fn below_hits(followed: &[Followed], seen: u128) -> u128
     below
 }
 
-/// Lets the gates that read a signal wait, and returns whether an observer reads it. A plain read
-/// of the reader's row ahead of its turn gained nothing (0.92 to 1.20 of the time on eight cases),
-/// and Rattle has no prefetch.
+/// Lets the gates that read a signal wait, and returns whether an observer reads it.
 #[inline(always)]
 pub fn schedule_fanout(circuit: &FlatCircuit, signal: u32, waiting: &mut Places) -> bool
     requires circuit { IsCircuit circuit.now.arranged }

@@ -14,16 +14,13 @@ use crate::tally::{Found, Quiet, Tally};
 use clap::ArgMatches;
 use command_basics::Source;
 use fault_model::Model;
-use job_loading::split_run_in_pieces;
+use job_loading::{LONG_TESTS, split_run_in_pieces};
 use report::{Out, SimFault, Split, Watch, write_curve_of_run, write_report_of_run};
 use std::alloc::Global;
 use std::io::Read;
 use std::sync::Wait;
 use std::thread::Threads;
 use tables::{write_curve_table_of_run, write_table_of_run};
-
-/// A test file is long if it has this number of bytes. One thread reads them in some milliseconds.
-const LONG_TESTS: u64 = 1 << 22;
 
 /// The inputs of a run with a long test file.
 #[derive(Drop)]

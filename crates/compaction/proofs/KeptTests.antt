@@ -33,13 +33,22 @@ use Rattle.region_runs.specs.Refused.{IsPartsFault}
 use Rattle.compaction.specs.Compaction.{AreEarly, Covers, IsFirstForSome, IsFirstOrBefore}
 use Rattle.compaction.specs.Compaction.{IsLastForSome, IsLastOrBefore, IsNeeded, IsNumbered}
 use Rattle.compaction.specs.Compaction.{PassesTwice, at_marks, finds, is_first, row_of}
-use Rattle.compaction.specs.Marks.{AreDetecting, AreFinding, AreLast, AreLastOf, AreLastPairsOf}
+use Rattle.compaction.specs.Marks.{AreFinding, AreLast, AreLastOf, AreLastPairsOf}
 use Rattle.compaction.specs.Marks.{AreLasting, AreWithBefore}
 use Rattle.compaction.proofs.ElementsAtMarks.{ComesFrom, both_counted, both_inner, both_marked}
 use Rattle.compaction.proofs.ElementsAtMarks.{both_marks}
 use Rattle.compaction.proofs.ElementsAtMarks.{comes_from, earlier_place, marked_at, marked_twice}
 use Rattle.compaction.proofs.ElementsAtMarks.{ones, ones_counted, ones_next, ones_stay}
 use Rattle.compaction.proofs.ReversedLists.{reversed_back, reversed_to}
+
+-- the marked tests detect some fault, and one of them detects each fault that a test detects
+pub record AreDetectingMarks (m : Model) (c : List Statement) (tests : List Test)
+    (marks : List Bool) : Type 0 where
+  pub count : length marks ≡ length tests
+  pub some : (t : ℕ) → slice_get marks t ≡ Some true
+      → (f : Fault) × Contains (faults m c) f × DetectsAt c tests f t
+  pub found : (f : Fault) (t : ℕ) → Contains (faults m c) f → DetectsAt c tests f t
+      → (s : ℕ) × DetectsAt c tests f s × (slice_get marks s ≡ Some true)
 
 -- ---- marks by first tests
 
@@ -307,7 +316,7 @@ pub record LooksBackSame (m : Model) (c : List Statement) (tests : List Test)
 
 -- the rows detect the faults that the tests detect
 covers_before : (m : Model) (c : List Statement) (tests : List Test) (found marks : List Bool)
-    → AreDetecting m c tests found → AreWithBefore found marks
+    → AreDetectingMarks m c tests found → AreWithBefore found marks
     → LooksBackSame m c tests found marks → Covers m c tests (at_marks marks tests)
 covers_before m c tests found marks are before looks_back = covers
   where
@@ -403,7 +412,7 @@ early_marks m c tests found marks are before = (
 
 -- which tests find something, in both passes
 finding_detects : (m : Model) (c : List Statement) (tests : List Test) (found : List Bool)
-    → AreFinding m c tests found → AreDetecting m c tests found
+    → AreFinding m c tests found → AreDetectingMarks m c tests found
 finding_detects m c tests found are = record {
   count = are.count;
   some = λ t mark. let first = are.first t mark in (first.0, first.1, first.2.0);
@@ -411,7 +420,7 @@ finding_detects m c tests found are = record {
 }
 
 lasting_detects : (m : Model) (c : List Statement) (tests : List Test) (last : List Bool)
-    → AreLasting m c tests last → AreDetecting m c tests last
+    → AreLasting m c tests last → AreDetectingMarks m c tests last
 lasting_detects m c tests last are = record {
   count = are.count;
   some = λ t mark. let own = are.last t mark in (own.0, own.1, own.2);
@@ -436,7 +445,7 @@ or_false false = refl
 
 -- the first test of a pair finds nothing
 first_finds_none : (c : List Statement) (tests : List Test) (found : List Bool)
-    → AreDetecting TransitionPairs c tests found → (q : ℕ) → get_or found (2 * q) false ≡ false
+    → AreDetectingMarks TransitionPairs c tests found → (q : ℕ) → get_or found (2 * q) false ≡ false
 first_finds_none c tests found are q = go (get_or found (2 * q) false) refl
   where
     go : (b : Bool) → get_or found (2 * q) false ≡ b → get_or found (2 * q) false ≡ false
@@ -456,7 +465,7 @@ first_finds_none c tests found are q = go (get_or found (2 * q) false) refl
 
 -- both tests of a pair are marked, or none is
 marked_alike : (c : List Statement) (tests : List Test) (found marks : List Bool)
-    → AreDetecting TransitionPairs c tests found → AreWithBefore found marks → (q : ℕ)
+    → AreDetectingMarks TransitionPairs c tests found → AreWithBefore found marks → (q : ℕ)
     → 2 * q + 1 < length found → get_or marks (2 * q) false ≡ get_or marks (2 * q + 1) false
 marked_alike c tests found marks are before q lt =
     let x = get_or found (2 * q + 1) false in
@@ -505,7 +514,7 @@ even_before marks (suc p) le alike = go (even_before marks p (omega (arith, le))
         twice earlier.0 (second ∙ (first ∙ earlier.1))
 
 looks_back_pairs : (c : List Statement) (tests : List Test) (found marks : List Bool)
-    → AreDetecting TransitionPairs c tests found → AreWithBefore found marks
+    → AreDetectingMarks TransitionPairs c tests found → AreWithBefore found marks
     → LooksBackSame TransitionPairs c tests found marks
 looks_back_pairs c tests found marks are before = record {
   not_first = λ l b looks. looks.1;
@@ -546,7 +555,7 @@ stuck_numbered m c tests rows kept marks given numbers model are is numbered las
 
 -- both models under which a test looks back to the one before it
 covers_pass : (m : Model) (c : List Statement) (tests : List Test) (found marks : List Bool)
-    → (m ≡ Transition) ⊎ (m ≡ TransitionPairs) → AreDetecting m c tests found
+    → (m ≡ Transition) ⊎ (m ≡ TransitionPairs) → AreDetectingMarks m c tests found
     → AreWithBefore found marks → Covers m c tests (at_marks marks tests)
 covers_pass m c tests found marks either are before =
     covers_before m c tests found marks are before (go either)
@@ -555,7 +564,7 @@ covers_pass m c tests found marks either are before =
     go (inl e) = subst (λ y. LooksBackSame y c tests found marks) (sym e)
         (looks_back_transition c tests found marks before)
     go (inr e) = subst (λ y. LooksBackSame y c tests found marks) (sym e) (looks_back_pairs c tests
-        found marks (subst (λ y. AreDetecting y c tests found) e are) before)
+        found marks (subst (λ y. AreDetectingMarks y c tests found) e are) before)
 
 -- why a test passes twice
 twice_needed : (m : Model) (c : List Statement) (tests kept : List Test) (t k : ℕ)

@@ -2,17 +2,15 @@
 use Rattle.std.proofs.Common.{◌≡◌, ◌<◌, ◌≤◌, ◌+◌, ◌-◌, ◌*◌, ◌/◌, ◌∙◌, ◌⊎◌, ℕ, Bool, true, false}
 use Rattle.std.proofs.Common.{List, ap, arith, get_or, inl, inr, length, replicate, refl}
 use Rattle.std.proofs.Common.{subst, sym}
-use Rattle.std.specs.Prelude.{◌||◌, Contains, None, Option, Some, slice_get, unwrap_or}
-use Rattle.std.specs.Bool.{Decides}
+use Rattle.std.specs.Prelude.{◌||◌, Contains, None, Option, Some, slice_get, slice_index_or}
+use Rattle.std.specs.Prelude.{unwrap_or}
 use Rattle.std.proofs.lemmas.Bool.{cases_lt}
 use Rattle.std.proofs.lemmas.List.{get_or-replicate, length-replicate}
 use Rattle.std.proofs.lemmas.Option.{get_or_from_slice_get, slice_get-get_or, slice_get_within}
 use Rattle.list_lemmas.proofs.Places.{place_within, within_place}
-use Rattle.bench_net.specs.Statement.{Statement}
 use Rattle.fault_model.specs.Collapse.{IsClassOf, representatives}
 use Rattle.fault_model.specs.Detection.{DetectsAt}
 use Rattle.fault_model.specs.Fault.{Fault, faults}
-use Rattle.fault_model.specs.Solution.{Test}
 use Rattle.fault_model.proofs.Public.{own_class}
 use Rattle.patterns.specs.Tests.{blocks}
 use Rattle.block_sim.specs.First.{AreDetecting}
@@ -20,10 +18,18 @@ use Rattle.block_sim.specs.Parts.{BelongTogether, Parts}
 use Rattle.flat_circuit.specs.Words.{lane}
 use Rattle.flat_circuit.proofs.Public.{representative_at}
 use Rattle.compaction.specs.Compaction.{IsLastForSome, is_first}
-use Rattle.compaction.specs.Marks.{AreLastMarks, AreLasting, IsLast, IsLastLane, IsLastOfClass}
+use Rattle.compaction.specs.Marks.{AreLasting, IsLast, IsLastLane, IsLastOfClass}
 use Rattle.compaction.proofs.DetectedClasses.{class_count}
 use Rattle.compaction.proofs.KeptTests.{first_own, or_cases, or_left, or_right, own_first}
 use Rattle.compaction.proofs.OrderedTests.{as_class, as_fault, class_of}
+
+-- the last tests of the first classes of a job are marked
+pub record AreLastMarks (job : Parts) (classes : ℕ) (marks : List Bool) : Type 0 where
+  pub count : length marks ≡ length job.tests.tests
+  pub some : (t : ℕ) → t < length job.tests.tests → slice_index_or marks t false ≡ true
+      → (class : ℕ) × (class < classes) × IsLastOfClass job class (Some t)
+  pub all : (class : ℕ) → class < classes → (last : Option ℕ) × IsLastOfClass job class last
+      × ((t : ℕ) → last ≡ Some t → slice_index_or marks t false ≡ true)
 
 -- ---- lanes of a word
 

@@ -23,16 +23,8 @@ pub record AreFinding (m : Model) (c : List Statement) (tests : List Test)
   pub found : (f : Fault) (t : ℕ) → Contains (faults m c) f → DetectsAt c tests f t
       → (s : ℕ) × IsFirst c tests f (Some s) × (slice_get marks s ≡ Some true)
 
--- the marked tests detect some fault, and one of them detects each fault that a test detects
-pub record AreDetecting (m : Model) (c : List Statement) (tests : List Test)
-    (marks : List Bool) : Type 0 where
-  pub count : length marks ≡ length tests
-  pub some : (t : ℕ) → slice_get marks t ≡ Some true
-      → (f : Fault) × Contains (faults m c) f × DetectsAt c tests f t
-  pub found : (f : Fault) (t : ℕ) → Contains (faults m c) f → DetectsAt c tests f t
-      → (s : ℕ) × DetectsAt c tests f s × (slice_get marks s ≡ Some true)
-
--- the same, and each of them is the last of some fault
+-- each marked test is the last of some fault, and one of them detects each fault that a test
+-- detects
 pub record AreLasting (m : Model) (c : List Statement) (tests : List Test)
     (marks : List Bool) : Type 0 where
   pub count : length marks ≡ length tests
@@ -70,14 +62,6 @@ abbrev pub IsLastOfClass : Parts → ℕ → Option ℕ → Type 0
 IsLastOfClass job class last = (r : Fault)
     × (slice_get (representatives job.list.model job.circuit) class ≡ Some r)
     × IsLast job.circuit job.tests.tests r last
-
--- the last tests of the first classes of a job are marked
-pub record AreLastMarks (job : Parts) (classes : ℕ) (marks : List Bool) : Type 0 where
-  pub count : length marks ≡ length job.tests.tests
-  pub some : (t : ℕ) → t < length job.tests.tests → slice_index_or marks t false ≡ true
-      → (class : ℕ) × (class < classes) × IsLastOfClass job class (Some t)
-  pub all : (class : ℕ) → class < classes → (last : Option ℕ) × IsLastOfClass job class last
-      × ((t : ℕ) → last ≡ Some t → slice_index_or marks t false ≡ true)
 
 -- the rows are some of the tests, detect the same stuck-at faults, and each is the last of them for
 -- some fault

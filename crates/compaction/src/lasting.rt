@@ -1,6 +1,6 @@
 //! The tests of a list that are the last to detect some fault.
 
-ghost use Rattle.std.specs.Prelude.{◌≡◌, ◌<◌, IfOk, length};
+ghost use Rattle.std.specs.Prelude.{◌<◌, IfOk, length};
 ghost use Rattle.block_sim.specs.Parts.{HasRoom};
 ghost use Rattle.compaction.specs.Marks.{AreLasting, IsLastLane, IsLastOfClass};
 

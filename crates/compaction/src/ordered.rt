@@ -44,6 +44,7 @@ pub fn compact_in_order<R: Threads + Wait>(
     ensures ordered { IfOk result (λ kept. IsOrdered order job.old.list.model job.old.circuit
         job.old.tests.tests kept.tests.tests kept.numbers.items) }
     ensures list { IfOk result (λ kept. IsTestList kept.tests) }
+    ensures width { IfOk result (λ kept. kept.tests.width ≡ job.old.tests.width) }
     ensures job { job.new ≡ with_tests job.old job.new.tests }
     ensures workers { OnOk result ((0 < workers) × (workers ≤ 64)) }
     ensures within { OnOk result (ArePartsWithin job.old parts) }
@@ -74,6 +75,7 @@ fn compact_steepest<R: Threads + Wait>(
     ensures compacted { IfOk result (λ kept. IsSteepestCompaction job.old.list.model
         job.old.circuit job.old.tests.tests kept.tests.tests kept.numbers.items) }
     ensures list { IfOk result (λ kept. IsTestList kept.tests) }
+    ensures width { IfOk result (λ kept. kept.tests.width ≡ job.old.tests.width) }
     ensures job { job.new ≡ with_tests job.old job.new.tests }
     ensures workers { OnOk result ((0 < workers) × (workers ≤ 64)) }
     ensures within { OnOk result (ArePartsWithin job.old parts) }
@@ -125,6 +127,7 @@ fn kept_at(
     ensures numbers { IfOk result (λ kept.
         kept.numbers.items ≡ at_places 0 numbers.now places.now) }
     ensures list { IfOk result (λ kept. IsTestList kept.tests) }
+    ensures width { IfOk result (λ kept. kept.tests.width ≡ tests.now.width) }
 {
     let numbers = numbers_at(alloc, numbers, places)?;
     let tests = tests_at(alloc, tests, places)?;
@@ -149,6 +152,7 @@ fn tests_at(alloc: Global, tests: &Tests, places: &[u32]) -> Result<Tests, Alloc
     requires few { length places.now ≤ length tests.now.tests }
     ensures rows { IfOk result (λ at. at.tests ≡ at_places [] tests.now.tests places.now) }
     ensures list { IfOk result (λ at. IsTestList at) }
+    ensures width { IfOk result (λ at. at.width ≡ tests.now.width) }
 {
     let mut at = Tests::new(alloc, tests.width());
     for place in places {

@@ -1,10 +1,10 @@
 //! Equivalence collapsing.
 
-ghost use Rattle.std.specs.Prelude.{◌≡◌, ◌<◌, ◌≤◌, List, ℕ, map, length, IfOk, Some, None, Option};
+ghost use Rattle.std.specs.Prelude.{◌≡◌, ◌<◌, ◌≤◌, ℕ, map, length, IfOk, Some, None, Option};
 ghost use Rattle.std.specs.Prelude.{option_map, option_and_then, slice_get};
 ghost use Rattle.bench_net.specs.Scan.{names};
 ghost use Rattle.bench_net.specs.Circuit.{IsCircuit};
-ghost use Rattle.fault_model.specs.Fault.{Fault, faults};
+ghost use Rattle.fault_model.specs.Fault.{faults};
 ghost use Rattle.fault_model.specs.Collapse.{kind_of, next, next_stuck, readers};
 ghost use Rattle.fault_model.specs.Collapse.{representatives};
 ghost use Rattle.fault_model.specs.Collapse.{AreClassesOf, ClassesShowSame};
@@ -89,7 +89,7 @@ fn next_stuck(model: crate::Model, kind: Kind, stuck: bool) -> Option<bool>
 }
 
 /// Returns the gate whose pin is the only one of these sinks.
-fn only_gate(sinks: &[Sink]) -> Option<u32>
+pub fn only_gate(sinks: &[Sink]) -> Option<u32>
     ensures { result ≡ only_gate sinks.now }
 {
     match sinks {

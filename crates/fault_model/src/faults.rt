@@ -1,10 +1,10 @@
 //! The fault list of a circuit.
 
-ghost use Rattle.std.specs.Prelude.{◌≡◌, ◌++◌, ◌<◌, List, map, length, IfOk, IfSome};
+ghost use Rattle.std.specs.Prelude.{◌≡◌, ◌++◌, ◌<◌, map, length, IfOk, IfSome};
 ghost use Rattle.std.specs.Prelude.{OnOk, Some, slice_get, nat_le, if◌then◌else◌, []};
 ghost use Rattle.fault_model.specs.declared.Line.TheVariants as line;
 ghost use Rattle.fault_model.specs.declared.Model.TheVariants as model;
-ghost use Rattle.fault_model.specs.Fault.{Fault, branch, faults, fault_list};
+ghost use Rattle.fault_model.specs.Fault.{branch, faults, fault_list};
 ghost use Rattle.fault_model.specs.Signals.{IsSignalOf};
 
 use crate::Line;
@@ -27,7 +27,7 @@ pub struct Faults {
 }
 
 impl Model for Faults {
-    ghost use Rattle.std.specs.Prelude.{List, flat_map};
+    ghost use Rattle.std.specs.Prelude.{flat_map};
     ghost use Rattle.fault_model.specs.Fault.{FaultList, both};
     ghost use Rattle.fault_model.specs.Lines.{AreStemsOf, IsWithinLimits};
 

@@ -1,7 +1,7 @@
 //! Calls about signals: their names, places in a test and fault-free words, and the stems of
 //! classes.
 
-ghost use Rattle.std.specs.Prelude.{◌≡◌, ◌≢◌, ◌↔◌, ◌⊎◌, ◌<◌, ◌≤◌, IsSome, List, None, Some};
+ghost use Rattle.std.specs.Prelude.{◌≡◌, ◌≢◌, ◌⊎◌, ◌<◌, ◌≤◌, IsSome, List, None, Some};
 ghost use Rattle.std.specs.Prelude.{length, slice_get, ℕ};
 ghost use Rattle.bench_net.specs.Scan.{name_of, names, sources};
 ghost use Rattle.patterns.specs.Tests.{blocks};

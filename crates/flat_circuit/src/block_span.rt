@@ -1,6 +1,6 @@
-//! The blocks that are simulated at once: one, or the two of a group.
+//! The blocks that are simulated at once: one, the two of a group, or the eight of a unit.
 
-ghost use Rattle.std.specs.Prelude.{◌≡◌, ◌↔◌, ◌+◌, ◌*◌, ◌<◌, ◌≤◌, ℕ, IsTrue, length, true};
+ghost use Rattle.std.specs.Prelude.{◌≡◌, ◌↔◌, ◌+◌, ◌*◌, ◌<◌, ℕ, IsTrue, length};
 ghost use Rattle.std.specs.Bool.{Decides};
 ghost use Rattle.patterns.specs.Tests.{blocks};
 ghost use Rattle.flat_circuit.specs.BlockSpans.{HasBlock, IsInSpan, IsPaired, IsSpan, IsTogether};
@@ -21,7 +21,7 @@ pub fn is_unit(tests: &Tests, block: u32) -> bool
     block >= 8 && block % 8 == 0 && 511 < count - 64 * block
 }
 
-/// The first and the last of some blocks of a group.
+/// The first and the last of the blocks that are simulated at once, both included, counted from 0.
 #[derive(Clone, Copy)]
 pub struct BlockSpan {
     pub first: u32,

@@ -11,7 +11,6 @@ ghost use Rattle.bench_net.specs.Scan.{names, name_of, gate_of, sources};
 ghost use Rattle.bench_net.specs.Circuit.{IsCircuit};
 ghost use Rattle.bench_net.specs.Level.{HasLevel};
 ghost use Rattle.fault_model.specs.Detection.{name_on};
-ghost use Rattle.fault_model.specs.Known.{only_gate};
 ghost use Rattle.fault_model.specs.Reordered.{in_order, moved_line, place};
 ghost use Rattle.flat_circuit.specs.Readers.{IsLive, IsObserved, IsRising};
 ghost use Rattle.flat_circuit.specs.Flat.{AreListsOf, ArePlaced, AreReaders, HasMore, IsDriver};
@@ -26,7 +25,7 @@ use crate::live::live_signals;
 use crate::signal_order::flow_order;
 use crate::signal_places::places_of;
 use bench_net::{Circuit, Kind, Sink};
-use fault_model::Line;
+use fault_model::{Line, only_gate};
 use std::alloc::{AllocError, Global};
 use std::marker::Model;
 use std::sync::Wait;
@@ -265,7 +264,7 @@ impl FlatCircuit {
         self.circuit.signals()
     }
 
-    /// Returns the greatest level of a signal.
+    /// Returns the depth of the circuit: no signal has a greater level.
     #[inline(always)]
     pub fn depth(&self) -> u32
         ensures { (signal : ℕ) → signal < length (names self.now.arranged)
@@ -699,16 +698,6 @@ pub fn lone_reader_of(circuit: &Circuit, signal: u32) -> Option<u32>
     ensures { result ≡ lone_reader circuit.now signal }
 {
     only_gate(circuit.sinks_of(signal))
-}
-
-/// Returns the gate whose pin is the only one of these sinks.
-fn only_gate(sinks: &[Sink]) -> Option<u32>
-    ensures { result ≡ only_gate sinks.now }
-{
-    match sinks {
-        [Sink::Pin { gate, .. }] => Some(*gate),
-        _ => None,
-    }
 }
 
 /// Returns whether an observer observes a signal. Adds the places of the live gates that read it at

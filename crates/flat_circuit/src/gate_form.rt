@@ -1,7 +1,4 @@
 //! The kinds of gates in one form, so that evaluating a gate takes no branch on its kind.
-
-ghost use Rattle.std.specs.Prelude.{◌≡◌, Bool, List};
-ghost use Rattle.fault_model.specs.Solution.{value};
 ghost use Rattle.flat_circuit.specs.GateForms.{IsFormOf};
 
 use bench_net::Kind;

@@ -2,7 +2,6 @@
 //! other signal, so a simulation doesn't evaluate their gates.
 
 ghost use Rattle.std.specs.Prelude.{◌≡◌, ◌↔◌, ◌<◌, ℕ, IfOk, IsTrue, false, length};
-ghost use Rattle.std.specs.Prelude.{slice_index_or};
 ghost use Rattle.bench_net.specs.Scan.{names};
 ghost use Rattle.bench_net.specs.Circuit.{IsCircuit};
 ghost use Rattle.flat_circuit.specs.Readers.{IsLive, Reads};

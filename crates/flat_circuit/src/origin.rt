@@ -2,10 +2,9 @@
 //! reads the fault list and the classes in their order. A run on 100,000 gates that read them in
 //! the order of its regions took three times as long for this step.
 
-ghost use Rattle.std.specs.Prelude.{◌≡◌, ◌<◌, ℕ, IfOk, length};
+ghost use Rattle.std.specs.Prelude.{◌≡◌, ◌<◌, IfOk, length};
 ghost use Rattle.fault_model.specs.Collapse.{AreClassesOf};
 ghost use Rattle.fault_model.specs.Fault.{Fault, fault_list};
-ghost use Rattle.bench_net.specs.Circuit.{IsCircuit};
 ghost use Rattle.flat_circuit.specs.Origins.{HaveRepresentatives, IsRepresentativeIn, IsStuckOf};
 ghost use Rattle.flat_circuit.specs.Origins.{Starts};
 

@@ -380,8 +380,8 @@ fn signal_word(
     }
 }
 
-/// Writes the fault-free word of every signal on a group, at the signal's place. It goes in level
-/// order, so a gate comes after the signals that it reads.
+/// Writes the fault-free word of every signal on a group, at the signal's place. It goes from
+/// place to place, so a gate comes after the signals that it reads.
 pub fn evaluate(circuit: &FlatCircuit, tests: &Tests, group: u32, words: &mut [u128])
     requires circuit { IsCircuit circuit.now.arranged }
     requires words { length (names circuit.now.arranged) ≤ length words.old }

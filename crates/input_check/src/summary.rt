@@ -6,28 +6,18 @@ ghost use Rattle.input_check.specs.Counts.{AreCountsOf, AreLeastParts, AreTestCo
 
 use bench_net::{Circuit, Kind};
 use fault_model::{Model, collapse, list_faults_in};
-use job_loading::piece_bytes;
+use job_loading::{LONG_TESTS, piece_bytes};
 use patterns::{BLOCK_SIZE, MAX_PIECES, MAX_TESTS, Tests};
-use region_runs::window_blocks;
+use region_runs::{stretches_for, window_blocks};
 use std::alloc::{AllocError, Global};
 use std::fmt::{self, Display, Formatter};
+use test_threads::LARGE_PIECE;
 
 /// The blocks of the most tests that a run takes.
 const MAX_BLOCKS: u32 = MAX_TESTS / BLOCK_SIZE;
 
 /// The number of workers of `run` by default.
-const USUAL_WORKERS: u64 = 4;
-
-/// The number of stretches into which a run with so many workers cuts the classes. Each worker runs
-/// one stretch at a time.
-const USUAL_STRETCHES: u64 = 96;
-
-/// The least number of bytes of a test file that a run reads piece by piece.
-const LONG_TEXT: u64 = 1 << 22;
-
-/// The bytes of a piece that each thread has in memory then, if 64 rows take more than the pieces
-/// of other files have ([`piece_bytes`]).
-const LARGE_PIECE: u64 = 1 << 23;
+const USUAL_WORKERS: u32 = 4;
 
 /// The kinds of gates and their names, in the order of [`Counts::gates`].
 static KINDS: [(Kind, &str); 8] = [
@@ -145,7 +135,7 @@ impl Counts {
     /// Estimates the bytes of a run of this number of tests, by the figures of the README. The run
     /// has these bytes of the test file, and the fault-free words of this number of groups of two
     /// blocks at a time.
-    fn memory(&self, tests: u32, text: u64, groups: u32, workers: u64) -> u64 {
+    fn memory(&self, tests: u32, text: u64, groups: u32, workers: u32) -> u64 {
         let signals = u64::from(self.signals);
         let classes = u64::from(self.classes);
         let sources = self.inputs.saturating_add(self.cells) as u64;
@@ -161,36 +151,38 @@ impl Counts {
             .saturating_add(self.pins.saturating_mul(12))
             .saturating_add(u64::from(self.faults).saturating_mul(4))
             .saturating_add(classes.saturating_mul(12 + 40));
-        let stretch = classes.div_ceil(USUAL_STRETCHES);
+        // Each worker runs one stretch at a time.
+        let stretch = u64::from(self.classes.div_ceil(stretches_for(self.classes, workers)));
         let each = signals
             .saturating_mul(61)
             .saturating_add(stretch.saturating_mul(80));
         text.saturating_add(words)
             .saturating_add(lists)
-            .saturating_add(each.saturating_mul(workers))
+            .saturating_add(each.saturating_mul(u64::from(workers)))
     }
 
     /// Estimates the bytes of a run that has the words of all tests.
-    fn memory_with_all_words(&self, tests: u32, workers: u64) -> u64 {
+    fn memory_with_all_words(&self, tests: u32, workers: u32) -> u64 {
         self.memory(tests, self.text(tests), groups_of(tests), workers)
     }
 
     /// Estimates the bytes of a test file that a run with this number of tests has at a time, if it
     /// reads a long file piece by piece.
-    fn text_at_a_time(&self, tests: u32, workers: u64) -> u64 {
+    fn text_at_a_time(&self, tests: u32, workers: u32) -> u64 {
         let whole = self.text(tests);
         let rows = self.text(BLOCK_SIZE);
-        if whole < LONG_TEXT || rows > LARGE_PIECE {
+        let large = LARGE_PIECE as u64;
+        if whole < LONG_TESTS || rows > large {
             return whole;
         }
         let usual = piece_bytes(whole);
-        let piece = if rows <= usual { usual } else { LARGE_PIECE };
-        piece.saturating_mul(workers)
+        let piece = if rows <= usual { usual } else { large };
+        piece.saturating_mul(u64::from(workers))
     }
 
     /// Estimates the bytes of a run that goes window by window, and reads a long test file piece by
     /// piece.
-    fn memory_in_windows(&self, tests: u32, workers: u64) -> u64 {
+    fn memory_in_windows(&self, tests: u32, workers: u32) -> u64 {
         // The blocks by which a window goes on, and the block before.
         let window = window_blocks(self.signals) / 2 + 1;
         let text = self.text_at_a_time(tests, workers);

@@ -35,7 +35,7 @@ pub enum SimFault {
     /// The order file has an error.
     #[error("{0}")]
     Order(OrderFault),
-    /// The circuit and the tests make too many pieces.
+    /// The circuit and the tests make too many pieces, or memory ran out.
     #[error("{0}")]
     Job(JobFault),
     /// The run failed.

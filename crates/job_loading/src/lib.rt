@@ -13,7 +13,7 @@ mod texts;
 mod watch;
 
 pub use fault::{ReportFault, SimFault};
-pub use pieces::piece_bytes;
+pub use pieces::{LONG_TESTS, piece_bytes};
 pub use run_job::RunJob;
 pub use split::{
     Split, least_parts, split_job_of, split_run_for, split_run_in_pieces, split_run_of,

@@ -1,6 +1,6 @@
 //! The job of a bench file, and the tests of a test file that is read piece by piece.
 
-ghost use Rattle.std.specs.Prelude.{◌≡◌, ◌≤◌, ◌/◌, IfSome, length, max, min};
+ghost use Rattle.std.specs.Prelude.{◌≡◌, ◌/◌, IfSome, length, max, min};
 ghost use Rattle.bench_net.specs.Refusal.{IsAccepted};
 ghost use Rattle.bench_net.specs.Scan.{sources};
 ghost use Rattle.patterns.specs.Tests.{HasTests, IsTestList};
@@ -20,19 +20,23 @@ use std::sync::Wait;
 use std::thread::Threads;
 use test_threads::{read_tests_beside, read_tests_in_pieces};
 
+/// The least number of bytes of a test file that is read piece by piece, 4 MiB. One thread reads it
+/// in some milliseconds.
+pub const LONG_TESTS: u64 = 1 << 22;
+
 /// The least number of bytes of a piece of a test file. A thread reads it in half a millisecond.
 const LEAST_PIECE: u64 = 1 << 20;
 
 /// The greatest number of bytes of a piece. Threads take pieces in turn, and wait for each other
 /// less often if these are large: 175 MB of tests for a system of 69,000 gates took 0.92 of their
-/// time with pieces of 4 MB in place of 1.
+/// time with pieces of 4 MiB in place of 1.
 const GREATEST_PIECE: u64 = 1 << 22;
 
 /// The number of pieces of a test file, if these have a size between both.
 const PIECES: u64 = 32;
 
 /// Returns the number of bytes of a piece of a test file of `size` bytes, of which each thread that
-/// reads it has one in memory: a 32nd of the file, but at least 1 MB and at most 4 MB.
+/// reads it has one in memory: a 32nd of the file, but at least 1 MiB and at most 4 MiB.
 pub fn piece_bytes(size: u64) -> u64
     ensures { result ≡ max (min (size / 32) 4194304) 1048576 }
 {

@@ -1,6 +1,7 @@
 //! Jobs that run window by window if their tests have more blocks than a window.
 
-ghost use Rattle.std.specs.Prelude.{◌≡◌, ◌<◌, ◌≤◌, IfErr, IfOk, OnOk, false, length, true};
+ghost use Rattle.std.specs.Prelude.{◌≡◌, ◌<◌, ◌≤◌, IfErr, IfNone, IfOk, IfSome, OnOk, false};
+ghost use Rattle.std.specs.Prelude.{[], length, true};
 ghost use Rattle.bench_net.specs.Scan.{sources};
 ghost use Rattle.patterns.specs.Tests.{IsTestList, TestList};
 ghost use Rattle.block_sim.specs.Parts.{BelongTogether, with_tests};
@@ -94,6 +95,11 @@ impl RunJob {
     /// and then the run is as it was.
     pub fn give_tests(&mut self, alloc: Global) -> Option<SpentTests>
         ensures kept { (some : TestList) × (self.new.parts ≡ with_tests self.old.parts some) }
+        ensures none { IfNone result (self.new ≡ self.old) }
+        ensures apart { self.old.apart ≡ true → self.new ≡ self.old }
+        ensures given { self.old.apart ≡ false → IfSome result (λ spent. self.new.parts
+            ≡ with_tests self.old.parts
+            (record { width = self.old.parts.tests.width; tests = [] })) }
     {
         self.job.give_tests(alloc).ok()
     }

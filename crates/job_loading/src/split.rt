@@ -75,8 +75,8 @@ fn fitting_parts(job: &Job, workers: u32) -> u32
 /// Reads the job of a bench file and a test file under a model. Returns it with the number of parts
 /// in which `workers` workers run it.
 ///
-/// It reads the files as [`crate::job_of_in_threads`] does, in at most `workers` threads. Only with
-/// [`Split::Whole`] does it check the number of pieces.
+/// It reads the files as [`crate::job_of_in_threads`] does. Only with [`Split::Whole`] does it
+/// check the number of pieces.
 pub fn split_job_of<R: Threads + Wait>(
     rt: &R,
     alloc: Global,

@@ -52,7 +52,7 @@ pub fn job_of(alloc: Global, model: Model, bench: &[u8], tests: &[u8]) -> Result
     job_for(alloc, model, circuit, tests)
 }
 
-/// Reads the job as [`job_of`] does, with the same errors, in at most as many threads as there are
+/// Reads the job as [`job_of`] does, with the same errors, in about as many threads as there are
 /// workers ([`read_inputs_in_threads`], [`Job::under_model_in_threads`]).
 pub fn job_of_in_threads<R: Threads + Wait>(
     rt: &R,
@@ -84,7 +84,7 @@ pub fn job_of_any_size(
     Ok(make_any_job(alloc, model, circuit, tests)?)
 }
 
-/// Reads the job as [`job_of_any_size`] does, with the same errors, in at most as many threads as
+/// Reads the job as [`job_of_any_size`] does, with the same errors, in about as many threads as
 /// there are workers ([`read_inputs_in_threads`], [`Job::under_model_in_threads`]).
 pub fn job_of_any_size_in_threads<R: Threads + Wait>(
     rt: &R,
@@ -163,8 +163,8 @@ pub fn read_inputs(alloc: Global, bench: &[u8], tests: &[u8]) -> Result<(Circuit
     Ok((circuit, tests))
 }
 
-/// Reads the circuit and the tests as [`read_inputs`] does, with the same errors, in at most as
-/// many threads as there are workers. All of them read the bench file, and then the tests. If the
+/// Reads the circuit and the tests as [`read_inputs`] does, with the same errors, in about as many
+/// threads as there are workers. All of them read the bench file, and then the tests. If the
 /// bench file is long and the test file is very long, they read both at the same time: one thread
 /// the bench file, and the others the tests, with the width of their first row as a guess. If the
 /// circuit has another number of sources, they read the tests again.
@@ -285,7 +285,7 @@ pub fn job_for(alloc: Global, model: Model, circuit: Circuit, tests: Tests) -> R
     Ok(Job::new(alloc, circuit, faults, classes, tests)?)
 }
 
-/// Makes the job as [`job_for`] does, with the same errors, in at most as many threads as there are
+/// Makes the job as [`job_for`] does, with the same errors, in about as many threads as there are
 /// workers ([`Job::under_model_in_threads`]).
 pub fn job_for_in_threads<R: Threads + Wait>(
     rt: &R,

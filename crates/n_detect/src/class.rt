@@ -1,6 +1,6 @@
 //! Counts of the tests that detect a class.
 
-ghost use Rattle.std.specs.Prelude.{◌<◌, ◌≤◌, length};
+ghost use Rattle.std.specs.Prelude.{◌<◌, length};
 ghost use Rattle.fault_model.specs.Collapse.{IsClassOf};
 ghost use Rattle.fault_model.specs.Fault.{Fault};
 ghost use Rattle.block_sim.specs.Parts.{HasRoom};

@@ -1,6 +1,6 @@
 //! Counts of the tests that detect each fault.
 
-ghost use Rattle.std.specs.Prelude.{◌≡◌, ◌<◌, ◌≤◌, ℕ, IfOk, Some, length, slice_get};
+ghost use Rattle.std.specs.Prelude.{◌<◌, IfOk, length};
 ghost use Rattle.n_detect.specs.Detections.{AreCounts, IsClassCount};
 ghost use Rattle.n_detect.specs.Share.{AreOwners, AreShares, HasAllClasses, HaveCounted};
 

@@ -5,7 +5,7 @@ ghost use Rattle.flat_circuit.specs.BlockSpans.{groups};
 ghost use Rattle.region_sim.specs.GroupLanes.{HaveGroupLanes};
 ghost use Rattle.block_sim.specs.Listed.{IsListed};
 ghost use Rattle.block_sim.specs.Parts.{HasRoom};
-ghost use Rattle.n_detect.specs.Share.{AreOwners, AreTallied, HasAllClasses, HasCounted};
+ghost use Rattle.n_detect.specs.Share.{AreTallied, HasAllClasses, HasCounted};
 ghost use Rattle.n_detect.specs.Share.{HasRowsOf, IsShareFor};
 
 use crate::tally::tally;

@@ -1,6 +1,6 @@
 //! The end of a merge: the missing part, the fault that no part contains, and the report.
 
-ghost use Rattle.std.specs.Prelude.{◌≡◌, ◌<◌, ◌^◌, [], ◌∷◌, ◌++◌, Contains, IfErr, IfOk};
+ghost use Rattle.std.specs.Prelude.{◌≡◌, ◌<◌, [], ◌∷◌, ◌++◌, Contains, IfErr, IfOk};
 ghost use Rattle.std.specs.Prelude.{MatchOption, OnOk, length, map, zip};
 ghost use Rattle.std.specs.List.{flat_map};
 ghost use Rattle.byte_output.specs.Output.{Writes};

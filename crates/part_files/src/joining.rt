@@ -1,7 +1,7 @@
 //! The common data of part files, and their verdicts joined.
 
 ghost use Rattle.std.specs.Prelude.{◌≡◌, ◌≢◌, ◌+◌, ◌<◌, [], ◌∷◌, ◌++◌, ℕ, true, false, length};
-ghost use Rattle.std.specs.Prelude.{slice_get, Contains, IfErr, IfOk, IfNone, IfSome, OnOk};
+ghost use Rattle.std.specs.Prelude.{Contains, IfErr, OnOk};
 ghost use Rattle.part_files.specs.PartReading.{head_in, texts_in};
 ghost use Rattle.part_files.specs.Merging.{AreJoined, AreOfOneRun, DifferAt, HaveBoth, IsOtherRun};
 

@@ -218,12 +218,14 @@ impl Tests {
         count <= MAX_TESTS && self.count % BLOCK_SIZE == 0
     }
 
-    /// Appends other tests to blocks that are all full.
+    /// Appends other tests to blocks that are all full. It fails only for memory, and then the
+    /// tests are as they were.
     pub fn append(&mut self, more: Tests) -> Result<(), AllocError>
         requires full { length self.old.tests % 64 ≡ 0 }
         requires width { more.width ≡ self.old.width }
         requires room { length self.old.tests + length more.tests ≤ max_tests }
         ensures appended { OnOk result (self.new ≡ with_tests self.old more.tests) }
+        ensures kept { OnErr result (self.new ≡ self.old) }
     {
         let Tests {
             width: _,

@@ -1,5 +1,5 @@
 //! Words from which tests are made: for each block a row of words, one for each source.
-ghost use Rattle.std.specs.Prelude.{◌≡◌, ◌≢◌, ℕ, ◌+◌, ◌*◌, ◌<◌, ◌≤◌, List, [], map, length};
+ghost use Rattle.std.specs.Prelude.{◌≡◌, ℕ, ◌+◌, ◌*◌, ◌<◌, ◌≤◌, [], map, length};
 ghost use Rattle.std.specs.Prelude.{slice_range, slice_index_or, IfOk, IfErr, OnOk, OnErr};
 ghost use Rattle.patterns.specs.Making.{HasIdleBit, IsFirstIdle};
 ghost use Rattle.patterns.specs.Tests.{blocks, max_tests};

@@ -11,6 +11,7 @@ mod SweepRests
 mod DeadClasses
 mod StretchSeats
 mod ClaimedStretches
+mod StretchTables
 mod RunsOfParts
 mod ReturnsByPart
 mod SharedStretches

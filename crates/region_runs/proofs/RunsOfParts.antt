@@ -14,11 +14,11 @@ use Rattle.workers.specs.Stops.{Stops}
 use Rattle.region_runs.specs.declared.stretch_run.Stop.{Stop}
 use Rattle.region_runs.specs.declared.stretch_run.Waiting.{Waiting}
 use Rattle.region_runs.specs.declared.stretch_workers.Done.{Done}
-use Rattle.region_runs.specs.StretchRuns.{AreAllFound, AreAllLowest, AreAllStopped, AreFoundByPart}
-use Rattle.region_runs.specs.StretchRuns.{AreFoundUpTo, AreRunsOf, AreWhole, HasEnded, HasPassed}
+use Rattle.region_runs.specs.StretchRuns.{AreAllFound, AreAllLowest, AreAllStopped}
+use Rattle.region_runs.specs.StretchRuns.{AreFoundUpTo, AreRunsOf, HasEnded, HasPassed}
 use Rattle.region_runs.specs.StretchRuns.{HasRunSo, IsDone, IsFoundAt, IsLowerOf, IsLowest}
 use Rattle.region_runs.specs.StretchRuns.{IsLowestAt}
-use Rattle.region_runs.specs.StretchRuns.{IsLowestIn, IsOpenIn, IsStopAt, IsWholeAt, PartRun}
+use Rattle.region_runs.specs.StretchRuns.{IsLowestIn, IsOpenIn, IsStopAt, PartRun}
 use Rattle.region_runs.specs.StretchRuns.{StretchesWaitFor, WaitsIn, at_first, run_at, runs_from}
 use Rattle.region_runs.specs.StretchRuns.{unbegun_run}
 use Rattle.region_runs.specs.Part.{stretch}
@@ -27,6 +27,7 @@ use Rattle.region_runs.proofs.ReturnsByPart.{kept, last_of}
 use Rattle.region_runs.proofs.PartsOfClasses.{FirstsUpTo, firsts_more, stretch_within}
 use Rattle.region_runs.proofs.ClassOrders.{pushed}
 use Rattle.region_runs.proofs.StretchRuns.{done_high, lowest_along, lowest_join}
+use Rattle.region_runs.proofs.StretchTables.{AreFoundByPart, AreWhole, IsWholeAt}
 
 -- if all blocks are done, the first tests are found
 pub firsts_found : (job : Parts) (classes : List ℕ) (firsts : List (Option ℕ)) → BelongTogether job

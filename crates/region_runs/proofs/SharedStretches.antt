@@ -39,8 +39,8 @@ use Rattle.region_runs.specs.declared.stretch_run.Stop.{Stop}
 use Rattle.region_runs.specs.declared.stretch_run.Waiting.{Waiting}
 use Rattle.region_runs.specs.declared.stretch_workers.Done.{Done}
 use Rattle.region_runs.specs.declared.stretch_workers.Served.{Served}
-use Rattle.region_runs.specs.StretchRuns.{AreFoundByPart, AreGivenBack, AreWhole, HasEnded, IsDone}
-use Rattle.region_runs.specs.StretchRuns.{IsLowest, IsOpenIn, IsStopAt, IsStoppedAmong, IsWholeAt}
+use Rattle.region_runs.specs.StretchRuns.{AreGivenBack, HasEnded, IsDone}
+use Rattle.region_runs.specs.StretchRuns.{IsLowest, IsOpenIn, IsStopAt, IsStoppedAmong}
 use Rattle.region_runs.specs.StretchRuns.{run_at, runs_from}
 use Rattle.region_runs.specs.Part.{stretch, stretch_count, stretch_size}
 use Rattle.region_runs.specs.ClassOrder.{IsCutOf}
@@ -48,6 +48,7 @@ use Rattle.region_runs.specs.Stretches.{AreApart, AreOfStretches, AreServed, Are
 use Rattle.region_runs.specs.Stretches.{EachClaim, StandsFor}
 use Rattle.region_runs.specs.Stretches.{EndsServing, HasServed, IsAmong, Stands, crew_of}
 use Rattle.region_runs.specs.Stretches.{shape_of_stretches}
+use Rattle.region_runs.proofs.StretchTables.{AreFoundByPart, AreWhole, IsWholeAt}
 use Rattle.region_runs.proofs.PartRefusals.{ceil_le}
 use Rattle.region_runs.proofs.RunsOfParts.{none_open, run_there}
 use Rattle.region_runs.proofs.StretchSeats.{accounts_on}

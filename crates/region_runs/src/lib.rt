@@ -28,5 +28,5 @@ pub use open_run::run_open;
 pub use parts::{
     LedgerRun, PartVerdict, in_one_part, part_of, run_in_parts, run_over_ledger, run_part,
 };
-pub use stretches::parts_for;
+pub use stretches::{parts_for, stretches_for};
 pub use windows::{run_in_windows, run_part_in_windows, window_blocks, without_first};

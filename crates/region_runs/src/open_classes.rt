@@ -1,6 +1,6 @@
 //! The places of a list whose classes may be open: for each place the next one.
 
-ghost use Rattle.std.specs.Prelude.{◌≡◌, ◌+◌, ◌<◌, ℕ, All, IfOk, None, Some, length, slice_get};
+ghost use Rattle.std.specs.Prelude.{◌≡◌, ◌+◌, ◌<◌, IfOk, Some, length, slice_get};
 ghost use Rattle.std.specs.Prelude.{slice_set};
 ghost use Rattle.region_sim.specs.OpenPlaces.{AreNextOpen};
 

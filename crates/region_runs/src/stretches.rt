@@ -20,7 +20,7 @@ const PARTS_OF_A_WORKER: u32 = 24;
 /// Returns the number of stretches for this number of classes and workers. One worker gets one
 /// stretch. Several get a few times their number, so that all end at about the same time, but no
 /// more than there are classes.
-pub(crate) fn stretches_for(classes: u32, workers: u32) -> u32
+pub fn stretches_for(classes: u32, workers: u32) -> u32
     ensures count { result ≡ stretches_for classes workers }
     ensures some { 0 < result }
 {

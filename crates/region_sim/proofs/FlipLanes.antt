@@ -11,10 +11,11 @@ use Rattle.list_lemmas.proofs.Members.{Among, contained}
 use Rattle.list_lemmas.proofs.Places.{at_place, within_place}
 use Rattle.bench_net.proofs.Public.{signal-name_of}
 use Rattle.fault_model.specs.declared.Line.TheVariants as line
+use Rattle.fault_model.specs.Fault.{Fault}
 use Rattle.fault_model.specs.Solution.{Test, Detects}
 use Rattle.fault_model.specs.Detection.{HasBit}
 use Rattle.fault_model.proofs.Public.{detection_is_of_any_solution, has_solutions}
-use Rattle.block_sim.specs.Flips.{DetectsFlip, TellsFirstFlips, flip, flips}
+use Rattle.block_sim.specs.Flips.{DetectsFlip, TellsFirstFlips, flip}
 use Rattle.block_sim.specs.declared.propagation.Followed.{Followed}
 use Rattle.block_sim.specs.Propagation.{AreShown, IsFirstChange}
 use Rattle.block_sim.specs.ActiveGates.{HasActiveIn}
@@ -24,6 +25,10 @@ use Rattle.block_sim.specs.Ways.{HasActiveByFlip}
 use Rattle.flat_circuit.specs.Words.{lane, lane_bits, test_of, AreWords}
 use Rattle.flat_circuit.proofs.Public.{lane_xor, unlike, index_of}
 use Rattle.block_sim.proofs.Public.{bit_is, first_on_stem}
+
+-- the faults that complement a signal, in each lane from the bit that the signal has there
+abbrev pub flips : List ℕ → ℕ → ℕ → Fault
+flips good s k = flip s (lane (slice_index_or good s 0) k)
 
 turned_bit : (a l : Bool) → l ≡ true → unlike a l ≡ not a
 turned_bit true l e = ap not e

@@ -14,10 +14,10 @@ use Rattle.fault_model.specs.declared.Line.TheVariants as line
 use Rattle.fault_model.specs.Solution.{Test, Detects}
 use Rattle.fault_model.specs.Detection.{HasBit}
 use Rattle.fault_model.proofs.Public.{detection_is_of_any_solution, has_solutions}
-use Rattle.block_sim.specs.Flips.{DetectsFlip, flip, flips}
+use Rattle.block_sim.specs.Flips.{DetectsFlip, flip}
 use Rattle.block_sim.specs.Propagation.{AreShown}
 use Rattle.flat_circuit.specs.Words.{lane, lane_bits, test_of, AreWords}
-use Rattle.region_sim.proofs.FlipLanes.{has_bit}
+use Rattle.region_sim.proofs.FlipLanes.{flips, has_bit}
 use Rattle.block_sim.proofs.Public.{bit_is}
 
 module _ (c : List Statement) (well : IsWellFormed c) (tests : List Test) (group : ℕ)

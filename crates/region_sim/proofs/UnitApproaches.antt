@@ -2,13 +2,14 @@
 use Rattle.std.proofs.Common.{◌≡◌, ◌<◌, ◌≤◌, ◌+◌, ◌*◌, ◌/◌, ◌%◌, ℕ, refl, sym, ◌∙◌, ap}
 use Rattle.std.proofs.Common.{subst}
 use Rattle.std.proofs.Common.{Bool, true, false, List, [], length, arith, ◌-◌}
-use Rattle.std.specs.Prelude.{◌↔◌, Option, Some, None, bit_and, slice_index_or}
+use Rattle.std.specs.Prelude.{◌↔◌, Option, Some, None, bit_and, slice_get, slice_index_or}
 use Rattle.std.specs.Prelude.{unwrap_or}
 use Rattle.std.specs.Bool.{Decides}
 use Rattle.std.proofs.lemmas.Bool.{false≢true}
 use Rattle.std.proofs.lemmas.Option.{slice_get-get_or}
 use Rattle.bench_net.specs.Statement.{Statement}
 use Rattle.bench_net.specs.Circuit.{IsWellFormed}
+use Rattle.fault_model.specs.Collapse.{representatives}
 use Rattle.fault_model.specs.Detection.{DetectsAt, LooksBack}
 use Rattle.fault_model.specs.Fault.{Fault}
 use Rattle.fault_model.specs.Reordered.{moved_fault, place}
@@ -23,15 +24,24 @@ use Rattle.block_sim.specs.Flips.{DetectsFlip}
 use Rattle.block_sim.specs.Parts.{Parts}
 use Rattle.block_sim.specs.First.{IsFirstOn}
 use Rattle.region_sim.specs.Units.{ArrivesInUnit, HaveCome, IsTestInUnit, IsWideReached}
-use Rattle.region_sim.specs.Units.{TellsFirstInUnit, TellsUnit, group_in, lane_test, unit_span}
-use Rattle.region_sim.specs.Units.{unit_test}
-use Rattle.flat_circuit.specs.Words.{lane}
+use Rattle.region_sim.specs.Units.{TellsUnit, group_in, lane_test, unit_span}
+use Rattle.flat_circuit.specs.Words.{lane, test_of}
 use Rattle.flat_circuit.proofs.Public.{reordered}
 use Rattle.block_sim.proofs.Public.{lanes_both, lanes_first, lanes_second, same_flips}
 
+-- The least lane of a word that is 1 has the first test of the unit that detects the class: each
+-- lane that is 1 has such a test, and no test of the unit that comes before all of them detects it.
+pub record TellsFirstInUnit (job : Parts) (group class word : ℕ) : Type 0 where
+  pub fault : Fault
+  pub stands : slice_get (representatives job.list.model job.circuit) class ≡ Some fault
+  pub found : (k : ℕ) → k < 512 → lane word k ≡ true
+      → DetectsAt job.circuit job.tests.tests fault (128 * group + k)
+  pub clear : (k : ℕ) → k < 512 → ((j : ℕ) → j ≤ k → lane word j ≡ false)
+      → ¬ DetectsAt job.circuit job.tests.tests fault (128 * group + k)
+
 -- the test of a lane, by its number
 pub lane_number : (tests : List Test) (group k : ℕ)
-    → lane_test tests both_layout (group_in group) k ≡ unit_test tests group k
+    → lane_test tests both_layout (group_in group) k ≡ test_of tests group k
 lane_number tests group k =
     let number : 128 * (group + k / 128) + (0 + k % 128) ≡ 128 * group + k = omega arith in
     ap (λ n. slice_index_or tests n []) number
@@ -47,11 +57,11 @@ module _ (c d : List Statement) (well : IsWellFormed c) (arranged : IsArranged c
   there k lt h =
       let listed : 128 * group + k < length tests = omega (arith, full, lt) in
       let get = slice_get-get_or tests (128 * group + k) [] listed in
-      let same : h.0 ≡ unit_test tests group k =
+      let same : h.0 ≡ test_of tests group k =
       ap (λ (o : Option Test). unwrap_or o h.0) (sym h.1 ∙ get) in (
         (looks k lt).1 h.3,
         subst (λ t. Detects d t (moved_fault c d f)) (sym (lane_number tests group k))
-            ((detected_same c d well (reordered c d well arranged) (unit_test tests group k) f).0
+            ((detected_same c d well (reordered c d well arranged) (test_of tests group k) f).0
             (subst (λ t. Detects c t f) same h.2)),
       )
 
@@ -60,9 +70,9 @@ module _ (c d : List Statement) (well : IsWellFormed c) (arranged : IsArranged c
       → DetectsAt c tests f (128 * group + k)
   back k lt on detects =
       let listed : 128 * group + k < length tests = omega (arith, full, lt) in (
-        unit_test tests group k,
+        test_of tests group k,
         slice_get-get_or tests (128 * group + k) [] listed,
-        (detected_same c d well (reordered c d well arranged) (unit_test tests group k) f).1
+        (detected_same c d well (reordered c d well arranged) (test_of tests group k) f).1
             (subst (λ t. Detects d t (moved_fault c d f)) (lane_number tests group k) detects),
         (looks k lt).0 on,
       )
@@ -79,19 +89,19 @@ module _ (c d : List Statement) (well : IsWellFormed c) (arranged : IsArranged c
   pub comes_in_unit : (s word : ℕ)
       → HaveCome d tests both_layout (group_in group) (moved_fault c d f) launch (place c d s) word
       → (k : ℕ) → k < 512 → DetectsAt c tests f (128 * group + k)
-      ↔ ((lane (bit_and launch word) k ≡ true) × DetectsFlip c (unit_test tests group k) s)
+      ↔ ((lane (bit_and launch word) k ≡ true) × DetectsFlip c (test_of tests group k) s)
   comes_in_unit s word come k lt = (
     λ h. (let own = there k lt h in
         let at = (come k lt own.0).0 own.1 in (
           lanes_both launch word k own.0 at.0,
-          (flips (unit_test tests group k)).1
+          (flips (test_of tests group k)).1
               (subst (λ t. DetectsFlip d t (place c d s)) (lane_number tests group k) at.1),
         )),
     λ p. (let on = lanes_first launch word k p.0 in
         back k lt on ((come k lt on).1 (
           lanes_second launch word k p.0,
           subst (λ t. DetectsFlip d t (place c d s)) (sym (lane_number tests group k))
-              ((flips (unit_test tests group k)).0 p.1),
+              ((flips (test_of tests group k)).0 p.1),
         ))),
   )
     where
@@ -152,10 +162,10 @@ known_first job group class word told = record {
 pub arrived_first : (job : Parts) (group stem class word seen : ℕ)
     → ArrivesInUnit job group stem class word
     → ((k : ℕ) → k < 512 → lane word k ≡ true → lane seen k ≡ true
-    → DetectsFlip job.circuit (unit_test job.tests.tests group k) stem)
+    → DetectsFlip job.circuit (test_of job.tests.tests group k) stem)
     → ((k : ℕ) → k < 512 → lane word k ≡ true
     → ((j : ℕ) → j ≤ k → lane word j ≡ true → lane seen j ≡ false)
-    → ¬ DetectsFlip job.circuit (unit_test job.tests.tests group k) stem)
+    → ¬ DetectsFlip job.circuit (test_of job.tests.tests group k) stem)
     → TellsFirstInUnit job group class (bit_and word seen)
 arrived_first job group stem class word seen came right missed = record {
   fault = came.0;

@@ -31,9 +31,9 @@ use Rattle.block_sim.specs.First.{IsFirstOn}
 use Rattle.block_sim.specs.Flips.{DetectsFlip, flip}
 use Rattle.region_sim.specs.UnitHits.{AreClassesAt, AreParted, AreUnitConcluded, HaveArrivedInUnit}
 use Rattle.region_sim.specs.UnitHits.{HaveFirstsBeside, IsClassAt}
-use Rattle.region_sim.specs.Units.{group_in, lane_test, unit_span, unit_test}
+use Rattle.region_sim.specs.Units.{group_in, lane_test, unit_span}
 use Rattle.block_sim.specs.Ways.{HasActiveByFlip}
-use Rattle.flat_circuit.specs.Words.{lane}
+use Rattle.flat_circuit.specs.Words.{lane, test_of}
 use Rattle.region_sim.proofs.FlipLanes.{has_bit}
 use Rattle.region_sim.proofs.PackGates.{in_group}
 use Rattle.region_sim.proofs.PackedRegions.{stem_is}
@@ -114,12 +114,12 @@ module _ (stem : ℕ) (classes : List UnitClass) (slots : List Slot) (followed :
       (moved : stem ≡ place job.circuit d signal) (seen : ℕ)
       (told : TellsPack both_layout d job.tests.tests (group_in group) slots followed seen) where
     flips : (k : ℕ) → k < 512
-        → DetectsFlip job.circuit (unit_test job.tests.tests group k) signal
+        → DetectsFlip job.circuit (test_of job.tests.tests group k) signal
         ↔ DetectsFlip d (lane_test job.tests.tests both_layout (group_in group) k)
         (stem_at both_layout slots k)
     flips k lt =
         let tests = job.tests.tests in
-        let same = (same_flips job.circuit d well is).detected (unit_test tests group k) signal in
+        let same = (same_flips job.circuit d well is).detected (test_of tests group k) signal in
         let at : stem_at both_layout slots k ≡ place job.circuit d signal =
         stem_in k lt ∙ moved in (
           λ h. subst (DetectsFlip d (lane_test tests both_layout (group_in group) k)) (sym at)
@@ -131,7 +131,7 @@ module _ (stem : ℕ) (classes : List UnitClass) (slots : List Slot) (followed :
         )
 
     right : (k : ℕ) → k < 512 → lane seen k ≡ true
-        → DetectsFlip job.circuit (unit_test job.tests.tests group k) signal
+        → DetectsFlip job.circuit (test_of job.tests.tests group k) signal
     right k lt e =
         let many = parted.many in
         (flips k lt).1 (told.found k lt e (omega (arith, lt, many)))
@@ -139,7 +139,7 @@ module _ (stem : ℕ) (classes : List UnitClass) (slots : List Slot) (followed :
     missed : (one : UnitClass) → Contains classes one → (k : ℕ) → k < 512
         → lane (number one.lanes) k ≡ true
         → ((j : ℕ) → j ≤ k → lane (number one.lanes) j ≡ true → lane seen j ≡ false)
-        → ¬ DetectsFlip job.circuit (unit_test job.tests.tests group k) signal
+        → ¬ DetectsFlip job.circuit (test_of job.tests.tests group k) signal
     missed one member k lt on none d =
         let own = parted.each one k member lt on in
         told.clear k own.0 lt own.1
@@ -198,7 +198,7 @@ module _ (stem : ℕ) (classes : List UnitClass) (slots : List Slot) (followed :
       let bit = lane (slice_index_or (good slot) stem 0) j in
       has gate (
         number,
-        unit_test tests group k,
+        test_of tests group k,
         bit,
         record { from = omega arith; to = omega (arith, lt); listed = listed },
         slice_get-get_or tests number [] listed,

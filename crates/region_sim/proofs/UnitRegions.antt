@@ -21,9 +21,10 @@ use Rattle.flat_circuit.specs.GateForms.{inverted_if}
 use Rattle.region_sim.specs.Pack.{AreRows}
 use Rattle.flat_circuit.specs.Regions.{IsReadBy, lone_reader}
 use Rattle.block_sim.specs.Flips.{DetectsFlip, Passes, complemented_at}
-use Rattle.region_sim.specs.Units.{AreKnownInUnit, CarryFlip, free_bit, lane_test, turned_bits}
+use Rattle.region_sim.specs.Units.{AreKnownInUnit, CarryFlip, lane_test, turned_bits}
 use Rattle.flat_circuit.specs.Words.{lane, lane_bits}
 use Rattle.flat_circuit.proofs.Public.{pin_law}
+use Rattle.flat_circuit.specs.SlotWords.{copied_bit}
 use Rattle.block_sim.proofs.Public.{dead_flip, passes_is, step_law}
 use Rattle.block_sim.proofs.Public.{gate_named_of_signal_equations as gate_named}
 use Rattle.region_sim.proofs.PackGates.{in_group, slot_low}
@@ -81,22 +82,22 @@ module _ (c : List Statement) (well : IsWellFormed c) (tests : List Test) (l : L
     (s g : ℕ) (h : IsReadBy c g s) (kind : Kind) (pins : List ℕ)
     (gate : gate_of c g ≡ Some (kind, pins)) (lanes k : ℕ) (lt : k < 512)
     (on : lane lanes k ≡ true) (d : Bool)
-    (valued : inverted_if d (free_bit l good k g)
+    (valued : inverted_if d (copied_bit l good k g)
     ≡ value kind (turned_bits l good (Signal s) lanes pins k)) where
   abbrev bits : Name → Bool
   bits = lane_bits c (good (slot_of l k)) (lane_in l k)
 
   abbrev seen : ℕ → Bool
-  seen p = inverted_if (p == s && lane lanes k) (free_bit l good k p)
+  seen p = inverted_if (p == s && lane lanes k) (copied_bit l good k p)
 
   abbrev turned : ℕ → Bool
-  turned p = inverted_if (p == s) (free_bit l good k p)
+  turned p = inverted_if (p == s) (copied_bit l good k p)
 
   alike : (ps : List ℕ) → map seen ps ≡ map turned ps
   alike [] = refl
   alike (p ∷ ps) =
-      ap (λ b. b ∷ map seen ps) (ap (λ b. inverted_if (p == s && b) (free_bit l good k p)) on
-      ∙ ap (λ b. inverted_if b (free_bit l good k p)) (and_true (p == s)))
+      ap (λ b. b ∷ map seen ps) (ap (λ b. inverted_if (p == s && b) (copied_bit l good k p)) on
+      ∙ ap (λ b. inverted_if b (copied_bit l good k p)) (and_true (p == s)))
       ∙ ap (λ bs. turned p ∷ bs) (alike ps)
 
   pair : ◌≡◌ {A = Kind × List ℕ} (kind, pins) (h.reads.kind, map (signal c) h.reads.args)
@@ -109,8 +110,8 @@ module _ (c : List Statement) (well : IsWellFormed c) (tests : List Test) (l : L
       ∙ (ap (λ p. value p.0 (map turned p.1)) pair
       ∙ sym (ap (value h.reads.kind) (over turned (signal c) h.reads.args)))
 
-  here : free_bit l good k g ≡ bits h.reads.name
-  here = ap (free_bit l good k) (sym h.reads.number)
+  here : copied_bit l good k g ≡ bits h.reads.name
+  here = ap (copied_bit l good k) (sym h.reads.number)
 
   law : Passes c (lane_test tests l group k) s (signal c h.reads.name)
       ↔ (value h.reads.kind (map (complemented_at c s bits) h.reads.args) ≢ bits h.reads.name)
@@ -118,13 +119,13 @@ module _ (c : List Statement) (well : IsWellFormed c) (tests : List Test) (l : L
       (words (slot_of l k) (slot_low l sized k lt) (lane_in l k) (in_group l sized k)) h.reads.gate
 
   pub passes_there : Passes c (lane_test tests l group k) s g → d ≡ true
-  passes_there p = is_turned d (free_bit l good k g) _ valued
+  passes_there p = is_turned d (copied_bit l good k g) _ valued
       (λ same. law.0 (subst (Passes c (lane_test tests l group k) s) (sym h.reads.number) p)
       (sym now ∙ (same ∙ here)))
 
   pub passes_back : d ≡ true → Passes c (lane_test tests l group k) s g
   passes_back e = subst (Passes c (lane_test tests l group k) s) h.reads.number
-      (law.1 (λ same. turned_off d (free_bit l good k g) _ valued e (now ∙ (same ∙ sym here))))
+      (law.1 (λ same. turned_off d (copied_bit l good k g) _ valued e (now ∙ (same ∙ sym here))))
 
 -- a signal that only one gate reads
 pub carry_before : (c : List Statement) (tests : List Test) (l : Layout) (group : ℕ → ℕ)

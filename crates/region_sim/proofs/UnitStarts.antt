@@ -30,10 +30,11 @@ use Rattle.region_sim.specs.declared.unit_start.WideReach.TheVariants.{Observed,
 use Rattle.flat_circuit.specs.GateForms.{inverted_if}
 use Rattle.region_sim.specs.Pack.{AreRows}
 use Rattle.block_sim.specs.Flips.{start_of}
-use Rattle.region_sim.specs.Units.{HaveCome, CarryFlip, free_bit, lane_test, turned_bits}
+use Rattle.region_sim.specs.Units.{HaveCome, CarryFlip, lane_test, turned_bits}
 use Rattle.block_sim.specs.Ways.{IsWay, IsWayOfLine}
 use Rattle.flat_circuit.specs.Words.{lane, lane_bits}
 use Rattle.flat_circuit.proofs.Public.{gate_within, unlike}
+use Rattle.flat_circuit.specs.SlotWords.{copied_bit}
 use Rattle.block_sim.proofs.Public.{Enters, pin_enters, lanes_both}
 use Rattle.block_sim.proofs.Public.{lanes_first, lanes_second, fault_law}
 use Rattle.block_sim.proofs.Public.{gate_named_of_signal_equations as gate_named}
@@ -115,26 +116,26 @@ module _ (c : List Statement) (well : IsWellFormed c) (tests : List Test) (l : L
     (f : Fault) (n : Name) (on_name : name_on c f.line ≡ Some n) (carried : ℕ)
     (number : carried ≡ signal c n) (excited mask : ℕ)
     (is : (k : ℕ) → k < 512
-    → lane excited k ≡ (unlike (free_bit l good k carried) f.stuck && lane mask k)) where
+    → lane excited k ≡ (unlike (copied_bit l good k carried) f.stuck && lane mask k)) where
   abbrev bits : ℕ → Name → Bool
   bits k = lane_bits c (good (slot_of l k)) (lane_in l k)
 
   solves : (k : ℕ) → k < 512 → Solves c (lane_test tests l group k) None (bits k)
   solves k lt = rows (slot_of l k) (slot_low l sized k lt) (lane_in l k) (in_group l sized k)
 
-  here : (k : ℕ) → free_bit l good k carried ≡ bits k n
-  here k = ap (free_bit l good k) number
+  here : (k : ℕ) → copied_bit l good k carried ≡ bits k n
+  here k = ap (copied_bit l good k) number
 
   inside : (k : ℕ) → k < 512 → lane excited k ≡ true → lane mask k ≡ true
-  inside k lt e = masked (unlike (free_bit l good k carried) f.stuck) (lane mask k)
+  inside k lt e = masked (unlike (copied_bit l good k carried) f.stuck) (lane mask k)
       (sym (is k lt) ∙ e)
 
   excited_is : (k : ℕ) → k < 512 → lane mask k ≡ true
       → Decides (lane excited k) (bits k n ≢ f.stuck)
   excited_is k lt asked = (
-    λ e same. differs_on (free_bit l good k carried) f.stuck (lane mask k) (sym (is k lt) ∙ e)
+    λ e same. differs_on (copied_bit l good k carried) f.stuck (lane mask k) (sym (is k lt) ∙ e)
         (here k ∙ same),
-    λ ne. is k lt ∙ differs_is (free_bit l good k carried) f.stuck (lane mask k) asked
+    λ ne. is k lt ∙ differs_is (copied_bit l good k carried) f.stuck (lane mask k) asked
         (λ same. ne (sym (here k) ∙ same)),
   )
 
@@ -163,7 +164,7 @@ module _ (c : List Statement) (well : IsWellFormed c) (tests : List Test) (l : L
       (less : (k : ℕ) → lane result k ≡ true → lane excited k ≡ true)
       (changed : (kind : Kind) (pins : List ℕ) (k : ℕ) → gate_of c gate ≡ Some (kind, pins)
       → k < 512 → lane excited k ≡ true
-      → inverted_if (lane result k) (free_bit l good k gate)
+      → inverted_if (lane result k) (copied_bit l good k gate)
       ≡ value kind (turned_bits l good (turned.Pin pin) excited pins k)) where
     module _ (e : Enters c f.line) (named : signal c e.name ≡ gate) where
       stands : Contains c (Gate e.name e.kind e.args)
@@ -188,11 +189,11 @@ module _ (c : List Statement) (well : IsWellFormed c) (tests : List Test) (l : L
           ≡ pins_see (Some f) (bits k) gate e.args
       turned_see k lt ex =
           by_places (signal c) (λ i s. inverted_if (i == pin && lane excited k)
-          (free_bit l good k s)) (λ i a. under (Some f) (line.Pin gate i) (bits k a)) e.args
+          (copied_bit l good k s)) (λ i a. under (Some f) (line.Pin gate i) (bits k a)) e.args
           (λ i a there. by i a there (i == pin) refl)
         where
           by : (i : ℕ) (a : Name) → slice_get e.args i ≡ Some a → (b : Bool) → (i == pin) ≡ b
-              → inverted_if (i == pin && lane excited k) (free_bit l good k (signal c a))
+              → inverted_if (i == pin && lane excited k) (copied_bit l good k (signal c a))
               ≡ under (Some f) (line.Pin gate i) (bits k a)
           by i a there true eq =
               let place : i ≡ pin = eqb-true i pin eq in
@@ -251,13 +252,13 @@ module _ (c : List Statement) (well : IsWellFormed c) (tests : List Test) (l : L
           ≡ value e.kind (pins_see (Some f) (bits k) gate e.args)
       valued k lt asked true ex =
           unlike_is (bits k e.name) (lane result k)
-          ∙ (ap (λ s. inverted_if (lane result k) (free_bit l good k s)) named
+          ∙ (ap (λ s. inverted_if (lane result k) (copied_bit l good k s)) named
           ∙ (changed e.kind (map (signal c) e.args) k gate_is lt ex
           ∙ ap (value e.kind) (turned_see k lt ex)))
       valued k lt asked false off =
           let none : lane result k ≡ false = nothing (lane result k) refl in
           let stuck : bits k n ≡ f.stuck = sym (here k)
-          ∙ same_off (free_bit l good k carried) f.stuck (lane mask k) (sym (is k lt) ∙ off) asked
+          ∙ same_off (copied_bit l good k carried) f.stuck (lane mask k) (sym (is k lt) ∙ off) asked
           in
           ap (unlike (bits k e.name)) none
           ∙ (unlike_false (bits k e.name)

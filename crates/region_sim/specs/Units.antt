@@ -1,7 +1,6 @@
 -- Units: gates, lane by lane, on the words of a wide word's slots, with some of their pins
 -- complemented.
 use Rattle.std.specs.Prelude.{◌≡◌, ◌↔◌, ◌<◌, ◌≤◌, ◌+◌, ◌*◌, ℕ, ◌==◌, ◌&&◌, Bool, true, false, List}
-use Rattle.std.specs.Prelude.{[]}
 use Rattle.std.specs.Prelude.{Option, Some, None, length, map, slice_get, slice_index_or}
 use Rattle.std.specs.Prelude.{vec_capacity}
 use Rattle.bench_net.specs.Statement.{Statement}
@@ -31,10 +30,7 @@ use Rattle.region_sim.specs.Pack.{AreRows, HaveCounts}
 use Rattle.block_sim.specs.Parts.{BelongTogether, Parts}
 use Rattle.block_sim.specs.Flips.{DetectsFlip}
 use Rattle.flat_circuit.specs.Words.{lane, test_of}
-
--- the fault-free bit of a signal in a lane of a wide word
-abbrev pub free_bit : Layout → (ℕ → List ℕ) → ℕ → ℕ → Bool
-free_bit layout good k s = lane (slice_index_or (good (slot_of layout k)) s 0) (lane_in layout k)
+use Rattle.flat_circuit.specs.SlotWords.{copied_bit}
 
 -- whether a pin of a gate, by its place and the signal that it reads, is complemented
 abbrev pub is_turned : Turned → ℕ → ℕ → Bool
@@ -46,7 +42,7 @@ is_turned (Pin pin) place read = place == pin
 abbrev pub turned_bit : Layout → (ℕ → List ℕ) → Turned → ℕ → List ℕ → ℕ → ℕ → Bool
 turned_bit layout good turned lanes pins k place =
     inverted_if (is_turned turned place (slice_index_or pins place 0) && lane lanes k)
-    (free_bit layout good k (slice_index_or pins place 0))
+    (copied_bit layout good k (slice_index_or pins place 0))
 
 -- these bits, pin by pin
 abbrev pub turned_bits : Layout → (ℕ → List ℕ) → Turned → ℕ → List ℕ → ℕ → List Bool
@@ -129,10 +125,6 @@ pub record IsUnitViewOf (job : Parts) (group : ℕ) (view : UnitView) : Type 0 w
   pub fault_free : AreRows view.circuit.now.arranged job.tests.tests both_layout (group_in group)
       (unit_rows view)
 
--- the test of a lane of a unit
-abbrev pub unit_test : List Test → ℕ → ℕ → Test
-unit_test tests group k = slice_index_or tests (128 * group + k) []
-
 -- in each lane of a unit: the word has a 1 exactly if the test detects the class
 abbrev pub TellsUnit : Parts → ℕ → ℕ → ℕ → Type 0
 TellsUnit job group class word = (r : Fault)
@@ -146,7 +138,7 @@ abbrev pub ArrivesInUnit : Parts → ℕ → ℕ → ℕ → ℕ → Type 0
 ArrivesInUnit job group stem class word = (r : Fault)
     × (slice_get (representatives job.list.model job.circuit) class ≡ Some r)
     × ((k : ℕ) → k < 512 → DetectsAt job.circuit job.tests.tests r (128 * group + k)
-    ↔ ((lane word k ≡ true) × DetectsFlip job.circuit (unit_test job.tests.tests group k) stem))
+    ↔ ((lane word k ≡ true) × DetectsFlip job.circuit (test_of job.tests.tests group k) stem))
 
 -- a class was followed on a unit: the lanes that detect it are known, or it reached the stem
 abbrev pub IsUnitApproach : Parts → ℕ → ℕ → ℕ → UnitApproach → Type 0
@@ -159,16 +151,6 @@ abbrev pub IsTestInUnit : ℕ → ℕ → Option ℕ → Type 0
 IsTestInUnit group word (Some t) = (k : ℕ) × (k < 512) × (t ≡ 128 * group + k)
     × (lane word k ≡ true) × ((j : ℕ) → j < k → lane word j ≡ false)
 IsTestInUnit group word None = (k : ℕ) → k < 512 → lane word k ≡ false
-
--- The least lane of a word that is 1 has the first test of the unit that detects the class: each
--- lane that is 1 has such a test, and no test of the unit that comes before all of them detects it.
-pub record TellsFirstInUnit (job : Parts) (group class word : ℕ) : Type 0 where
-  pub fault : Fault
-  pub stands : slice_get (representatives job.list.model job.circuit) class ≡ Some fault
-  pub found : (k : ℕ) → k < 512 → lane word k ≡ true
-      → DetectsAt job.circuit job.tests.tests fault (128 * group + k)
-  pub clear : (k : ℕ) → k < 512 → ((j : ℕ) → j ≤ k → lane word j ≡ false)
-      → ¬ DetectsAt job.circuit job.tests.tests fault (128 * group + k)
 
 -- the blocks of a unit that begins with a group
 abbrev pub unit_span : ℕ → BlockSpan

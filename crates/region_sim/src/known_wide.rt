@@ -1,6 +1,6 @@
 //! Wide words that are known for some signals, until all of them are forgotten at once.
 
-ghost use Rattle.std.specs.Prelude.{◌≡◌, ℕ, ◌<◌, ◌≤◌, IfOk, None, Some, length, slice_index_or};
+ghost use Rattle.std.specs.Prelude.{◌≡◌, ℕ, ◌<◌, IfOk, None, Some, length, slice_index_or};
 ghost use Rattle.std.specs.Prelude.{slice_set};
 
 use std::alloc::{AllocError, Global};

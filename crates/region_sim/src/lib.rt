@@ -6,7 +6,8 @@
 //! simulated once for all of them. A [`RegionSimulation`] takes lists of classes and puts the stems
 //! of several regions into one pack of 512 lanes, or one stem with 512 tests. A [`Simulation`] is
 //! asked class by class, and keeps the outcomes of the other classes of a region until it is asked
-//! for them. Both simulate a [`block_sim::Job`].
+//! for them. A [`RegionDetection`] finds all tests of a group that detect each class. All of them
+//! simulate a [`block_sim::Job`].
 #![tactic(auto)]
 
 mod known_wide;

@@ -13,7 +13,7 @@ ghost use Rattle.block_sim.specs.Listed.{IsListed};
 ghost use Rattle.block_sim.specs.Parts.{HasRoom};
 ghost use Rattle.block_sim.specs.PropagationState.{HasRoomFor, IsAsLarge, IsClear};
 ghost use Rattle.block_sim.specs.Flips.{DetectsFlip};
-ghost use Rattle.region_sim.specs.Sensitized.{HasBegun, HasRoomForRegions, IsSameRegion, IsViewOf};
+ghost use Rattle.region_sim.specs.Sensitized.{HasBegun, IsSameRegion, IsViewOf};
 ghost use Rattle.flat_circuit.specs.Words.{lane, test_of, AreWords, HasWords};
 
 use crate::region::{Arrival, Reach};

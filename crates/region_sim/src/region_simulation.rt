@@ -9,7 +9,7 @@ ghost use Rattle.bench_net.specs.Scan.{names};
 ghost use Rattle.patterns.specs.Tests.{blocks};
 ghost use Rattle.wide_words.specs.Lanes.{slots};
 ghost use Rattle.wide_words.specs.Wide.{number};
-ghost use Rattle.flat_circuit.specs.BlockSpans.{AreInSpan, IsSpan, group_of, unit_of};
+ghost use Rattle.flat_circuit.specs.BlockSpans.{AreInSpan, IsSpan, unit_of};
 ghost use Rattle.flat_circuit.specs.Readers.{IsObserved};
 ghost use Rattle.region_sim.specs.OpenPlaces.{AreNextOpen};
 ghost use Rattle.block_sim.specs.Listed.{IsListed};
@@ -225,7 +225,7 @@ fn stems_at_once(span: BlockSpan) -> usize
 }
 
 /// Follows the open classes of one region after the other to their stems, from a place on, until so
-/// many stems have a slot or the list ends. Returns the place after the last class that was
+/// slot has a stem or the list ends. Returns the place after the last class that was
 /// followed.
 fn gather_regions(
     job: &Job,

@@ -1,7 +1,7 @@
 //! The lanes in which complemented signals of a fanout-free region complement its stem: one pass
 //! against the flow for all classes of the region.
 
-ghost use Rattle.std.specs.Prelude.{◌≡◌, ◌≢◌, ℕ, ◌+◌, ◌<◌, ◌≤◌, Contains, IfOk, List, None, Some};
+ghost use Rattle.std.specs.Prelude.{◌≡◌, ℕ, ◌+◌, ◌<◌, ◌≤◌, Contains, IfOk, List, None, Some};
 ghost use Rattle.std.specs.Prelude.{true, length, slice_index_or, vec_capacity, vec_len};
 ghost use Rattle.bench_net.specs.Scan.{names};
 ghost use Rattle.fault_model.specs.Fault.{faults};

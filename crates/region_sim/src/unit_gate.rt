@@ -1,7 +1,7 @@
 //! Gates on wide words, with some of their pins complemented and no other difference.
 
 ghost use Rattle.std.specs.Prelude.{◌≡◌, ℕ, ◌+◌, ◌<◌, ◌≤◌, ◌&&◌, All, List, Some, length};
-ghost use Rattle.std.specs.Prelude.{slice_index_or, true};
+ghost use Rattle.std.specs.Prelude.{true};
 ghost use Rattle.std.specs.List.{list_all};
 ghost use Rattle.bench_net.specs.declared.Kind.{Kind};
 ghost use Rattle.bench_net.specs.Circuit.{IsCircuit};
@@ -9,9 +9,9 @@ ghost use Rattle.bench_net.specs.Scan.{gate_of, names};
 ghost use Rattle.fault_model.specs.Solution.{is_odd, value};
 ghost use Rattle.wide_words.specs.Wide.{number};
 ghost use Rattle.flat_circuit.specs.GateForms.{IsFormOf, inverted_if};
-ghost use Rattle.flat_circuit.specs.SlotWords.{AreWithin};
+ghost use Rattle.flat_circuit.specs.SlotWords.{AreWithin, copied_bit};
 ghost use Rattle.region_sim.specs.Pack.{HaveCounts};
-ghost use Rattle.region_sim.specs.Units.{free_bit, is_turned, turned_bits};
+ghost use Rattle.region_sim.specs.Units.{is_turned, turned_bits};
 ghost use Rattle.flat_circuit.specs.Words.{lane};
 
 use block_sim::flat::{FlatCircuit, FlatGate};
@@ -45,7 +45,7 @@ fn word_of_pin<C: Copies>(copies: C, turned: Turned, place: usize, read: u32, la
     requires { AreWithin C.layout (C.rows copies) read }
     ensures { (k : ℕ) → k < 512 → lane (number result) k
         ≡ inverted_if (is_turned turned place read && lane (number lanes) k)
-        (free_bit C.layout (C.rows copies) k read) }
+        (copied_bit C.layout (C.rows copies) k read) }
 {
     let word = copies.of(read);
     if turned.has(place, read) {
@@ -124,7 +124,7 @@ pub fn pass<C: Copies>(
     ensures changed { (kind : Kind) (pins : List ℕ) (k : ℕ)
         → gate_of circuit.now.arranged gate ≡ Some (kind, pins) → k < 512
         → lane (number lanes) k ≡ true
-        → inverted_if (lane (number result) k) (free_bit C.layout (C.rows copies) k gate)
+        → inverted_if (lane (number result) k) (copied_bit C.layout (C.rows copies) k gate)
         ≡ value kind
         (turned_bits C.layout (C.rows copies) turned (number lanes) pins k) }
     ensures grown { evaluations.old ≤ evaluations.new }

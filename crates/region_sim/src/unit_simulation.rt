@@ -73,7 +73,7 @@ impl Unit {
 }
 
 /// Simulates the region whose classes are in a list from a place on, on a unit that begins with a
-/// group: at most so many of its open classes as [`MOST`]. Returns the place after the last class
+/// group: at most [`MOST`] of its open classes. Returns the place after the last class
 /// that was simulated.
 pub fn simulate_unit(
     job: &Job,

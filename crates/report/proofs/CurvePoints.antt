@@ -17,11 +17,8 @@ use Rattle.list_lemmas.proofs.Places.{place_within}
 use Rattle.fault_model.specs.declared.Model.{Model}
 use Rattle.block_sim.specs.Parts.{Parts}
 use Rattle.workers.specs.Verdict.{AreFirsts}
-use Rattle.job_loading.specs.declared.fault.SimFault.{SimFault}
-use Rattle.job_loading.specs.declared.fault.SimFault.TheVariants as fault
-use Rattle.job_loading.specs.Jobs.{IsJobOf, IsJobWithin}
-use Rattle.report.specs.EndToEnd.{IsReportFault}
-use Rattle.report.specs.Curve.{IsCurveFault, IsCurveOf, IsCurveOfJob}
+use Rattle.job_loading.specs.Jobs.{IsJobOf}
+use Rattle.report.specs.Curve.{IsCurveOf, IsCurveOfJob}
 use Rattle.patterns.specs.Least.{below, from_up}
 use Rattle.compaction.specs.Compaction.{finds, is_first}
 use Rattle.report.specs.Curve.{counts_at, curve, found_by, is_found_by, news_at, point_at}
@@ -171,14 +168,3 @@ curve_of_texts m bench text job is bytes of_job = (
   subst (λ k. AreFirsts k job.circuit job.tests.tests of_job.0) is.3 of_job.1,
   of_job.2,
 )
-
-pub curve_fault : (m : Model) (bench text : List ℕ) (workers : ℕ) (job : Parts)
-    → IsJobWithin m bench text job → (f : SimFault) → IsCurveFault job workers f
-    → IsReportFault m bench text workers f
-curve_fault m bench text workers job within (fault.Run f) h = (job, within, h)
-curve_fault m bench text workers job within (fault.Report f) h = (job, within, h.0, h.1)
-curve_fault m bench text workers job within (fault.Bench f) h = absurd h
-curve_fault m bench text workers job within (fault.Tests f) h = absurd h
-curve_fault m bench text workers job within (fault.Order f) h = absurd h
-curve_fault m bench text workers job within (fault.Job f) h = absurd h
-curve_fault m bench text workers job within fault.Memory h = tt

@@ -1,7 +1,7 @@
 -- The lines of the faults of the list are lines of the circuit.
 use Rattle.std.proofs.Common.{◌≡◌, ◌<◌, ℕ, refl, sym, subst, List, [], ◌∷◌, length, inl, inr}
 use Rattle.std.proofs.lemmas.List.{length-map}
-use Rattle.std.specs.Prelude.{Contains, Some, IfSome, slice_get, map}
+use Rattle.std.specs.Prelude.{⊤, Contains, Some, IfSome, slice_get, map}
 use Rattle.bench_net.specs.declared.Sink.{Sink}
 use Rattle.bench_net.specs.declared.Sink.TheVariants as sink
 use Rattle.bench_net.specs.Statement.{Name, Statement, Input, Output, Gate, Dff}
@@ -10,11 +10,19 @@ use Rattle.list_lemmas.proofs.Members.{Among, contained}
 use Rattle.bench_net.proofs.Public.{name_of-signal, at_position}
 use Rattle.list_lemmas.proofs.Places.{place_within, within_place, at_place}
 use Rattle.fault_model.specs.declared.Line.{Line}
+use Rattle.fault_model.specs.declared.Line.TheVariants.{Stem, Pin, Data, Out}
 use Rattle.fault_model.specs.declared.Model.{Model}
 use Rattle.fault_model.specs.Fault.{Fault, branch, faults}
 use Rattle.fault_model.proofs.Public.{listed_on, listed_model, branch_among, IsOn, defined_among}
 use Rattle.fault_model.proofs.Public.{pin_reads, data_reads}
-use Rattle.report.specs.Report.{IsLineOf}
+
+-- the line's numbers are numbers of signals, pins, cells and outputs of the circuit, as far as its
+-- text needs them
+abbrev pub IsLineOf : List Statement → Line → Type 0
+IsLineOf c (Stem s) = s < length (names c)
+IsLineOf c (Pin gate pin) = gate < length (names c)
+IsLineOf c (Data cell) = cell < length (cells c)
+IsLineOf c (Out output) = ⊤
 
 among_cells : (c : List Statement) (q d : Name) → Among (Dff q d) c
     → Among q (map (λ qd. qd.0) (cells c))

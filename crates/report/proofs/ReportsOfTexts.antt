@@ -19,7 +19,7 @@ use Rattle.job_loading.specs.Jobs.{IsJobOf, IsJobWithin, IsPiecesFault}
 use Rattle.job_loading.proofs.Public.{job_of_texts}
 use Rattle.report.specs.EndToEnd.{WritesOneOf, IsListingOf, IsReportOf, IsReportOfJob}
 use Rattle.report.specs.EndToEnd.{IsListFault, IsListingFault, IsListingOfCircuit}
-use Rattle.report.specs.EndToEnd.{IsReportFault, IsRunReportFault, IsJobReportFault, IsTextFault}
+use Rattle.report.specs.EndToEnd.{IsReportFault, IsJobReportFault, IsTextFault}
 use Rattle.report.specs.EndToEnd.{HasSomeMoves, IsScheduleReportFault, IsScheduleTextFault}
 use Rattle.report.specs.declared.contents.Contents.{Contents}
 use Rattle.report.specs.Report.{listing, whole_report}
@@ -72,7 +72,8 @@ written_of_texts m bench text contents job r old new is =
 
 -- an error of a run of a job of files is an error of the files
 pub job_run_fault : (m : Model) (bench text : List ℕ) (workers : ℕ) (job : Parts)
-    → IsJobWithin m bench text job → (f : SimFault) → IsRunReportFault job workers f
+    → IsJobWithin m bench text job → (f : SimFault)
+    → IsJobReportFault workers (IsRunFault job workers ⊤ no_stop) f
     → IsReportFault m bench text workers f
 job_run_fault m bench text workers job within (fault.Run f) h = (job, within, h)
 job_run_fault m bench text workers job within (fault.Report f) h = (job, within, h.0, h.1)

@@ -1,5 +1,5 @@
 -- The curve of a run: the number of faults that are detected up to each test.
-use Rattle.std.specs.Prelude.{◌≡◌, ⊤, ℕ, nat_le, Bool, false, List, ◌++◌, map, filter, flat_map}
+use Rattle.std.specs.Prelude.{◌≡◌, ℕ, nat_le, Bool, false, List, ◌++◌, map, filter, flat_map}
 use Rattle.std.specs.Prelude.{length, Option, Some, None, count_by, codes, decimal, if◌then◌else◌}
 use Rattle.bench_net.specs.Statement.{Statement}
 use Rattle.bench_net.specs.Scan.{sources}
@@ -11,9 +11,6 @@ use Rattle.block_sim.specs.Parts.{Parts}
 use Rattle.workers.specs.Verdict.{AreFirsts, detected_count}
 use Rattle.compaction.specs.Compaction.{finds, is_first}
 use Rattle.report.specs.declared.curve.CurvePoint.{CurvePoint}
-use Rattle.job_loading.specs.declared.fault.SimFault.{SimFault}
-use Rattle.job_loading.specs.declared.fault.SimFault.TheVariants as fault
-use Rattle.report.specs.EndToEnd.{IsRunReportFault}
 use Rattle.report.specs.Report.{coverage_line, percentage}
 
 -- whether a fault's first test is this one or one before it
@@ -66,9 +63,3 @@ abbrev pub IsCurveOfJob : Parts → List ℕ → Type 0
 IsCurveOfJob job bytes = (firsts : List (Option ℕ))
     × AreFirsts job.list.model job.circuit job.tests.tests firsts
     × (bytes ≡ curve_text (curve (length job.tests.tests) firsts) firsts)
-
--- The condition of each error of the curve of a job: the errors of a report that is run in threads,
--- and of memory.
-abbrev pub IsCurveFault : Parts → ℕ → SimFault → Type 0
-IsCurveFault job workers fault.Memory = ⊤
-IsCurveFault job workers f = IsRunReportFault job workers f

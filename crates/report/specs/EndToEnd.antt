@@ -63,7 +63,7 @@ IsListingFault bench fault.Memory = ⊤
 IsListingFault bench (fault.Report f) = ⊤
 IsListingFault bench _ = ⊥
 
--- the same for the listing of a circuit
+-- the same for the listing or a table of a circuit or job that is already read
 abbrev pub IsListFault : SimFault → Type 0
 IsListFault fault.Memory = ⊤
 IsListFault (fault.Report f) = ⊤
@@ -162,14 +162,8 @@ IsReportOfJob job contents bytes = (firsts : List (Option ℕ))
     × AreFirsts job.list.model job.circuit job.tests.tests firsts
     × (bytes ≡ whole_report job.list.model job.circuit job.classes firsts contents)
 
--- The condition of each error of the report of a job that is run in threads: the errors of the run,
--- then of the output.
-abbrev pub IsRunReportFault : Parts → ℕ → SimFault → Type 0
-IsRunReportFault job workers (fault.Run f) = IsRunFault job workers ⊤ no_stop f
-IsRunReportFault job workers (fault.Report f) = (0 < workers) × (workers ≤ 64)
-IsRunReportFault job workers _ = ⊥
-
--- the same for a run with this condition on its errors
+-- The condition of each error of the report of a job that is run in threads, by that of the errors
+-- of its run: these, then those of the output.
 abbrev pub IsJobReportFault : ℕ → (RunFault → Type 0) → SimFault → Type 0
 IsJobReportFault workers IsFault (fault.Run f) = IsFault f
 IsJobReportFault workers IsFault (fault.Report f) = (0 < workers) × (workers ≤ 64)

@@ -1,10 +1,10 @@
 -- The texts of the report and of the listing.
-use Rattle.std.specs.Prelude.{⊤, ℕ, ◌<◌, ◌+◌, ◌*◌, ◌/◌, ◌%◌, Bool, true, false, List, [], ◌∷◌, ◌++◌}
+use Rattle.std.specs.Prelude.{ℕ, ◌+◌, ◌*◌, ◌/◌, ◌%◌, Bool, true, false, List, [], ◌∷◌, ◌++◌}
 use Rattle.std.specs.Prelude.{length, map, zip, flat_map, Option, Some, None, if◌then◌else◌}
 use Rattle.std.specs.Prelude.{is_none, slice_get, slice_index_or, unwrap_or, codes, decimal}
 use Rattle.std.specs.List.{slice_range}
 use Rattle.bench_net.specs.Statement.{Statement}
-use Rattle.bench_net.specs.Scan.{names, name_of, cells}
+use Rattle.bench_net.specs.Scan.{name_of, cells}
 use Rattle.fault_model.specs.declared.Line.{Line}
 use Rattle.fault_model.specs.declared.Line.TheVariants.{Stem, Pin, Data, Out}
 use Rattle.fault_model.specs.declared.Model.{Model}
@@ -137,11 +137,3 @@ listing m c class_of class_count =
     flat_map (class_line c) (zip (faults m c) class_of)
     ++ (decimal (length (faults m c)) ++ codes " faults in " ++ decimal class_count
     ++ codes " classes\n")
-
--- the line's numbers are numbers of signals, pins, cells and outputs of the circuit, as far as its
--- text needs them
-abbrev pub IsLineOf : List Statement → Line → Type 0
-IsLineOf c (Stem s) = s < length (names c)
-IsLineOf c (Pin gate pin) = gate < length (names c)
-IsLineOf c (Data cell) = cell < length (cells c)
-IsLineOf c (Out output) = ⊤

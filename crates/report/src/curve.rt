@@ -123,6 +123,7 @@ pub fn write_curve_of_run<R: Threads + Wait, G: Watch + Sync, W: Out>(
         (IsPartsFault run.old.parts parts workers (G.passing gate.now) (G.stops gate.now))) }
     ensures workers { OnOk result ((0 < workers) × (workers ≤ 64)) }
     ensures within { OnOk result (ArePartsWithin run.old.parts parts) }
+    ensures kept { run.new ≡ run.old }
 {
     let verdicts = run_apart_watched(rt, alloc, run, parts, workers, gate)?;
     let points = curve_of(alloc, &verdicts, run.tests().count())?;
@@ -133,7 +134,7 @@ pub fn write_curve_of_run<R: Threads + Wait, G: Watch + Sync, W: Out>(
 /// Returns the points of the curve of a run over this number of tests, in the order of the tests.
 /// Tests that detect no fault first have none.
 ///
-/// It takes 4 bytes for each test, and 8 for each point.
+/// It takes 4 bytes for each test, and 12 for each point.
 pub fn curve_of(
     alloc: Global,
     verdicts: &Verdicts,

@@ -58,8 +58,9 @@ pub fn simulate_text_watched<R: Threads + Wait, G: Watch + Sync, W: Out>(
 /// calls the gate when the run begins and when all is settled.
 ///
 /// It is the second half of [`simulate_text_watched`], for a job that stands: such as that of a
-/// test file that was read piece by piece ([`job_loading::split_run_in_pieces`]). It fails as
-/// [`job_loading::RunJob::run`] does, or for the output.
+/// test file that was read piece by piece ([`job_loading::split_run_in_pieces`]). If there is more
+/// than one worker, a thread frees the run's tests while others write, and the run has none then.
+/// It fails as [`job_loading::RunJob::run`] does, or for the output.
 pub fn write_report_of_run<R: Threads + Wait, G: Watch + Sync, W: Out>(
     rt: &R,
     alloc: Global,
@@ -79,6 +80,7 @@ pub fn write_report_of_run<R: Threads + Wait, G: Watch + Sync, W: Out>(
         (IsPartsFault run.old.parts parts workers (G.passing gate.now) (G.stops gate.now))) }
     ensures workers { OnOk result ((0 < workers) × (workers ≤ 64)) }
     ensures within { OnOk result (ArePartsWithin run.old.parts parts) }
+    ensures kept { (some : TestList) × (run.new.parts ≡ with_tests run.old.parts some) }
 {
     let verdicts = run_apart_watched(rt, alloc, run, parts, workers, gate)?;
     let freeing = free_tests_in_thread(rt, alloc, run, workers);
@@ -101,6 +103,7 @@ fn free_tests_in_thread<R: Threads>(
     ensures circuit { run.new.parts.circuit ≡ run.old.parts.circuit }
     ensures list { run.new.parts.list ≡ run.old.parts.list }
     ensures classes { run.new.parts.classes ≡ run.old.parts.classes }
+    ensures kept { (some : TestList) × (run.new.parts ≡ with_tests run.old.parts some) }
 {
     if workers < 2 {
         return None;

@@ -15,7 +15,7 @@ use Rattle.byte_output.specs.Output.{Output}
 use Rattle.report.specs.declared.contents.Lines.{Lines}
 use Rattle.report.specs.EndToEnd.{IsListingFault, WritesOneOf}
 use Rattle.tables.specs.declared.table.Format.{Format}
-use Rattle.tables.specs.Refusals.{IsTableFault}
+use Rattle.report.specs.EndToEnd.{IsListFault}
 use Rattle.tables.specs.Tables.{IsClassTableOf, IsClassTableOfCircuit, IsFirstTableOf}
 use Rattle.tables.specs.Tables.{IsFirstTableOfJob, IsTable, class_column, first_column, table_text}
 
@@ -32,7 +32,7 @@ written_as A B (Err (fault.Run f)) old new into w = w
 written_as A B (Err fault.Memory) old new into w = w
 
 -- an error of a table is an error of a listing
-pub table_fault : (bench : List ℕ) (f : SimFault) → IsTableFault f → IsListingFault bench f
+pub table_fault : (bench : List ℕ) (f : SimFault) → IsListFault f → IsListingFault bench f
 table_fault bench (fault.Report f) h = tt
 table_fault bench fault.Memory h = tt
 table_fault bench (fault.Bench f) h = absurd h

@@ -2,7 +2,6 @@ pub mod CurveTables
 pub mod HistogramTables
 pub mod Reasons
 pub mod Records
-pub mod Refusals
 pub mod Rows
 pub mod Summaries
 pub mod Tables

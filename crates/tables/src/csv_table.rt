@@ -1,6 +1,6 @@
 //! Tables of faults as comma-separated values (RFC 4180).
 
-ghost use Rattle.std.specs.Prelude.{◌≡◌, ◌++◌, ◌∷◌, [], ℕ, List, IfOk, OnOk, length, zip};
+ghost use Rattle.std.specs.Prelude.{◌≡◌, ◌++◌, ◌∷◌, [], ℕ, List, IfOk, OnOk, length};
 ghost use Rattle.csv.specs.Writing.{default_writer, row_text};
 ghost use Rattle.fault_model.specs.Fault.{faults};
 ghost use Rattle.tables.specs.Records.{HasTaken};

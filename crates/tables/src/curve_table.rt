@@ -1,6 +1,6 @@
 //! Tables of the curve of a run, as comma-separated values (RFC 4180) and as JSON (RFC 8259).
 
-ghost use Rattle.std.specs.Prelude.{◌≡◌, ◌<◌, ◌≤◌, ◌++◌, codes, IfErr, IfOk, OnOk, length, true};
+ghost use Rattle.std.specs.Prelude.{◌≡◌, ◌<◌, ◌≤◌, ◌++◌, codes, IfErr, IfOk, OnOk, true};
 ghost use Rattle.std.specs.List.{flat_map};
 ghost use Rattle.block_sim.specs.Parts.{BelongTogether};
 ghost use Rattle.job_loading.specs.Splits.{HasSomePart};
@@ -88,6 +88,7 @@ pub fn write_curve_table_of_run<R: Threads + Wait, G: Watch + Sync, W: Out>(
         (IsPartsFault run.old.parts parts workers (G.passing gate.now) (G.stops gate.now))) }
     ensures workers { OnOk result ((0 < workers) × (workers ≤ 64)) }
     ensures within { OnOk result (ArePartsWithin run.old.parts parts) }
+    ensures kept { run.new ≡ run.old }
 {
     let verdicts = run_apart_watched(rt, alloc, run, parts, workers, gate)?;
     let points = curve_of(alloc, &verdicts, run.tests().count())?;

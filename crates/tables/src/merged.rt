@@ -4,7 +4,7 @@ ghost use Rattle.std.specs.Prelude.{◌≡◌, IfErr, length};
 ghost use Rattle.fault_model.specs.Fault.{faults};
 ghost use Rattle.report.specs.EndToEnd.{WritesOneOf};
 ghost use Rattle.part_files.specs.Merging.{run_of};
-ghost use Rattle.tables.specs.Refusals.{IsTableFault};
+ghost use Rattle.report.specs.EndToEnd.{IsListFault};
 ghost use Rattle.tables.specs.Tables.{IsTable, first_column};
 
 use crate::column::Column;
@@ -38,7 +38,7 @@ pub fn write_merged_table<W: Out>(
     requires count { length (run_of merged.now).firsts ≡ length list.now.list }
     ensures written { WritesOneOf (IsTable format circuit.now list.now.list
         (first_column (run_of merged.now).firsts lines)) result (W.seen out.old) (W.seen out.new) }
-    ensures refused { IfErr result IsTableFault }
+    ensures refused { IfErr result IsListFault }
 {
     let column = Column::Merged { merged, lines };
     write_table(alloc, circuit, list, &column, format, out)

@@ -4,7 +4,6 @@ ghost use Rattle.std.specs.Prelude.{◌≡◌, ◌<◌, ◌++◌, ◌∷◌, [],
 ghost use Rattle.std.specs.Prelude.{slice_get, zip};
 ghost use Rattle.csv.specs.Writing.{default_writer, row_text};
 ghost use Rattle.fault_model.specs.Fault.{faults};
-ghost use Rattle.analysis_reports.specs.Reasons.{reason_text};
 ghost use Rattle.tables.specs.Reasons.{csv_reason, json_reason, reason_csv, reason_object};
 ghost use Rattle.tables.specs.Reasons.{reason_rows};
 ghost use Rattle.tables.specs.Records.{HasTaken};

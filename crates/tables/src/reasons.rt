@@ -6,7 +6,7 @@ ghost use Rattle.job_loading.specs.Splits.{HasSomePart};
 ghost use Rattle.report.specs.EndToEnd.{IsJobTextFault, IsWatchedFault, IsWithin, WritesOneOf};
 ghost use Rattle.tables.specs.Reasons.{IsReasonTableOf, IsReasonTableOfJob, reason_csv};
 ghost use Rattle.tables.specs.Reasons.{reason_json, reason_table};
-ghost use Rattle.tables.specs.Refusals.{IsTableFault};
+ghost use Rattle.report.specs.EndToEnd.{IsListFault};
 ghost use Rattle.region_runs.specs.Refused.{ArePartsWithin, IsPartsFault};
 
 use crate::column::Column;
@@ -105,7 +105,7 @@ fn write_table<W: Out>(
     ensures written { WritesOneOf (λ bytes. bytes ≡ reason_table format job.now.circuit
         job.now.list.list verdicts.now.firsts reasons.now) result
         (W.seen out.old) (W.seen out.new) }
-    ensures refused { IfErr result IsTableFault }
+    ensures refused { IfErr result IsListFault }
 {
     match format {
         Format::Csv => write_csv(alloc, job, reasons, out),
@@ -123,7 +123,7 @@ fn write_csv<W: Out>(
     requires reasons { length reasons.now ≡ length job.now.list.list }
     ensures written { WritesOneOf (λ bytes. bytes ≡ reason_csv job.now.circuit
         (zip job.now.list.list reasons.now)) result (W.seen out.old) (W.seen out.new) }
-    ensures refused { IfErr result IsTableFault }
+    ensures refused { IfErr result IsListFault }
 {
     let text = reason_csv(alloc, job.circuit(), job.faults(), reasons)?;
     put_text(&text, out)?;
@@ -143,7 +143,7 @@ fn write_json<W: Out>(
     ensures written { WritesOneOf (λ bytes. bytes ≡ reason_json job.now.circuit
         job.now.list.list verdicts.now.firsts reasons.now) result
         (W.seen out.old) (W.seen out.new) }
-    ensures refused { IfErr result IsTableFault }
+    ensures refused { IfErr result IsListFault }
 {
     let circuit = job.circuit();
     let signals = circuit.signals();

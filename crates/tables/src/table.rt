@@ -7,7 +7,7 @@ ghost use Rattle.byte_output.specs.Output.{Writes};
 ghost use Rattle.job_loading.specs.Splits.{HasSomePart};
 ghost use Rattle.report.specs.EndToEnd.{IsJobTextFault, IsListingFault, IsReportFault};
 ghost use Rattle.report.specs.EndToEnd.{IsWatchedFault, IsWithin, WritesOneOf};
-ghost use Rattle.tables.specs.Refusals.{IsTableFault};
+ghost use Rattle.report.specs.EndToEnd.{IsListFault};
 ghost use Rattle.tables.specs.Tables.{IsClassTableOf, IsClassTableOfCircuit, IsFirstTableOf};
 ghost use Rattle.tables.specs.Tables.{IsFirstTableOfJob, IsTable, column_in, csv_table, json_table};
 ghost use Rattle.region_runs.specs.Refused.{ArePartsWithin, IsPartsFault};
@@ -48,7 +48,7 @@ pub(crate) fn write_table<W: Out>(
     ensures written { WritesOneOf
         (IsTable format circuit.now list.now.list (column_in column.now)) result
         (W.seen out.old) (W.seen out.new) }
-    ensures refused { IfErr result IsTableFault }
+    ensures refused { IfErr result IsListFault }
 {
     match format {
         Format::Csv => write_csv(alloc, circuit, list, column, out),
@@ -69,7 +69,7 @@ fn write_csv<W: Out>(
     ensures written { WritesOneOf
         (λ bytes. bytes ≡ csv_table circuit.now list.now.list (column_in column.now)) result
         (W.seen out.old) (W.seen out.new) }
-    ensures refused { IfErr result IsTableFault }
+    ensures refused { IfErr result IsListFault }
 {
     let text = csv_table(alloc, circuit, list, column)?;
     put_text(&text, out)?;
@@ -96,7 +96,7 @@ fn write_json<W: Out>(
     ensures written { WritesOneOf
         (λ bytes. bytes ≡ json_table circuit.now list.now.list (column_in column.now)) result
         (W.seen out.old) (W.seen out.new) }
-    ensures refused { IfErr result IsTableFault }
+    ensures refused { IfErr result IsListFault }
 {
     let signals = circuit.signals();
     prove!(signals > 0);
@@ -133,7 +133,7 @@ fn write_classes<W: Out>(
 ) -> Result<(), SimFault>
     ensures written { WritesOneOf (IsClassTableOfCircuit model circuit.now format) result
         (W.seen out.old) (W.seen out.new) }
-    ensures refused { IfErr result IsTableFault }
+    ensures refused { IfErr result IsListFault }
 {
     let list = list_faults_in(alloc, circuit, model)?;
     let classes = collapse(alloc, circuit, &list)?;
@@ -225,6 +225,7 @@ pub fn write_table_of_run<R: Threads + Wait, G: Watch + Sync, W: Out>(
         (IsPartsFault run.old.parts parts workers (G.passing gate.now) (G.stops gate.now))) }
     ensures workers { OnOk result ((0 < workers) × (workers ≤ 64)) }
     ensures within { OnOk result (ArePartsWithin run.old.parts parts) }
+    ensures kept { run.new ≡ run.old }
 {
     let verdicts = run_apart_watched(rt, alloc, run, parts, workers, gate)?;
     let column = Column::First {

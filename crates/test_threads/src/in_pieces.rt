@@ -20,8 +20,8 @@ use text_lines::Rows;
 /// How many times as large a piece becomes if it has no room for 64 rows.
 const TIMES_AS_LARGE: usize = 8;
 
-/// The greatest number of bytes that it then has, unless it had more.
-const LARGE_PIECE: usize = 1 << 23;
+/// The greatest number of bytes that a piece then has, unless it had more: 8 MiB.
+pub const LARGE_PIECE: usize = 1 << 23;
 
 /// The most threads that read a file, whatever number is requested: by then they wait for the file.
 const MAX_THREADS: u32 = 8;
@@ -29,7 +29,7 @@ const MAX_THREADS: u32 = 8;
 /// Reads the tests of a file, from where its reader stands to its end, with at most `workers`
 /// threads, which read pieces of the file in turn. The digits of the first row are the width, if
 /// they are at most `most`. A piece has `size` bytes. If 64 rows have more, it has eight times as
-/// many, up to 8 MB. Only one piece of each thread is in memory, and there are at most eight
+/// many, up to 8 MiB. Only one piece of each thread is in memory, and there are at most eight
 /// threads.
 ///
 /// It returns `None` if it can't read the file so: the file can't be read, memory runs out, a row

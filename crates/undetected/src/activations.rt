@@ -1,6 +1,6 @@
 //! Which faults some test activates, for all signals at once.
 
-ghost use Rattle.std.specs.Prelude.{◌≡◌, ◌↔◌, ◌+◌, ◌*◌, ◌<◌, Contains, IfOk, IfSome, IsTrue, Some};
+ghost use Rattle.std.specs.Prelude.{◌≡◌, ◌↔◌, ◌+◌, ◌<◌, Contains, IfOk, IfSome, IsTrue, Some};
 ghost use Rattle.std.specs.Prelude.{false, length, slice_get, true};
 ghost use Rattle.bench_net.specs.Scan.{names};
 ghost use Rattle.bench_net.specs.Statement.{Name};

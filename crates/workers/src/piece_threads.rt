@@ -4,7 +4,6 @@ ghost use Rattle.std.specs.Prelude.{◌≡◌, ◌⊎◌, ◌<◌, ◌≤◌, �
 ghost use Rattle.patterns.specs.Tests.{blocks, max_pieces};
 ghost use Rattle.block_sim.specs.Parts.{BelongTogether, piece_count};
 ghost use Rattle.region_sim.specs.Simulation.{Serves};
-ghost use Rattle.fault_ledger.specs.Answer.{IsLegal};
 ghost use Rattle.fault_ledger.specs.Seats.{newcomer, newcomers};
 ghost use Rattle.workers.specs.ClassSelection.{AreChosenOf};
 ghost use Rattle.workers.specs.Refused.{IsRunFault, IsRunFaultOver};

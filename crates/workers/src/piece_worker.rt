@@ -1,7 +1,7 @@
 //! One worker.
 
-ghost use Rattle.std.specs.Prelude.{◌≡◌, ◌⊎◌, ◌<◌, ◌≤◌, ℕ, true, false, IsTrue, Some, None};
-ghost use Rattle.fault_ledger.specs.History.{block_count, held_by, claims, piece_at, piece_count};
+ghost use Rattle.std.specs.Prelude.{◌≡◌, ◌⊎◌, ◌<◌, ◌≤◌, ℕ, true, false, Some, None};
+ghost use Rattle.fault_ledger.specs.History.{block_count, held_by, piece_at};
 ghost use Rattle.fault_ledger.specs.Seats.{FindsNoHit, IsSitter, Makes, Sees};
 ghost use Rattle.fault_ledger.specs.declared.Event.{Event};
 ghost use Rattle.fault_ledger.specs.declared.Reply.TheVariants.{Done};

@@ -1,6 +1,6 @@
 //! Tests made from words and from bits, the kept tests of a block, and their file.
 
-ghost use Rattle.std.specs.Prelude.{◌≡◌, ◌<◌, ◌≤◌, IfOk, length};
+ghost use Rattle.std.specs.Prelude.{◌≡◌, ◌<◌, IfOk, length};
 ghost use Rattle.bench_net.specs.Scan.{names, sources};
 ghost use Rattle.block_sim.specs.Parts.{HasRoom};
 ghost use Rattle.patterns.specs.Tests.{IsTestList, blocks};

@@ -15,7 +15,7 @@ use worked_circuits::C17;
 const TEST: &[u8] = b"11111\n";
 
 /// The files `bench`, which is C17, `tests`, which has one test, and the part files `first` and
-/// `second`, each read into new memory. `long` has the same test, says that it has 4 MB, and can
+/// `second`, each read into new memory. `long` has the same test, says that it has 4 MiB, and can
 /// only be read piece by piece.
 #[derive(Clone, Copy)]
 pub(crate) struct Files;

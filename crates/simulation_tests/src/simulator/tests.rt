@@ -1,6 +1,6 @@
 //! Counts and outcomes on worked circuits.
 
-ghost use Rattle.std.specs.Prelude.{◌<◌, ◌≤◌, length};
+ghost use Rattle.std.specs.Prelude.{◌<◌, length};
 ghost use Rattle.patterns.specs.Tests.{blocks};
 ghost use Rattle.block_sim.specs.Parts.{HasRoom};
 

@@ -1,6 +1,6 @@
 //! Runs of one thread over lists of classes.
 
-ghost use Rattle.std.specs.Prelude.{◌↔◌, ◌<◌, All, IfOk, IsTrue};
+ghost use Rattle.std.specs.Prelude.{◌↔◌, ◌<◌, All, IsTrue};
 ghost use Rattle.region_runs.specs.ListRunners.{ServesLists};
 
 use crate::worker::fixtures::{C17_FIRSTS, Case, JobText, has_firsts};

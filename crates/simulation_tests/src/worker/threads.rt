@@ -1,6 +1,6 @@
 //! Runs in threads.
 
-ghost use Rattle.std.specs.Prelude.{◌≡◌, ◌<◌, All, IfOk, length};
+ghost use Rattle.std.specs.Prelude.{◌≡◌, ◌<◌, All, IfOk};
 ghost use Rattle.workers.specs.Settling.{IsShapeOf};
 
 use crate::worker::fixtures::{BUFFER, C17, C17_FIRSTS, Case, JobText, WIRE, has_firsts};

@@ -1,5 +1,5 @@
 use Rattle.block_sim.specs.Parts.{HasRoom}
-use Rattle.compaction.specs.Marks.{AreLastMarks}
+use Rattle.compaction.proofs.LastTests.{AreLastMarks}
 use Rattle.compaction.proofs.lasting.lasting_tests.Given as goal
 
 abbrev pub invariant-loop-class : goal.invariant-loop-class

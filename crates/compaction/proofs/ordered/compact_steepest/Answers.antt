@@ -68,6 +68,13 @@ kept_at-requires-clause-numbers g c =
     (sym c.in_ok-set_tests_of_any_size_in_threads.ensures.job)
     ∙ sym (ap (λ t. length t.tests) c.tests.ensures.part)))
 
+pub returns-clause-width : goal.returns-clause-width
+returns-clause-width g c =
+    c.in_ok-kept_at.ensures.width
+    ∙ (ap (λ t. t.width) c.tests.ensures.part
+    ∙ (ap (λ (p : Parts). p.tests.width) c.in_ok-set_tests_of_any_size_in_threads.ensures.job
+    ∙ c.in_ok-tests.ensures.width))
+
 pub returns-clause-compacted : goal.returns-clause-compacted
 returns-clause-compacted g c =
     let old = c.args.job.now in

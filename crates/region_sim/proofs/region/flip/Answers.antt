@@ -1,8 +1,7 @@
 use Rattle.std.proofs.Common.{◌<◌, length, refl, arith}
-use Rattle.block_sim.specs.Flips.{flips}
 use Rattle.flat_circuit.specs.BlockSpans.{AreInSpan, group_of}
 use Rattle.block_sim.specs.Propagation.{HaveHits}
-use Rattle.region_sim.proofs.FlipLanes.{flip_first, flip_told, flips_activate}
+use Rattle.region_sim.proofs.FlipLanes.{flip_first, flip_told, flips, flips_activate}
 use Rattle.region_sim.proofs.region.flip.Goals as goal
 
 pub propagate-requires-clause-first : goal.propagate-requires-clause-first

@@ -1,9 +1,8 @@
 use Rattle.std.proofs.Common.{◌<◌, length, arith}
 use Rattle.block_sim.specs.declared.propagation.Extent.TheVariants.{WholeBlock}
 use Rattle.block_sim.specs.Propagation.{IsSettled}
-use Rattle.block_sim.specs.Flips.{flips}
 use Rattle.flat_circuit.specs.Words.{test_of}
-use Rattle.region_sim.proofs.FlipLanes.{flip_first}
+use Rattle.region_sim.proofs.FlipLanes.{flip_first, flips}
 use Rattle.region_sim.proofs.FlipsInLanes.{flip_decided}
 use Rattle.block_sim.proofs.Public.{observed_flip}
 use Rattle.region_sim.proofs.region_detection.flip_in_lanes.Goals as goal

@@ -12,9 +12,9 @@ use Rattle.flat_circuit.specs.Readers.{IsObserved}
 use Rattle.flat_circuit.specs.Origins.{IsStuckOf}
 use Rattle.flat_circuit.specs.Regions.{IsStemOfLine}
 use Rattle.flat_circuit.specs.Stuck.{stuck_fault}
-use Rattle.region_sim.specs.Units.{HaveCome, IsWideReached, group_in, unit_test}
+use Rattle.region_sim.specs.Units.{HaveCome, IsWideReached, group_in}
 use Rattle.block_sim.specs.Ways.{IsWayOfLine}
-use Rattle.flat_circuit.specs.Words.{lane}
+use Rattle.flat_circuit.specs.Words.{lane, test_of}
 use Rattle.flat_circuit.proofs.Public.{reordered, within_there, circuit_there, listed_there}
 use Rattle.flat_circuit.proofs.Public.{starts_there, lane_zero, same_readers}
 use Rattle.block_sim.proofs.Public.{observed_flip}
@@ -214,7 +214,7 @@ returns-then-is_observed-clause-approach c =
       λ k lt. (
         λ e. (both k lt).1 (
           sym (ap (λ w. lane w k) c.and-lanes.ensures) ∙ e,
-          observed_flip circuit (unit_test tests group k) c.args.row.stem well observed,
+          observed_flip circuit (test_of tests group k) c.args.row.stem well observed,
         ),
         λ h. ap (λ w. lane w k) c.and-lanes.ensures ∙ ((both k lt).0 h).0,
       ),

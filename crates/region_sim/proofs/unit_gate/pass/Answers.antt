@@ -4,9 +4,10 @@ use Rattle.bench_net.specs.declared.Kind.{Kind}
 use Rattle.fault_model.specs.Solution.{value}
 use Rattle.wide_words.specs.Wide.{number}
 use Rattle.flat_circuit.specs.GateForms.{inverted_if}
-use Rattle.region_sim.specs.Units.{free_bit, turned_bits}
+use Rattle.region_sim.specs.Units.{turned_bits}
 use Rattle.flat_circuit.specs.Words.{lane}
 use Rattle.flat_circuit.proofs.Public.{pins_within, lane_xor, unlike, only_lanes}
+use Rattle.flat_circuit.specs.SlotWords.{copied_bit}
 use Rattle.region_sim.proofs.UnitLanes.{passed_to}
 use Rattle.region_sim.proofs.unit_gate.pass.Goals as goal
 
@@ -32,7 +33,7 @@ returns-clause-changed g c = λ kind pins k is lt on.
     let own = c.in-Some.driver in
     let rows = g.C.Copies.rows c.args.copies in
     let layout = g.C.Copies.layout in
-    let bit = free_bit layout rows k c.args.gate in
+    let bit = copied_bit layout rows k c.args.gate in
     let same : (own.kind, own.pins.now) ≡ (kind, pins) =
     ap (λ (o : Option (Kind × List ℕ)). unwrap_or o (kind, pins)) (c.in-Some.ensures.gate
     ∙ is) in

@@ -8,10 +8,10 @@ use Rattle.fault_model.proofs.Public.{carries}
 use Rattle.wide_words.specs.Wide.{number}
 use Rattle.block_sim.specs.Flips.{start_of}
 use Rattle.flat_circuit.specs.Stuck.{stuck_fault}
-use Rattle.region_sim.specs.Units.{free_bit}
 use Rattle.block_sim.specs.Ways.{IsWay, IsWayOfLine}
 use Rattle.flat_circuit.specs.Words.{lane}
 use Rattle.flat_circuit.proofs.Public.{gate_within, pin_of, lane_and, lane_xor, unlike}
+use Rattle.flat_circuit.specs.SlotWords.{copied_bit}
 use Rattle.region_sim.proofs.UnitStarts.{at_signal, observer_comes, pin_comes, stem_comes}
 use Rattle.region_sim.proofs.unit_start.start.Goals as goal
 use Rattle.region_sim.proofs.unit_start.start.Goals.{After-and-excited}
@@ -30,7 +30,7 @@ of-requires g c = λ slot low.
 -- the lanes in which the line has the other bit
 lanes_are : (g : _) (c : After-and-excited g) → (k : ℕ) → k < 512
     → lane (number c.and-excited.result) k
-    ≡ (unlike (free_bit g.C.Copies.layout (g.C.Copies.rows c.args.copies) k c.args.origin.carried)
+    ≡ (unlike (copied_bit g.C.Copies.layout (g.C.Copies.rows c.args.copies) k c.args.origin.carried)
     c.args.origin.fault.at_one && lane (number c.args.lanes) k)
 lanes_are g c k lt =
     ap (λ w. lane w k) c.and-excited.ensures
@@ -38,7 +38,7 @@ lanes_are g c k lt =
     ∙ ap (λ b. b && lane (number c.args.lanes) k) (ap (λ w. lane w k) c.xor.ensures
     ∙ (lane_xor (number c.of.result) (number c.in_each_wide_lane-stuck.result) k
     ∙ (ap (λ b. unlike b (lane (number c.in_each_wide_lane-stuck.result) k)) (c.of.ensures k lt)
-    ∙ ap (unlike (free_bit g.C.Copies.layout (g.C.Copies.rows c.args.copies) k
+    ∙ ap (unlike (copied_bit g.C.Copies.layout (g.C.Copies.rows c.args.copies) k
     c.args.origin.carried)) (c.in_each_wide_lane-stuck.ensures k lt)))))
 
 pub pass-lanes-requires-clause-within : goal.pass-lanes-requires-clause-within

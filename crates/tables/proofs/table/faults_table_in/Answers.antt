@@ -1,6 +1,6 @@
 use Rattle.report.proofs.Public.{refused_as}
 use Rattle.report.specs.EndToEnd.{IsListingFault}
-use Rattle.tables.specs.Refusals.{IsTableFault}
+use Rattle.report.specs.EndToEnd.{IsListFault}
 use Rattle.tables.specs.Tables.{IsClassTableOf, IsClassTableOfCircuit}
 use Rattle.tables.proofs.TablesOfTexts.{classes_of_text, table_fault, written_as}
 use Rattle.tables.proofs.table.faults_table_in.Goals as goal
@@ -16,5 +16,5 @@ returns-clause-written g c =
 
 pub returns-clause-refused : goal.returns-clause-refused
 returns-clause-refused g c =
-    refused_as IsTableFault (IsListingFault c.args.bench.now) c.write_classes.result
+    refused_as IsListFault (IsListingFault c.args.bench.now) c.write_classes.result
     (table_fault c.args.bench.now) c.write_classes.ensures.refused

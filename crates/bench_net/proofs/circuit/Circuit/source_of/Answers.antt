@@ -9,7 +9,7 @@ use Rattle.bench_net.proofs.circuit.Circuit.source_of.Goals.{After-index}
 place : (c : After-index) → IsPlace c.args.self.now c.args.signal c.index.result.now
 place c =
     let below = subst (λ s. c.args.signal < length (names s)) (sym c.self.view_is) c.requires in
-    let read = get_or_read c.self.inside.tables.of_lines.source_places.items c.args.signal
+    let read = get_or_read c.self.inside.tables.of_signals.source_places.items c.args.signal
     c.index.result.now (omega (arith, below, c.self.invariant.place_count)) c.index.ensures None in
     subst (λ s. IsPlace s c.args.signal c.index.result.now) c.self.view_is
     (rw read (c.self.invariant.places_are c.args.signal below))

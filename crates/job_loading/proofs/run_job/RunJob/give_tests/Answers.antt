@@ -1,8 +1,10 @@
-use Rattle.std.proofs.Common.{◌≡◌, [], ap, subst}
+use Rattle.std.proofs.Common.{◌≡◌, [], ap, subst, sym}
+use Rattle.std.specs.Prelude.{IfNone, IfSome}
 use Rattle.block_sim.specs.Parts.{Parts, with_tests}
 use Rattle.patterns.specs.Tests.{TestList}
 use Rattle.job_loading.specs.RunJobs.{parts_of}
-use Rattle.job_loading.proofs.GivenTests.{given, given_parts}
+use Rattle.job_loading.proofs.GivenTests.{given, given_apart, given_none, given_parts, given_whole}
+use Rattle.job_loading.proofs.GivenTests.{no_tests, run_parts}
 use Rattle.job_loading.proofs.run_job.RunJob.give_tests.Goals as goal
 
 pub returns : goal.returns
@@ -17,4 +19,16 @@ returns c =
           (given_parts old new c.self.inside.apart
           (given c.give_tests.result old new none c.give_tests.ensures.job
           c.give_tests.ensures.kept));
+      none = subst (λ o. IfNone o (run_parts new c.self.inside.apart ≡ c.args.self.now))
+          (sym c.ok.ensures.value)
+          (given_none c.give_tests.result old new c.self.inside.apart c.args.self.now
+          c.self.view_is c.give_tests.ensures.kept);
+      apart = given_apart old new c.self.inside.apart c.args.self.now c.self.view_is
+          (given c.give_tests.result old new none c.give_tests.ensures.job
+          c.give_tests.ensures.kept);
+      given = λ off. subst (λ o. IfSome o (λ _. parts_of new c.self.inside.apart
+          ≡ with_tests c.args.self.now.parts (no_tests c.args.self.now.parts)))
+          (sym c.ok.ensures.value)
+          (given_whole c.give_tests.result old new c.self.inside.apart c.args.self.now
+          c.self.view_is c.give_tests.ensures.job off);
     }
