@@ -24,8 +24,8 @@ invariant_of-self-2 c =
     (AreWords-joined own.width own.count other.count words more (omega (arith, count))
     c.self.invariant are (omega (arith, count, others)))
 
-pub returns : goal.returns
-returns c =
+pub returns-clause-appended : goal.returns-clause-appended
+returns-clause-appended c =
     let own = c.self.inside in
     let other = c.more.inside in
     let words = word_lists own.words.items in
@@ -46,8 +46,6 @@ returns c =
     ∙ ap (λ t. t ++ tests_of own.width other.count more) (ap (λ t. t.tests) c.self.view_is)
     ∙ ap (λ t. c.args.self.now.tests ++ t)
     (ap (λ w. tests_of w other.count more) (sym width) ∙ ap (λ t. t.tests) c.more.view_is) in
-    record {
-      appended = ap (λ t. record { width = own.width; tests = t }) tests
-          ∙ ap (λ w. record { width = w; tests = c.args.self.now.tests ++ c.args.more.tests })
-          (ap (λ t. t.width) c.self.view_is);
-    }
+    ap (λ t. record { width = own.width; tests = t }) tests
+    ∙ ap (λ w. record { width = w; tests = c.args.self.now.tests ++ c.args.more.tests })
+    (ap (λ t. t.width) c.self.view_is)
