@@ -107,8 +107,9 @@ uint32_t fs_job_read(uint32_t model, const uint8_t *bench, size_t bench_len, fs_
 void fs_job_free(fs_job *job);
 
 /* Gives `other` the same job, with room of its own to simulate: for another thread. On FS_DONE what
- * `other` had is freed; else it is as it was. While several handles share a job, the calls
- * that take tests return FS_SHARED; the last of them that is left takes tests again. */
+ * `other` had is freed; else it is as it was. While several handles share a job, the calls that
+ * take tests return FS_SHARED, if the tests have no error; the last of them that is left takes
+ * tests again. */
 uint32_t fs_job_share(fs_job *job, fs_job *other);
 
 /* Writes the sizes of the job. */
@@ -124,7 +125,9 @@ uint32_t fs_set_text(fs_job *job, const uint8_t *text, size_t text_len, fs_fault
 
 /* Takes tests in words as fs_set_words does, but after the job's last test: that is test 0 of the
  * new list, and the new ones are tests 1, 2, .. So under FS_TRANSITION the pair of the last test
- * and the first new one isn't lost. If the job has no tests, all are new. */
+ * and the first new one isn't lost. If the job has no tests, all are new. Under FS_TRANSITION_PAIRS
+ * it would make pairs of a capture test and the next launch test: use fs_set_words there, with an
+ * even number of tests. */
 uint32_t fs_next_words(fs_job *job, uint32_t count, const uint64_t *words, size_t words_len,
                        fs_fault *fault);
 
@@ -137,7 +140,9 @@ uint32_t fs_classes_of(fs_job *job, uint32_t *classes, size_t classes_len);
 uint32_t fs_stems_of(fs_job *job, uint32_t *stems, size_t stems_len);
 
 /* Writes the name of a signal, and the number of its bytes in `wanted`; no 0 follows it. If the
- * text has less room, the status is FS_RANGE, and `wanted` is the room that the name needs. */
+ * text has less room, the status is FS_RANGE, and `wanted` is the room that the name needs. If the
+ * signal is out of range, the status is FS_RANGE, too, and `wanted` is as it was: set it to 0
+ * before. */
 uint32_t fs_name_of(fs_job *job, uint32_t signal, uint8_t *text, size_t text_len, size_t *wanted);
 
 /* Writes the name of a fault, as each line of `faultsim faults` begins: `stem G1 sa0`, `pin G2 1
@@ -149,7 +154,8 @@ uint32_t fs_fault_text(fs_job *job, uint32_t fault, uint8_t *text, size_t text_l
  * or out of range. */
 uint32_t fs_source_of(fs_job *job, uint32_t signal, uint32_t *place);
 
-/* Writes the fault-free value of a signal: bit k of `word` is its value in test 64 * block + k. */
+/* Writes the fault-free value of a signal: bit k of `word` is its value in test 64 * block + k. Bits
+ * past the last test may be 1. */
 uint32_t fs_word(fs_job *job, uint32_t block, uint32_t signal, uint64_t *word);
 
 /* Writes the signal of each observer, and the number of observers in `wanted`: the OUTPUT lines in
@@ -158,12 +164,13 @@ uint32_t fs_word(fs_job *job, uint32_t block, uint32_t signal, uint64_t *word);
 uint32_t fs_observers_of(fs_job *job, uint32_t *signals, size_t signals_len, size_t *wanted);
 
 /* Writes the fault-free values of the observers: words[block * observers + o] is the word of
- * observer o, as from fs_word. words_len is the number of blocks times the number of observers. */
+ * observer o, as from fs_word: bits past the last test may be 1, so mask them before you use the
+ * words as tests. words_len is the number of blocks times the number of observers. */
 uint32_t fs_responses(fs_job *job, uint64_t *words, size_t words_len);
 
 /* Writes for each class of a list the first test that detects it, or FS_NONE. The list may have
- * any order, and a class more than once. The lengths are equal. On any status but FS_DONE
- * `firsts` is as it was. */
+ * any order, and a class more than once. The lengths are equal, and the arrays don't overlap. On any
+ * status but FS_DONE `firsts` is as it was. */
 uint32_t fs_simulate(fs_job *job, const uint32_t *classes, size_t classes_len, uint32_t *firsts,
                      size_t firsts_len);
 
@@ -172,7 +179,8 @@ uint32_t fs_simulate(fs_job *job, const uint32_t *classes, size_t classes_len, u
 uint32_t fs_detecting(fs_job *job, uint32_t class_number, uint32_t block, uint64_t *lanes);
 
 /* Counts the tests that detect each class of a list, up to `most` for a class. The lengths are
- * equal. It takes no memory. */
+ * equal, and the arrays don't overlap. It takes no memory. It simulates class by class, and so takes
+ * many times as long as fs_simulate: ask it only for classes that fs_simulate detects. */
 uint32_t fs_detections(fs_job *job, const uint32_t *classes, size_t classes_len, uint32_t most,
                        uint32_t *counts, size_t counts_len);
 

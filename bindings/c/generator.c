@@ -78,8 +78,11 @@ int main(int argc, char **argv) {
     fs_job job = {0};
     fs_fault fault = {0};
     fs_sizes n;
-    if (fs_job_read(FS_STUCK_AT, bench, size, &job, &fault) || fs_sizes_of(&job, &n))
-        end("wrong circuit");
+    if (fs_job_read(FS_STUCK_AT, bench, size, &job, &fault) || fs_sizes_of(&job, &n)) {
+        fprintf(stderr, "generator: wrong circuit: kind %" PRIu32 " of faultsim.h, line %" PRIu64 "\n",
+                fault.kind, fault.place);
+        return 1;
+    }
     uint64_t *words = room(n.sources, sizeof *words);
     uint32_t *left = room(n.classes, sizeof *left), *firsts = room(n.classes, sizeof *firsts);
     uint32_t *of = room(n.faults, sizeof *of), count = n.classes, kept = 0;

@@ -76,6 +76,8 @@ int main() {
     bool well = fails_with(FS_NO_JOB, [&] { job.sizes(); })
         && fails_with(FS_RANGE, [&] { moved.detecting(1000, 0); })
         && fails_with(FS_RANGE, [&] { moved.fault_name(34); })
+        && fails_with(FS_RANGE, [&] { moved.simulate(std::span(firsts).first(2),
+                                                     std::span(firsts).subspan(1, 2)); })
         && fails_with(FS_REFUSED, [&] { moved.set_text("111\n"); })
         && fails_with(FS_REFUSED, [&] { faultsim::Job("z = AND(a, b)\n"); });
     return well ? 0 : 1;

@@ -5,9 +5,14 @@
 #ifndef FAULTSIM_HPP
 #define FAULTSIM_HPP
 
+#if __cplusplus < 202002L
+#error "faultsim.hpp needs C++20: -std=c++20"
+#endif
+
 #include "faultsim.h"
 
 #include <cstdint>
+#include <functional>
 #include <iterator>
 #include <new>
 #include <numeric>
@@ -37,8 +42,9 @@ enum class Lines : std::uint32_t {
 // Why a call fails: a status of faultsim.h, and if a text or words are wrong a kind and a place.
 class Error : public std::runtime_error {
 public:
-    Error(std::uint32_t status, fs_fault fault)
-        : std::runtime_error(text_of(status, fault)), status(status), fault(fault) {}
+    Error(std::uint32_t given_status, fs_fault given_fault)
+        : std::runtime_error(text_of(given_status, given_fault)), status(given_status),
+          fault(given_fault) {}
 
     std::uint32_t status;
     fs_fault fault;
@@ -90,6 +96,8 @@ class Job {
 public:
     // Reads a bench file's text. The job has no tests yet.
     explicit Job(std::string_view bench, Model model = Model::stuck_at) {
+        if (fs_version() != FAULTSIM_VERSION)
+            throw std::runtime_error("the library has another version than faultsim.h");
         fs_fault fault{};
         check(fs_job_read(static_cast<std::uint32_t>(model), bytes(bench), bench.size(), &handle,
                           &fault),
@@ -135,8 +143,9 @@ public:
         check(fs_set_words(&handle, count, at(words), words.size(), &fault), fault);
     }
 
-    // Takes tests in words behind the job's last test, which is test 0 of the new list: so the pair of
-    // it and the first new test isn't lost.
+    // Takes tests in words after the job's last test, which is test 0 of the new list: so under
+    // Model::transition the pair of it and the first new test isn't lost. Under
+    // Model::transition_pairs use set_words: this call would move the pairs by one test.
     void next_words(std::uint32_t count, std::span<const std::uint64_t> words) {
         fs_fault fault{};
         check(fs_next_words(&handle, count, at(words), words.size(), &fault), fault);
@@ -175,7 +184,8 @@ public:
         return place;
     }
 
-    // Returns the fault-free value of a signal: bit k is that in test 64 * block + k.
+    // Returns the fault-free value of a signal: bit k is that in test 64 * block + k. Bits past the
+    // last test may be 1.
     std::uint64_t word(std::uint32_t block, std::uint32_t signal) {
         std::uint64_t word = 0;
         check(fs_word(&handle, block, signal, &word));
@@ -196,7 +206,8 @@ public:
         return signals;
     }
 
-    // Returns the fault-free values of the observers: for each block a word for each of them.
+    // Returns the fault-free values of the observers: for each block a word for each of them. Bits
+    // past the last test may be 1.
     std::vector<std::uint64_t> responses() {
         std::vector<std::uint64_t> words(sizes().blocks * observers().size());
         check(fs_responses(&handle, at(std::span(words)), words.size()));
@@ -211,9 +222,10 @@ public:
         });
     }
 
-    // Returns for each class of a list the first test that detects it, or FS_NONE. The lengths are
-    // equal.
+    // Writes for each class of a list the first test that detects it, or FS_NONE. The lengths are
+    // equal. Spans that overlap are out of range.
     void simulate(std::span<const std::uint32_t> classes, std::span<std::uint32_t> firsts) {
+        check_apart(classes, firsts);
         check(fs_simulate(&handle, at(classes), classes.size(), at(firsts), firsts.size()));
     }
 
@@ -238,9 +250,11 @@ public:
     }
 
     // Counts how many tests detect each class of a list, no more than `most` of a class. The lengths
-    // are equal.
+    // are equal. Spans that overlap are out of range. It simulates class by class, and so takes many
+    // times as long as simulate.
     void detections(std::span<const std::uint32_t> classes, std::uint32_t most,
                     std::span<std::uint32_t> counts) {
+        check_apart(classes, counts);
         check(fs_detections(&handle, at(classes), classes.size(), most, at(counts),
                             counts.size()));
     }
@@ -267,6 +281,14 @@ private:
             throw std::bad_alloc();
         if (status != FS_DONE)
             throw Error(status, fault);
+    }
+
+    // A call may not read what it writes.
+    static void check_apart(std::span<const std::uint32_t> read, std::span<std::uint32_t> written) {
+        std::less<const std::uint32_t *> before;
+        if (before(written.data(), read.data() + read.size())
+            && before(read.data(), written.data() + written.size()))
+            check(FS_RANGE);
     }
 
     static const std::uint8_t *bytes(std::string_view text) {

@@ -53,6 +53,8 @@ int main(int argc, char **argv) try {
     if (argc < 2)
         throw std::runtime_error("usage: generator BENCH [SEED]");
     std::ifstream file(argv[1], std::ios::binary);
+    if (!file)
+        throw std::runtime_error(std::string("can't read ") + argv[1]);
     std::string bench{std::istreambuf_iterator<char>(file), {}};
     std::uint64_t state = argc > 2 ? std::stoull(argv[2]) : 1;
     faultsim::Job job(bench);

@@ -1,7 +1,8 @@
 """Builds the package's wheel with the standard library alone, so that pip needs no network.
 
 The shared library of out/ at the top of the checkout, or of FAULTSIM_LIBRARY, goes into the wheel.
-Without one the package needs FAULTSIM_LIBRARY where it runs.
+Without one the package needs FAULTSIM_LIBRARY where it runs. An editable package is that of the
+checkout, with its out/.
 """
 
 import base64
@@ -33,10 +34,12 @@ def get_requires_for_build_wheel(config_settings=None):
     return []
 
 
+def get_requires_for_build_editable(config_settings=None):
+    return []
+
+
 def build_wheel(wheel_directory, config_settings=None, metadata_directory=None):
     library = _library()
-    platform = sysconfig.get_platform().replace("-", "_").replace(".", "_")
-    tag = f"py3-none-{platform if library else 'any'}"
     files = {
         f"{NAME}/{path.name}": path.read_bytes()
         for path in sorted((HERE / "src" / NAME).iterdir())
@@ -44,9 +47,21 @@ def build_wheel(wheel_directory, config_settings=None, metadata_directory=None):
     }
     if library:
         files[f"{NAME}/libfaultsim.so"] = library.read_bytes()
+    return _write(wheel_directory, files, library is None)
+
+
+def build_editable(wheel_directory, config_settings=None, metadata_directory=None):
+    return _write(wheel_directory, {f"{NAME}.pth": f"{HERE / 'src'}\n".encode()}, True)
+
+
+def _write(wheel_directory, files, pure):
+    """Writes a wheel of these files, for any platform if it is pure. Returns its name."""
+    platform = sysconfig.get_platform().replace("-", "_").replace(".", "_")
+    tag = f"py3-none-{'any' if pure else platform}"
     files[f"{INFO}/METADATA"] = METADATA.encode()
+    files[f"{INFO}/licenses/LICENSE"] = (HERE.parents[1] / "LICENSE").read_bytes()
     files[f"{INFO}/WHEEL"] = (
-        f"Wheel-Version: 1.0\nGenerator: backend\nRoot-Is-Purelib: {str(not library).lower()}\n"
+        f"Wheel-Version: 1.0\nGenerator: backend\nRoot-Is-Purelib: {str(pure).lower()}\n"
         f"Tag: {tag}\n"
     ).encode()
     lines = []

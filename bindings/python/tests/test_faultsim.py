@@ -1,7 +1,9 @@
 """The package, on C17 and on circuits of a line. Expected values are worked out by hand."""
 
+import copy
 import pathlib
 import pickle
+import signal
 import subprocess
 import sys
 import tempfile
@@ -261,6 +263,47 @@ class Threads(unittest.TestCase):
                 it.join()
             self.assertTrue(len(found) == 40 and all(it == wanted for it in found))
 
+    def test_new_tests_beside_workers(self):
+        # Tests come before or after the workers of another thread, and never among them.
+        gates = "".join(f"n{i} = XOR(n{i - 1}, {'ab'[i % 2]})\n" for i in range(1, 500))
+        with faultsim.Job("INPUT(a)\nINPUT(b)\nOUTPUT(n499)\nn0 = NAND(a, b)\n" + gates) as job:
+            wanted = []
+            for tests in ("00\n", "11\n"):
+                job.set_tests(tests)
+                wanted.append([int(it) for it in job.simulate()])
+            self.assertNotEqual(*wanted)
+            found = []
+
+            def run():
+                found.extend([int(it) for it in job.simulate(workers=3)] for _ in range(10))
+
+            thread = threading.Thread(target=run)
+            thread.start()
+            for turn in range(40):
+                job.set_tests(("00\n", "11\n")[turn % 2])
+            thread.join()
+            self.assertTrue(len(found) == 10 and all(it in wanted for it in found))
+
+    def test_calls_of_a_signal_handler(self):
+        said = []
+        with faultsim.Job(C17) as job:
+            job.set_tests("11111\n")
+            before = signal.signal(signal.SIGALRM, lambda *_: said.append(job.coverage()))
+            try:
+                signal.setitimer(signal.ITIMER_REAL, 0.001, 0.001)
+                while len(said) < 20:
+                    self.assertEqual(job.coverage(workers=2), (14, 34))
+            finally:
+                signal.setitimer(signal.ITIMER_REAL, 0)
+                signal.signal(signal.SIGALRM, before)
+        self.assertEqual(set(said), {(14, 34)})
+
+    def test_no_copies(self):
+        with faultsim.Job(AND) as job:
+            for call in (copy.copy, copy.deepcopy, pickle.dumps):
+                with self.assertRaises(TypeError):
+                    call(job)
+
     def test_jobs_of_two_threads(self):
         found = []
 
@@ -322,6 +365,8 @@ class Arrays(unittest.TestCase):
             ):
                 with self.assertRaises(error):
                     job.simulate(classes)
+            with self.assertRaises(IndexError):
+                job.set_tests(numpy.array([-1, -1]), count=64)
 
 
 if __name__ == "__main__":

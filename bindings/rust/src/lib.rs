@@ -47,6 +47,50 @@ pub enum Error {
     Shared,
 }
 
+/// What is wrong with a text or words: the kinds of `faultsim.h`.
+#[derive(Clone, Copy, Debug, PartialEq, Eq)]
+#[non_exhaustive]
+pub enum Kind {
+    BenchBytes = 1,
+    BenchSignals,
+    BenchSinks,
+    BenchSyntax,
+    BenchRedefined,
+    BenchUndefined,
+    BenchCycle,
+    BenchEmpty,
+    TestsByte,
+    TestsWidth,
+    TestsMany,
+    WordsMany,
+    WordsCount,
+    WordsIdle,
+}
+
+impl Kind {
+    const ALL: [Kind; 14] = [
+        Kind::BenchBytes,
+        Kind::BenchSignals,
+        Kind::BenchSinks,
+        Kind::BenchSyntax,
+        Kind::BenchRedefined,
+        Kind::BenchUndefined,
+        Kind::BenchCycle,
+        Kind::BenchEmpty,
+        Kind::TestsByte,
+        Kind::TestsWidth,
+        Kind::TestsMany,
+        Kind::WordsMany,
+        Kind::WordsCount,
+        Kind::WordsIdle,
+    ];
+
+    /// Returns the kind of an error, if this crate knows it.
+    pub fn of(fault: Fault) -> Option<Kind> {
+        Kind::ALL.into_iter().find(|it| *it as u32 == fault.kind)
+    }
+}
+
 /// What is wrong, by the kind of a [`Fault`]; its place is for the braces.
 const KINDS: [&str; 15] = [
     "unknown",
@@ -148,8 +192,10 @@ impl Job {
         told(status, fault)
     }
 
-    /// Takes tests in words as [`Job::set_words`] does, but behind the job's last test, which is test
-    /// 0 of the new list: so the pair of it and the first new test isn't lost.
+    /// Takes tests in words as [`Job::set_words`] does, but after the job's last test, which is test
+    /// 0 of the new list: so under [`Model::Transition`] the pair of it and the first new test isn't
+    /// lost. Under [`Model::TransitionPairs`] use [`Job::set_words`]: this call would move the pairs
+    /// by one test.
     pub fn next_words(&mut self, count: u32, words: &[u64]) -> Result<(), Error> {
         let mut fault = Fault::default();
         // SAFETY: as above.
@@ -225,7 +271,8 @@ impl Job {
         (status == 0).then_some(place)
     }
 
-    /// Returns the fault-free value of a signal: bit k is that in test `64 * block + k`.
+    /// Returns the fault-free value of a signal: bit k is that in test `64 * block + k`. Bits past the
+    /// last test may be 1.
     pub fn word(&mut self, block: u32, signal: u32) -> Result<u64, Error> {
         let mut word = 0;
         // SAFETY: as above; the call tests the numbers.
@@ -256,7 +303,8 @@ impl Job {
         }
     }
 
-    /// Returns the fault-free values of the observers: for each block a word for each of them.
+    /// Returns the fault-free values of the observers: for each block a word for each of them. Bits
+    /// past the last test may be 1.
     pub fn responses(&mut self) -> Vec<u64> {
         let mut words = vec![0; self.sizes().blocks as usize * self.observers().len()];
         // SAFETY: as above, and the length is that of the words.
@@ -299,7 +347,8 @@ impl Job {
         Ok(lanes)
     }
 
-    /// Counts how many tests detect each class of a list, no more than `most` of a class.
+    /// Counts how many tests detect each class of a list, no more than `most` of a class. It
+    /// simulates class by class, and so takes many times as long as [`Job::simulate`].
     pub fn detections(&mut self, classes: &[u32], most: u32) -> Result<Vec<u32>, Error> {
         let mut counts = vec![0; classes.len()];
         // SAFETY: as above; the call tests the classes.

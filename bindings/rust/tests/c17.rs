@@ -1,6 +1,6 @@
 //! C17 under one test: 14 of 34 faults.
 
-use faultsim::{firsts, version, Error, Fault, Job, Lines, Model};
+use faultsim::{firsts, version, Error, Fault, Job, Kind, Lines, Model};
 
 const C17: &[u8] = b"INPUT(1)\nINPUT(2)\nINPUT(3)\nINPUT(6)\nINPUT(7)\nOUTPUT(22)\nOUTPUT(23)\n\
     10 = NAND(1, 3)\n11 = NAND(3, 6)\n16 = NAND(2, 11)\n19 = NAND(11, 7)\n\
@@ -48,6 +48,7 @@ fn words_are_the_same_tests() -> Result<(), Error> {
     job.set_words(1, &[1; 5])?;
     assert_eq!(job.faults()?.filter(|it| it.first.is_some()).count(), 14);
     let idle = Fault { kind: 14, place: 4 };
+    assert_eq!(Kind::of(idle), Some(Kind::WordsIdle));
     assert_eq!(
         job.set_words(1, &[1, 1, 1, 1, 2]),
         Err(Error::Refused(idle))

@@ -218,7 +218,8 @@ pub extern "C" fn fs_set_words(
 }
 
 /// Replaces the job's tests with their last one and then tests in words. The last test becomes test
-/// 0, so its pair with the first new test isn't lost. If the job has no tests, all are new.
+/// 0, so its pair with the first new test isn't lost. If the job has no tests, all are new. Under
+/// launch/capture pairs it would make pairs of a capture test and the next launch test.
 #[unsafe(no_mangle)]
 pub extern "C" fn fs_next_words(
     alloc: Global,

@@ -22,14 +22,14 @@ from concurrent.futures import ThreadPoolExecutor
 from typing import Any, Iterable, Optional, Sequence, Union
 
 from . import _library
-from ._library import NONE, Error, FsFault, FsJob, FsSizes, check, library
+from ._library import NONE, Error, FsFault, FsJob, FsSizes, Kind, check, library
 
 try:
     import numpy
 except ImportError:
     numpy = None
 
-__all__ = ["NONE", "Error", "Job", "Lines", "Model", "firsts"]
+__all__ = ["NONE", "Error", "Job", "Kind", "Lines", "Model", "firsts"]
 __version__ = "0.1.0"
 
 Text = Union[str, bytes]
@@ -78,7 +78,8 @@ def _numbers(values: Iterable[int], code: str) -> Any:
     if numpy is not None and isinstance(values, numpy.ndarray):
         if values.size and values.dtype.kind not in "iu":
             raise TypeError(f"an array of {values.dtype}, and not of integers")
-        if values.size and code == "I" and not 0 <= values.min() <= values.max() < 1 << 32:
+        bits = 32 if code == "I" else 64
+        if values.size and not 0 <= int(values.min()) <= int(values.max()) < 1 << bits:
             raise IndexError("a number of the array is out of range")
         kind = {"I": numpy.uint32, "Q": numpy.uint64}[code]
         return numpy.require(values, kind, ["C", "A"]).reshape(-1)
@@ -181,7 +182,7 @@ class Job:
 
     A job is also a context manager, which closes it. A call on a closed job raises `ValueError`,
     and a number out of range `IndexError`. Threads that call one job wait for each other; `share`
-    makes another one for another thread.
+    makes another one for another thread. A job can't be copied.
 
     sources, signals, faults, classes, tests, blocks: how many of each the job has.
     """
@@ -195,7 +196,8 @@ class Job:
         self._sizes()
 
     def _start(self) -> None:
-        self._handle, self._lock = FsJob(), threading.Lock()
+        # A signal handler may call the job that its thread calls, between two calls of the library.
+        self._handle, self._lock = FsJob(), threading.RLock()
         self._helpers: list[Job] = []
         # What depends on the circuit alone: all classes, their runs, and their shares by threads.
         self._whole: Any = None
@@ -224,8 +226,12 @@ class Job:
     def close(self) -> None:
         """Frees the job. A second call does nothing."""
         if hasattr(self, "_run_of"):
-            self._free_helpers()
-            self._call(library.fs_job_free)
+            with self._lock:
+                self._free_helpers()
+                self._call(library.fs_job_free)
+
+    def __reduce__(self) -> Any:
+        raise TypeError("a job can't be copied; share makes another one")
 
     __del__ = close
 
@@ -256,19 +262,18 @@ class Job:
         tests one for each source, in one list, with bit k for test 64 * block + k.
 
         keep_last: the job's last test stays, as test 0 before the new ones, which are rows or
-        words. So under `Model.TRANSITION` the pair of it and the first new test isn't lost.
+        words. So under `Model.TRANSITION` the pair of it and the first new test isn't lost. Under
+        `Model.TRANSITION_PAIRS` leave it out: it would move the pairs by one test.
 
         Raises `Error` if a text or words are wrong, `IndexError` if rows have another width,
         `ValueError` if they have another bit, and `RuntimeError` if `share` made another job that
         isn't closed.
         """
-        fault = FsFault()
-        self._free_helpers()
         if isinstance(tests, (str, bytes, bytearray, memoryview)):
             if count is not None or keep_last:
                 raise TypeError("count and keep_last don't go with a text")
             text = _bytes(tests)
-            check(self._call(library.fs_set_text, text, len(text), fault), fault)
+            self._take(library.fs_set_text, text, len(text))
         else:
             if count is not None:
                 words = _numbers(tests, "Q")
@@ -277,9 +282,15 @@ class Job:
             else:
                 count, words = _words_of(list(tests), self.sources)
             call = library.fs_next_words if keep_last else library.fs_set_words
-            status = self._call(call, _number(count), _address(words), len(words), fault)
-            check(status, fault)
-        self._sizes()
+            self._take(call, _number(count), _address(words), len(words))
+
+    def _take(self, function: Any, *arguments: Any) -> None:
+        """Takes tests by a function of the library, when no other call runs."""
+        fault = FsFault()
+        with self._lock:
+            self._free_helpers()
+            check(self._call(function, *arguments, fault), fault)
+            self._sizes()
 
     def classes_of(self) -> Any:
         """The class of each fault: an array of the shape (faults,)."""
@@ -338,7 +349,8 @@ class Job:
         return names
 
     def word(self, block: int, signal: int) -> int:
-        """The fault-free value of a signal: bit k is that in test 64 * block + k."""
+        """The fault-free value of a signal: bit k is that in test 64 * block + k. Bits past the
+        last test may be 1."""
         word = ctypes.c_uint64()
         check(self._call(library.fs_word, _number(block), _number(signal), word))
         return word.value
@@ -357,7 +369,8 @@ class Job:
 
     def responses(self) -> Any:
         """The fault-free words of the observers, for each block one for each: an array of the shape
-        (blocks * observers,), or (blocks, observers) with numpy."""
+        (blocks * observers,), or (blocks, observers) with numpy. Bits past the last test may be
+        1."""
         observers = len(self.observers())
         words = _room(self.blocks * observers, "Q")
         check(self._call(library.fs_responses, _address(words), len(words)))
@@ -388,8 +401,14 @@ class Job:
         workers = max(1, min(workers, len(asked)))
         if workers == 1:
             self._simulate(asked, found)
-            return found
-        shares = deque(self._cut(None if classes is None else asked, workers))
+        else:
+            with self._lock:
+                shares = deque(self._cut(None if classes is None else asked, workers))
+                self._simulate_shares(asked, shares, found, workers)
+        return found
+
+    def _simulate_shares(self, asked: Any, shares: Any, found: Any, workers: int) -> None:
+        """Simulates the shares of a list by this thread and others."""
         jobs: list[Job] = []
         try:
             for _ in range(workers - 1):
@@ -401,7 +420,6 @@ class Job:
                     run.result()
         finally:
             self._helpers.extend(jobs)
-        return found
 
     def _helper(self) -> "Job":
         """A job of the same tests for another thread: one that is kept, or a new one."""
@@ -489,7 +507,8 @@ class Job:
 
     def detections(self, most: int, classes: Optional[Iterable[int]] = None) -> Any:
         """How many tests detect each class of a list, or of all, counted up to `most`: an array
-        of the shape (classes,)."""
+        of the shape (classes,). It simulates class by class, and so takes many times as long as
+        `simulate`."""
         asked = self._all() if classes is None else _numbers(classes, "I")
         counts = _room(len(asked), "I")
         status = self._call(

@@ -1,12 +1,35 @@
 """The shared library: its functions by ctypes, and statuses as exceptions."""
 
 import ctypes as c
+import enum
 import os
 import pathlib
+from typing import Optional
 
 VERSION = 1
 NONE = 0xFFFFFFFF
 DONE, NO_JOB, MEMORY, REFUSED, RANGE, SHARED = range(6)
+
+
+class Kind(enum.IntEnum):
+    """What is wrong with a text or words."""
+
+    BENCH_BYTES = 1
+    BENCH_SIGNALS = 2
+    BENCH_SINKS = 3
+    BENCH_SYNTAX = 4
+    BENCH_REDEFINED = 5
+    BENCH_UNDEFINED = 6
+    BENCH_CYCLE = 7
+    BENCH_EMPTY = 8
+    TESTS_BYTE = 9
+    TESTS_WIDTH = 10
+    TESTS_MANY = 11
+    WORDS_MANY = 12
+    WORDS_COUNT = 13
+    WORDS_IDLE = 14
+
+
 KINDS = (
     "unknown",
     "bench: more bytes than the limit",
@@ -54,15 +77,15 @@ class FsFault(c.Structure):
 class Error(ValueError):
     """A text or words are wrong.
 
-    `kind` is a number of `faultsim.h`. `place` is a line, from 1, or a source, from 0, or 0.
+    `kind` is a `Kind`. `place` is a line, from 1, or a source, from 0, or 0.
     """
 
     def __init__(self, kind: int, place: int) -> None:
         super().__init__(kind, place)
-        self.kind, self.place = kind, place
+        self.kind, self.place = Kind(kind), place
 
     def __str__(self) -> str:
-        return KINDS[self.kind if self.kind < len(KINDS) else 0].format(self.place)
+        return KINDS[self.kind].format(self.place)
 
 
 _U32, _SIZE = c.c_uint32, c.c_size_t
@@ -130,7 +153,7 @@ def _load() -> c.CDLL:
 library = _load()
 
 
-def check(status: int, fault: "FsFault | None" = None) -> None:
+def check(status: int, fault: Optional[FsFault] = None) -> None:
     """Raises the exception of a status other than DONE."""
     if status == DONE:
         return
