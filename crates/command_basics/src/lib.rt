@@ -7,7 +7,7 @@ mod source;
 mod status;
 
 pub use models::{MODELS, model_named};
-pub use source::{Files, Source, SourceFault, Stream, WriteFault, is_standard_input};
+pub use source::{FileId, Files, Source, SourceFault, WriteFault, is_standard_input};
 pub use status::{DONE, FAILED, MISUSED, REFUSED, status_of};
 
 /// The version that `faultsim --version` and `faultgen --version` print.

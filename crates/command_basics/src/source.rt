@@ -18,9 +18,9 @@ pub enum SourceFault {
 #[derive(Clone, Copy, Debug, PartialEq, Eq)]
 pub struct WriteFault;
 
-/// The identity of a stream: its device, and its number there.
+/// The identity of a file: its device, and its number there.
 #[derive(Clone, Copy, Debug, PartialEq, Eq)]
-pub struct Stream {
+pub struct FileId {
     pub device: u64,
     pub number: u64,
 }
@@ -37,8 +37,13 @@ pub trait Source {
     /// file, or it can be read only once, as a pipe.
     fn open(&self, path: &str) -> Option<(Self::File, u64)>;
 
-    /// Returns the stream at a path, if it can be read only once and has a device and a number.
-    fn stream(&self, _path: &str) -> Option<Stream> {
+    /// Returns the identity of the file at a path, if there is one: the same for all its paths.
+    fn identity(&self, _path: &str) -> Option<FileId> {
+        None
+    }
+
+    /// Returns the identity of the file at a path, if it can be read only once, as a pipe.
+    fn stream(&self, _path: &str) -> Option<FileId> {
         None
     }
 
@@ -98,15 +103,21 @@ where
         Some((file, found.len()))
     }
 
-    /// Returns the device and the inode of a pipe or a socket.
-    fn stream(&self, path: &str) -> Option<Stream> {
+    /// Returns the device and the inode of a file.
+    fn identity(&self, path: &str) -> Option<FileId> {
+        let found = fs::metadata(self.rt, system_path(path)).ok()?;
+        Some(FileId {
+            device: found.dev(),
+            number: found.ino(),
+        })
+    }
+
+    /// Returns those of a pipe or a socket.
+    fn stream(&self, path: &str) -> Option<FileId> {
         let found = fs::metadata(self.rt, system_path(path)).ok()?;
         let kind = found.file_type();
         if kind.is_fifo() || kind.is_socket() {
-            Some(Stream {
-                device: found.dev(),
-                number: found.ino(),
-            })
+            self.identity(path)
         } else {
             None
         }

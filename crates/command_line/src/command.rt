@@ -16,7 +16,7 @@ use crate::split::is_auto;
 use crate::status::{CommandError, NO_MEMORY, UNWRITTEN, answer_fault};
 use clap::error::ErrorKind;
 use clap::{ArgMatches, Error};
-use command_basics::{DONE, MISUSED, Source, SourceFault, Stream, is_standard_input, model_named};
+use command_basics::{DONE, FileId, MISUSED, Source, SourceFault, is_standard_input, model_named};
 use fault_model::Model;
 use report::{Contents, Formatted, Lines, Out, faults_text_in, schedule_text_with};
 use std::alloc::{AllocError, Global};
@@ -159,7 +159,7 @@ fn check_streams<'a, S: Source>(
     if inputs.count() > 1 {
         return Err(CommandError::Misused("the standard input for two files"));
     }
-    let mut streams: Vec<Stream> = Vec::new(alloc);
+    let mut streams: Vec<FileId> = Vec::new(alloc);
     for path in &paths {
         let Some(stream) = files.stream(path) else {
             continue;

@@ -30,5 +30,5 @@ mod threshold;
 pub use arguments::run_arguments;
 pub use command::run_words;
 pub use command_basics::{
-    Files, MODELS, Source, SourceFault, Stream, VERSION, model_named, status_of,
+    FileId, Files, MODELS, Source, SourceFault, VERSION, model_named, status_of,
 };

@@ -50,7 +50,7 @@ impl Task {
     fn about<'a>(self) -> &'a str {
         match self {
             Task::Check =>
-                "Checks a circuit and its tests: sizes, limits and warnings, or every error",
+                "Checks a circuit and its tests: sizes, limits and warnings, or the errors",
             Task::Run => "Simulates all faults of a model and prints the fault coverage",
             Task::Curve => "Prints the coverage after each test that detects new faults",
             Task::Compact => "Writes fewer tests, which detect the same faults",
@@ -174,7 +174,7 @@ const ABOUT_THE_ORDER: &str =
     "Simulates as run does, in a given order of moves, for tests of the simulator itself";
 
 /// The note on files after the options.
-const FILES: &str = "Each FILE is read whole. One FILE can be -, the standard input.";
+const FILES: &str = "One FILE can be -, the standard input.";
 
 /// The end of the long help of the program.
 const ABOUT_TEXTS: &str = "\
@@ -193,7 +193,8 @@ prints that the tests detect all faults:
     6 of 6 (100.00%)
 
 The exit status is 0 for success, 1 for an error in a file, 2 for an error in the
-command line, and 3 if a file, the output, memory or a thread fails.";
+command line, 3 if a file, the output, memory or a thread fails, and 4 if the
+coverage is below --fail-under.";
 
 /// The end of the long help of `check`.
 const ABOUT_CHECK: &str = "\
@@ -206,8 +207,8 @@ Example, a circuit with two errors:
 
     faultsim check --bench a.bench
 
-reports every error of the file on standard error, each with its line, a mark and
-a suggestion, and then the error that run prints:
+reports the errors of the file on standard error, up to 20 of them, each with its
+line, a mark and a suggestion, and then the error that run prints:
 
     a.bench:3: syntax
         n1 = INV(a)
@@ -256,18 +257,18 @@ of the fault classes are detected:
 --undetected --why prints the reason for each undetected fault, and last the
 number of faults for each reason. Without test 11 these are:
 
-    stem a sa0 none not activated
-    stem b sa0 none not activated
+    stem a sa0 none not observed
+    stem b sa0 none not observed
     stem z sa0 none not activated
     3 of 6 (50.00%)
-    0 no path, 3 not activated, 0 not observed
+    0 no path, 1 not activated, 2 not observed
 
 no path        no OUTPUT line and no flip-flop is reached from the line
-not activated  no test gives the line the complement of the stuck bit; for
-               transition faults, no pair launches the transition
+not activated  no test sets the other bit, or no pair launches the transition
 not observed   a test activates the fault, and none detects it
 
-Each FILE is read whole. One FILE can be -, the standard input.";
+A test file of 4 MiB or more is read piece by piece, each other FILE whole. One
+FILE can be -, the standard input.";
 
 /// The end of the long help of `curve`.
 const ABOUT_CURVE: &str = "\
@@ -293,7 +294,8 @@ Test 2 detects nothing new:
 With --format csv or json each row also has how many faults the test is the first
 to detect.
 
-Each FILE is read whole. One FILE can be -, the standard input.";
+A test file of 4 MiB or more is read piece by piece, each other FILE whole. One
+FILE can be -, the standard input.";
 
 /// The end of the long help of `compact`.
 const ABOUT_COMPACT: &str = "\
@@ -330,10 +332,11 @@ tests:
     2
     3
 
-With --order steepest the test that detects the most fault classes comes first,
-then the test that detects the most of the other classes, and so on. Under
-transition-pairs the pairs are in this order; transition has only the order of
-the list.
+With --order steepest the kept tests have another order: first the one that
+detects the most fault classes, then the one that detects the most of the other
+classes, and so on, until no kept test detects a class anew. (A test that is not
+kept may detect more than the first.) Under transition-pairs the pairs are in
+this order; transition has only the order of the list.
 
 Each FILE is read whole. One FILE can be -, the standard input.";
 

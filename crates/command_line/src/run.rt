@@ -46,7 +46,7 @@ fn report_form<'a>(contents: Contents, split: Split, why: bool) -> Result<Form, 
             classes: contents.classes,
             split,
         }),
-        (true, Lines::Omitted | Lines::All) => Err(CommandError::Misused("--why")),
+        (true, Lines::Omitted | Lines::All) => Err(CommandError::Unfit("--why", NO_WHY)),
     }
 }
 
@@ -67,9 +67,12 @@ fn table_form<'a>(
             split,
         }),
         (true, Lines::Undetected) => Ok(Form::ReasonTable { format, split }),
-        (true, Lines::Omitted | Lines::All) => Err(CommandError::Misused("--why")),
+        (true, Lines::Omitted | Lines::All) => Err(CommandError::Unfit("--why", NO_WHY)),
     }
 }
+
+/// The reason why `--why` cannot be used alone.
+const NO_WHY: &str = "give --undetected, too";
 
 /// The reason why `--parts` cannot be used beside `--part`.
 const BESIDE_PART: &str = "give --part or --parts, not both";

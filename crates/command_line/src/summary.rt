@@ -28,17 +28,21 @@ pub(crate) fn read_request<'a, S: Source>(
     let Some(path) = matches.get_str("summary") else {
         return Ok(None);
     };
-    if is_standard_input(path) || is_input(matches, path) {
+    if is_standard_input(path) || is_input(matches, files, path) {
         return Err(CommandError::Unfit("--summary", NO_FILE));
     }
     let began = files.milliseconds();
     Ok(Some(Request { path, began }))
 }
 
-/// Returns whether the command line names this path for an input file.
-fn is_input(matches: &ArgMatches<'_>, path: &str) -> bool {
+/// Returns whether the command line names the file at this path for an input, by whatever path.
+fn is_input<S: Source>(matches: &ArgMatches<'_>, files: &S, path: &str) -> bool {
+    let wanted = files.identity(path);
     for option in ["bench", "tests"] {
-        if matches.get_str(option).is_some_and(|input| input == path) {
+        let Some(input) = matches.get_str(option) else {
+            continue;
+        };
+        if input == path || wanted.is_some() && files.identity(input) == wanted {
             return true;
         }
     }
