@@ -2,7 +2,7 @@
 use Rattle.std.proofs.Common.{◌≡◌, Option, None, Some, Result, Ok, Err, IfErr, OnOk, ap}
 use Rattle.std.proofs.Common.{◌∙◌, [], false, sym, true}
 use Rattle.std.specs.Prelude.{IfNone, IfSome, is_some}
-use Rattle.core.specs.Result.{result_ok}
+use Rattle.std.specs.Result.{result_ok}
 use Rattle.std.proofs.lemmas.Bool.{false≢true}
 use Rattle.patterns.specs.Tests.{TestList}
 use Rattle.block_sim.specs.Parts.{Parts, with_tests}
