@@ -1,7 +1,8 @@
 //! The report of a run that a gate watches.
 
 ghost use Rattle.std.specs.Prelude.{◌≡◌, ◌<◌, ◌≤◌, IfErr, OnOk, true};
-ghost use Rattle.block_sim.specs.Parts.{BelongTogether};
+ghost use Rattle.patterns.specs.Tests.{TestList};
+ghost use Rattle.block_sim.specs.Parts.{BelongTogether, with_tests};
 ghost use Rattle.job_loading.specs.Splits.{HasSomePart};
 ghost use Rattle.region_runs.specs.Refused.{ArePartsWithin, IsPartsFault};
 ghost use Rattle.report.specs.EndToEnd.{IsJobReportFault, IsReportOf, IsReportOfJob};
