@@ -11,7 +11,6 @@ use Rattle.workers.specs.declared.RunFault.TheVariants as run_fault
 use Rattle.workers.specs.Refused.{IsRunFault}
 use Rattle.workers.specs.Stops.{no_stop}
 use Rattle.job_loading.specs.declared.fault.SimFault.{SimFault}
-use Rattle.job_loading.specs.declared.fault.SimFault.TheVariants as fault
 use Rattle.job_loading.specs.Jobs.{IsJobOf, IsJobWithin}
 use Rattle.analysis_reports.specs.Detected.{IsCountFault, IsDetectionReportOf}
 use Rattle.analysis_reports.specs.Detected.{IsDetectionReportOfJob}

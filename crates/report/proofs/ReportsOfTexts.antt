@@ -1,6 +1,6 @@
 -- From the report of a job to the report of the files that the job was read from.
 use Rattle.std.proofs.Common.{◌≡◌, ◌∙◌, ℕ, ap, inl, inr, length, refl, subst, List}
-use Rattle.std.specs.Prelude.{Result, Ok, Err, IfErr, OnOk}
+use Rattle.std.specs.Prelude.{⊤, Result, Ok, Err, IfErr, OnOk}
 use Rattle.bench_net.specs.Refusal.{IsAccepted}
 use Rattle.bench_net.specs.Scan.{sources}
 use Rattle.bench_net.specs.Statement.{Statement}
@@ -11,6 +11,8 @@ use Rattle.orders.specs.Order.{HasMoves}
 use Rattle.patterns.specs.Tests.{HasTests, TestList}
 use Rattle.block_sim.specs.Parts.{Parts, piece_count}
 use Rattle.workers.specs.declared.RunFault.{RunFault}
+use Rattle.workers.specs.Refused.{IsRunFault}
+use Rattle.workers.specs.Stops.{no_stop}
 use Rattle.workers.specs.Verdict.{AreFirsts}
 use Rattle.byte_output.specs.Output.{Output}
 use Rattle.job_loading.specs.declared.fault.SimFault.{SimFault}
