@@ -4,8 +4,9 @@
  * below. It reads no text past its length and keeps nothing of what a caller passes.
  *
  * Rules that nothing checks; what is proved of the calls holds for callers that keep them:
- *   - No pointer is null, not even where a length is 0. While a call runs, nobody writes to what a
- *     pointer to const leads to, and only the call uses what any other pointer leads to.
+ *   - No pointer is null, not even where a length is 0, unless the call says that it may be. While a
+ *     call runs, nobody writes to what a pointer to const leads to, and only the call uses what any
+ *     other pointer leads to.
  *   - An fs_job is zeros before its first use, and only these calls change it. Never use a copy of
  *     one. Free it with fs_job_free, which leaves zeros; to free it again does nothing.
  *   - Give a handle to one call at a time. It may go to another thread, with a lock or the start or
@@ -97,6 +98,14 @@ enum {
  * same: fs_version() == FAULTSIM_VERSION. */
 #define FAULTSIM_VERSION 1
 uint32_t fs_version(void);
+
+/* Returns the release of the library, such as "0.3.0", or "0.3.0 (unproved)" if nothing of it was
+ * proved. The text lasts as long as the program. */
+const char *fs_release(void);
+
+/* Writes what a status says, and for FS_REFUSED what the fs_fault says, which may be null: no more
+ * than size - 1 bytes of it and a 0. Returns the number of its bytes without the 0, as snprintf. */
+size_t fs_message(uint32_t status, const fs_fault *fault, char *text, size_t size);
 
 /* Reads a circuit, lists the faults of a model and collapses them. The job has no tests yet. On
  * FS_DONE the handle has the new job, and what it had is freed; else it is as it was. */

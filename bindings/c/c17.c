@@ -152,11 +152,28 @@ static void wrong(fs_job *job) {
     MUST(detected(job) == 14);
 }
 
+/* Messages: all of one, as much as there is room for, and none. */
+static void messages(void) {
+    fs_fault fault = {.kind = FS_TESTS_WIDTH, .place = UINT64_MAX};
+    const char *whole = "tests line 18446744073709551615: wrong width";
+    char text[64] = "?", short_text[8];
+    MUST(fs_message(FS_REFUSED, &fault, text, 0) == strlen(whole) && text[0] == '?');
+    MUST(fs_message(FS_REFUSED, &fault, text, 64) == strlen(whole) && !strcmp(text, whole));
+    MUST(fs_message(FS_REFUSED, &fault, short_text, 8) == strlen(whole));
+    MUST(!strcmp(short_text, "tests l"));
+    fault.kind = 15;
+    MUST(fs_message(FS_REFUSED, &fault, text, 64) == 7 && !strcmp(text, "unknown"));
+    fs_message(FS_REFUSED, NULL, text, 64);
+    MUST(!strcmp(text, "a text or words are wrong"));
+    fs_message(6, NULL, text, 64);
+    MUST(!strcmp(text, "unknown status 6"));
+}
+
 int main(void) {
     fs_job job = {0};
     fs_fault fault = {0};
     fs_sizes n;
-    MUST(fs_version() == FAULTSIM_VERSION);
+    MUST(fs_version() == FAULTSIM_VERSION && strchr("0123456789", fs_release()[0]));
     MUST(fs_sizes_of(&job, &n) == FS_NO_JOB);
     MUST(fs_job_read(FS_STUCK_AT, bytes(C17), strlen(C17), &job, &fault) == FS_DONE);
     MUST(fs_set_text(&job, bytes("11111\n"), 6, &fault) == FS_DONE);
@@ -165,6 +182,7 @@ int main(void) {
     shared(&job);
     wrong(&job);
     next();
+    messages();
     fs_job_free(&job);
     fs_job_free(&job);
     MUST(fs_sizes_of(&job, &n) == FS_NO_JOB);

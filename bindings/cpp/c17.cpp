@@ -24,6 +24,37 @@ static bool fails_with(std::uint32_t status, auto call) {
     return false;
 }
 
+// A job that is moved onto another frees the other's, and leaves its own to no one else.
+static bool moves() {
+    faultsim::Job onto("INPUT(a)\nOUTPUT(a)\n"), from(C17);
+    onto = std::move(from);
+    if (onto.sizes().faults != 34 || !fails_with(FS_NO_JOB, [&] { from.sizes(); }))
+        return false;
+    from = faultsim::Job("INPUT(a)\nOUTPUT(a)\n");
+    return onto.sizes().faults == 34 && from.sizes().sources == 1;
+}
+
+// Calls that must fail, of a job of C17.
+static bool fails(faultsim::Job job) {
+    try {
+        job.set_text("11111\n111\n");
+        return false;
+    } catch (const faultsim::Error &error) {
+        if (std::string_view(error.what()) != "tests line 2: wrong width")
+            return false;
+    }
+    // Classes that are in range, in spans that overlap.
+    std::array<std::uint32_t, 3> numbers{0, 1, 2};
+    auto read = std::span(numbers).first(2), written = std::span(numbers).subspan(1, 2);
+    return fails_with(FS_RANGE, [&] { job.detecting(1000, 0); })
+        && fails_with(FS_RANGE, [&] { job.fault_name(34); })
+        && fails_with(FS_RANGE, [&] { job.simulate(read, written); })
+        && fails_with(FS_RANGE, [&] { job.detections(read, 1, written); })
+        && numbers == std::array<std::uint32_t, 3>{0, 1, 2}
+        && fails_with(FS_REFUSED, [&] { job.set_text("111\n"); })
+        && fails_with(FS_REFUSED, [&] { faultsim::Job("z = AND(a, b)\n"); });
+}
+
 int main() {
     faultsim::Job job(C17);
     job.set_words(1, std::array<std::uint64_t, 5>{1, 1, 1, 1, 1});
@@ -65,20 +96,5 @@ int main() {
     buffer.next_words(1, std::array<std::uint64_t, 1>{1});
     if (buffer.sizes().tests != 2 || buffer.detecting(buffer.classes_of()[0], 0) != 2)
         return 1;
-    faultsim::Job moved = std::move(job);
-    try {
-        moved.set_text("11111\n111\n");
-        return 1;
-    } catch (const faultsim::Error &error) {
-        if (std::string_view(error.what()) != "tests line 2: wrong width")
-            return 1;
-    }
-    bool well = fails_with(FS_NO_JOB, [&] { job.sizes(); })
-        && fails_with(FS_RANGE, [&] { moved.detecting(1000, 0); })
-        && fails_with(FS_RANGE, [&] { moved.fault_name(34); })
-        && fails_with(FS_RANGE, [&] { moved.simulate(std::span(firsts).first(2),
-                                                     std::span(firsts).subspan(1, 2)); })
-        && fails_with(FS_REFUSED, [&] { moved.set_text("111\n"); })
-        && fails_with(FS_REFUSED, [&] { faultsim::Job("z = AND(a, b)\n"); });
-    return well ? 0 : 1;
+    return moves() && fails(std::move(job)) ? 0 : 1;
 }

@@ -1,7 +1,8 @@
 // faultsim.hpp: fault simulation from C++20, over faultsim.h.
 //
-// A Job owns its handle and moves. Give it to one thread at a time; share() makes another one for
-// another thread. A call that fails throws faultsim::Error, or std::bad_alloc if memory ran out.
+// A Job owns its handle and moves. Give it to one thread at a time, for const calls, too; share()
+// makes another one for another thread. A call that fails throws faultsim::Error, or std::bad_alloc
+// if memory ran out.
 #ifndef FAULTSIM_HPP
 #define FAULTSIM_HPP
 
@@ -51,40 +52,47 @@ public:
 
 private:
     static std::string text_of(std::uint32_t status, fs_fault fault) {
-        switch (status) {
-        case FS_NO_JOB: return "no job";
-        case FS_REFUSED: return text_of(fault);
-        case FS_RANGE: return "a number or a length is out of range";
-        case FS_SHARED: return "another handle shares the job";
-        default: return "status " + std::to_string(status);
-        }
-    }
-
-    // What is wrong; the place is for the braces.
-    static std::string text_of(fs_fault fault) {
-        static constexpr const char *kinds[] = {
-            "unknown",
-            "bench: more bytes than the limit",
-            "bench: more signals than the limit",
-            "bench: more pins than the limit",
-            "bench line {}: syntax",
-            "bench line {}: name defined before",
-            "bench line {}: name not defined",
-            "bench line {}: gate on a cycle, or fed by one",
-            "bench: no line",
-            "tests line {}: not 0 or 1",
-            "tests line {}: wrong width",
-            "tests: more than 65,536 rows",
-            "words: more than 65,536 tests",
-            "words: wrong number of words",
-            "words: source {} has a bit past the last test",
-        };
-        std::string text = kinds[fault.kind < std::size(kinds) ? fault.kind : 0];
-        if (auto braces = text.find("{}"); braces != text.npos)
-            text.replace(braces, 2, std::to_string(fault.place));
+        char least = 0;
+        std::string text(fs_message(status, &fault, &least, 1), '\0');
+        fs_message(status, &fault, text.data(), text.size() + 1);
         return text;
     }
 };
+
+namespace detail {
+
+inline void check(std::uint32_t status, fs_fault fault = {}) {
+    if (status == FS_MEMORY)
+        throw std::bad_alloc();
+    if (status != FS_DONE)
+        throw Error(status, fault);
+}
+
+// A call may not read what it writes.
+inline void check_apart(std::span<const std::uint32_t> read, std::span<std::uint32_t> written) {
+    std::less<const std::uint32_t *> before;
+    if (before(written.data(), read.data() + read.size())
+        && before(read.data(), written.data() + written.size()))
+        check(FS_RANGE);
+}
+
+inline void check_version() {
+    if (fs_version() != FAULTSIM_VERSION)
+        throw std::runtime_error("the library has another version than faultsim.h");
+}
+
+inline const std::uint8_t *bytes(std::string_view text) {
+    static constexpr std::uint8_t nothing = 0;
+    return text.empty() ? &nothing : reinterpret_cast<const std::uint8_t *>(text.data());
+}
+
+// The address of the first item. It is never null, not even of an empty span.
+template <class Item> Item *at(std::span<Item> items) {
+    static std::remove_const_t<Item> nothing{};
+    return items.empty() ? &nothing : items.data();
+}
+
+} // namespace detail
 
 // How many faults the tests of a job detect, and how many there are.
 struct Coverage {
@@ -96,12 +104,11 @@ class Job {
 public:
     // Reads a bench file's text. The job has no tests yet.
     explicit Job(std::string_view bench, Model model = Model::stuck_at) {
-        if (fs_version() != FAULTSIM_VERSION)
-            throw std::runtime_error("the library has another version than faultsim.h");
+        detail::check_version();
         fs_fault fault{};
-        check(fs_job_read(static_cast<std::uint32_t>(model), bytes(bench), bench.size(), &handle,
-                          &fault),
-              fault);
+        detail::check(fs_job_read(static_cast<std::uint32_t>(model), detail::bytes(bench),
+                                  bench.size(), &handle, &fault),
+                      fault);
     }
 
     Job(Job &&other) noexcept : handle(std::exchange(other.handle, fs_job{})) {}
@@ -121,26 +128,26 @@ public:
     // Makes a second job of the same circuit, faults and tests, for another thread.
     Job share() {
         Job other;
-        check(fs_job_share(&handle, &other.handle));
+        detail::check(fs_job_share(&handle, &other.handle));
         return other;
     }
 
-    fs_sizes sizes() {
+    fs_sizes sizes() const {
         fs_sizes sizes{};
-        check(fs_sizes_of(&handle, &sizes));
+        detail::check(fs_sizes_of(&handle, &sizes));
         return sizes;
     }
 
     // Takes the tests of a text: a line of 0s and 1s for each.
     void set_text(std::string_view text) {
         fs_fault fault{};
-        check(fs_set_text(&handle, bytes(text), text.size(), &fault), fault);
+        detail::check(fs_set_text(&handle, detail::bytes(text), text.size(), &fault), fault);
     }
 
     // Takes tests in words: for each block of 64 tests one for each source.
     void set_words(std::uint32_t count, std::span<const std::uint64_t> words) {
         fs_fault fault{};
-        check(fs_set_words(&handle, count, at(words), words.size(), &fault), fault);
+        detail::check(fs_set_words(&handle, count, detail::at(words), words.size(), &fault), fault);
     }
 
     // Takes tests in words after the job's last test, which is test 0 of the new list: so under
@@ -148,75 +155,76 @@ public:
     // Model::transition_pairs use set_words: this call would move the pairs by one test.
     void next_words(std::uint32_t count, std::span<const std::uint64_t> words) {
         fs_fault fault{};
-        check(fs_next_words(&handle, count, at(words), words.size(), &fault), fault);
+        detail::check(fs_next_words(&handle, count, detail::at(words), words.size(), &fault),
+                      fault);
     }
 
     // Returns the class of each fault.
-    std::vector<std::uint32_t> classes_of() {
+    std::vector<std::uint32_t> classes_of() const {
         std::vector<std::uint32_t> classes(sizes().faults);
-        check(fs_classes_of(&handle, at(std::span(classes)), classes.size()));
+        detail::check(fs_classes_of(&handle, detail::at(std::span(classes)), classes.size()));
         return classes;
     }
 
     // Returns the stem of each class, the signal at which its fanout-free region ends.
-    std::vector<std::uint32_t> stems_of() {
+    std::vector<std::uint32_t> stems_of() const {
         std::vector<std::uint32_t> stems(sizes().classes);
-        check(fs_stems_of(&handle, at(std::span(stems)), stems.size()));
+        detail::check(fs_stems_of(&handle, detail::at(std::span(stems)), stems.size()));
         return stems;
     }
 
-    std::string name_of(std::uint32_t signal) {
+    std::string name_of(std::uint32_t signal) const {
         return text([&](auto... room) { return fs_name_of(&handle, signal, room...); });
     }
 
     // Returns the name of a fault, as each line of `faultsim faults` begins: `stem G1 sa0`.
-    std::string fault_name(std::uint32_t fault) {
+    std::string fault_name(std::uint32_t fault) const {
         return text([&](auto... room) { return fs_fault_text(&handle, fault, room...); });
     }
 
     // Returns the place of a signal in a test, from 0, or none for the signal of a gate.
-    std::optional<std::uint32_t> source_of(std::uint32_t signal) {
+    std::optional<std::uint32_t> source_of(std::uint32_t signal) const {
         std::uint32_t place = 0;
         std::uint32_t status = fs_source_of(&handle, signal, &place);
         if (status == FS_RANGE)
             return std::nullopt;
-        check(status);
+        detail::check(status);
         return place;
     }
 
     // Returns the fault-free value of a signal: bit k is that in test 64 * block + k. Bits past the
     // last test may be 1.
-    std::uint64_t word(std::uint32_t block, std::uint32_t signal) {
+    std::uint64_t word(std::uint32_t block, std::uint32_t signal) const {
         std::uint64_t word = 0;
-        check(fs_word(&handle, block, signal, &word));
+        detail::check(fs_word(&handle, block, signal, &word));
         return word;
     }
 
-    // Returns the signal of each observer: the OUTPUT lines, and then the data pins of the flip-flops.
-    std::vector<std::uint32_t> observers() {
+    // Returns the signal of each observer: the OUTPUT lines, then the data pins of the flip-flops.
+    std::vector<std::uint32_t> observers() const {
         std::size_t wanted = 0;
         std::uint32_t nothing = 0;
         if (std::uint32_t status = fs_observers_of(&handle, &nothing, 0, &wanted);
             status != FS_RANGE || wanted == 0) {
-            check(status);
+            detail::check(status);
             return {};
         }
         std::vector<std::uint32_t> signals(wanted);
-        check(fs_observers_of(&handle, signals.data(), signals.size(), &wanted));
+        detail::check(fs_observers_of(&handle, signals.data(), signals.size(), &wanted));
         return signals;
     }
 
     // Returns the fault-free values of the observers: for each block a word for each of them. Bits
     // past the last test may be 1.
-    std::vector<std::uint64_t> responses() {
+    std::vector<std::uint64_t> responses() const {
         std::vector<std::uint64_t> words(sizes().blocks * observers().size());
-        check(fs_responses(&handle, at(std::span(words)), words.size()));
+        detail::check(fs_responses(&handle, detail::at(std::span(words)), words.size()));
         return words;
     }
 
     // Returns the report that `faultsim run` writes: the lines that are asked for, the coverage, and
     // with `classes` that of the classes.
-    std::string report(Lines lines = Lines::none, bool classes = false) {
+    std::string report(Lines lines = Lines::none, bool classes = false) const {
         return text([&](auto... room) {
             return fs_report(&handle, static_cast<std::uint32_t>(lines), classes, room...);
         });
@@ -224,13 +232,14 @@ public:
 
     // Writes for each class of a list the first test that detects it, or FS_NONE. The lengths are
     // equal. Spans that overlap are out of range.
-    void simulate(std::span<const std::uint32_t> classes, std::span<std::uint32_t> firsts) {
-        check_apart(classes, firsts);
-        check(fs_simulate(&handle, at(classes), classes.size(), at(firsts), firsts.size()));
+    void simulate(std::span<const std::uint32_t> classes, std::span<std::uint32_t> firsts) const {
+        detail::check_apart(classes, firsts);
+        detail::check(fs_simulate(&handle, detail::at(classes), classes.size(),
+                                  detail::at(firsts), firsts.size()));
     }
 
     // Returns how many faults the tests detect, and how many there are.
-    Coverage coverage() {
+    Coverage coverage() const {
         std::vector<std::uint32_t> classes(sizes().classes), firsts(classes.size());
         std::iota(classes.begin(), classes.end(), 0u);
         simulate(classes, firsts);
@@ -243,9 +252,9 @@ public:
     }
 
     // Returns a word: bit k is 1 exactly if test 64 * block + k detects the class.
-    std::uint64_t detecting(std::uint32_t class_number, std::uint32_t block) {
+    std::uint64_t detecting(std::uint32_t class_number, std::uint32_t block) const {
         std::uint64_t lanes = 0;
-        check(fs_detecting(&handle, class_number, block, &lanes));
+        detail::check(fs_detecting(&handle, class_number, block, &lanes));
         return lanes;
     }
 
@@ -253,10 +262,10 @@ public:
     // are equal. Spans that overlap are out of range. It simulates class by class, and so takes many
     // times as long as simulate.
     void detections(std::span<const std::uint32_t> classes, std::uint32_t most,
-                    std::span<std::uint32_t> counts) {
-        check_apart(classes, counts);
-        check(fs_detections(&handle, at(classes), classes.size(), most, at(counts),
-                            counts.size()));
+                    std::span<std::uint32_t> counts) const {
+        detail::check_apart(classes, counts);
+        detail::check(fs_detections(&handle, detail::at(classes), classes.size(), most,
+                                    detail::at(counts), counts.size()));
     }
 
 private:
@@ -268,42 +277,34 @@ private:
         std::size_t wanted = 0;
         std::uint32_t status = call(&nothing, std::size_t{0}, &wanted);
         if (status != FS_RANGE || wanted == 0) {
-            check(status);
+            detail::check(status);
             return {};
         }
         std::string text(wanted, '\0');
-        check(call(reinterpret_cast<std::uint8_t *>(text.data()), text.size(), &wanted));
+        detail::check(call(reinterpret_cast<std::uint8_t *>(text.data()), text.size(), &wanted));
         return text;
     }
 
-    static void check(std::uint32_t status, fs_fault fault = {}) {
-        if (status == FS_MEMORY)
-            throw std::bad_alloc();
-        if (status != FS_DONE)
-            throw Error(status, fault);
-    }
-
-    // A call may not read what it writes.
-    static void check_apart(std::span<const std::uint32_t> read, std::span<std::uint32_t> written) {
-        std::less<const std::uint32_t *> before;
-        if (before(written.data(), read.data() + read.size())
-            && before(read.data(), written.data() + written.size()))
-            check(FS_RANGE);
-    }
-
-    static const std::uint8_t *bytes(std::string_view text) {
-        static constexpr std::uint8_t nothing = 0;
-        return text.empty() ? &nothing : reinterpret_cast<const std::uint8_t *>(text.data());
-    }
-
-    // The address of the first item. It is never null, not even of an empty span.
-    template <class Item> static Item *at(std::span<Item> items) {
-        static std::remove_const_t<Item> nothing{};
-        return items.empty() ? &nothing : items.data();
-    }
-
-    fs_job handle{};
+    // The calls that change nothing of the job write to its handle while they run.
+    mutable fs_job handle{};
 };
+
+// Returns the first test of a text that detects each fault of a circuit, or FS_NONE.
+inline std::vector<std::uint32_t> firsts(std::string_view bench, std::string_view tests,
+                                         Model model = Model::stuck_at) {
+    detail::check_version();
+    std::vector<std::uint32_t> firsts;
+    std::uint32_t status = FS_RANGE, faults = 0;
+    fs_fault fault{};
+    for (int turn = 0; status == FS_RANGE && turn < 2; turn++) {
+        firsts.resize(faults);
+        status = fs_firsts(static_cast<std::uint32_t>(model), detail::bytes(bench), bench.size(),
+                           detail::bytes(tests), tests.size(), detail::at(std::span(firsts)),
+                           firsts.size(), &faults, &fault);
+    }
+    detail::check(status, fault);
+    return firsts;
+}
 
 } // namespace faultsim
 

@@ -3,6 +3,7 @@
 import copy
 import pathlib
 import pickle
+import resource
 import signal
 import subprocess
 import sys
@@ -10,6 +11,7 @@ import tempfile
 import threading
 import unittest
 from array import array
+from unittest import mock
 
 import faultsim
 
@@ -64,6 +66,21 @@ class Reading(unittest.TestCase):
         with self.assertRaises(TypeError):
             faultsim.Job(AND, "stuck")
 
+    def test_name_of_a_file_in_place_of_its_text(self):
+        for text, hint in (
+            ("no.bench", "('no.bench' looks like the name of a file, and a job takes the text in it)"),
+            (__file__, f"({__file__!r} is the name of a file, and a job takes the text in it)"),
+            ("z = \n", ""),
+        ):
+            with self.assertRaises(faultsim.Error) as caught:
+                faultsim.Job(text)
+            said = str(caught.exception)
+            self.assertEqual(said, f"bench line 1: syntax {hint}".rstrip())
+            self.assertEqual(str(pickle.loads(pickle.dumps(caught.exception))), said)
+
+    def test_release_is_that_of_the_package(self):
+        self.assertIn(faultsim.release(), (faultsim.__version__, f"{faultsim.__version__} (unproved)"))
+
     def test_closed(self):
         job = faultsim.Job(AND)
         job.close()
@@ -101,6 +118,19 @@ class Tests(unittest.TestCase):
                 with self.assertRaises(error):
                     job.set_tests(tests, count)
                 self.assertEqual((job.tests, job.coverage()), (1, (3, 6)))
+
+    def test_lists_of_other_things(self):
+        with faultsim.Job(AND) as job:
+            job.set_tests("11\n")
+            for call in (
+                lambda: job.simulate([True, False]),
+                lambda: job.simulate([[0, 1], [2, 3]]),
+                lambda: job.detections(1, [True]),
+                lambda: job.set_tests([True, True], count=1),
+            ):
+                with self.assertRaises(TypeError):
+                    call()
+            self.assertEqual(job.coverage(), (3, 6))
 
     def test_pair_over_the_edge(self):
         # A buffer: under 0 and then 1 the 1 detects that a line is slow to rise.
@@ -210,6 +240,42 @@ class Threads(unittest.TestCase):
             job.set_tests("11111\n")
             self.assertEqual(job.coverage(workers=4), (14, 34))
 
+    def test_other_threads_work(self):
+        # The caller's thread takes no share until another thread has taken one.
+        own, part = threading.current_thread(), faultsim.Job._part
+
+        def note(job, asked):
+            if threading.current_thread() is own:
+                self.assertTrue(elsewhere.wait(60))
+            else:
+                elsewhere.set()
+            return part(job, asked)
+
+        with faultsim.Job(C17) as job, mock.patch.object(faultsim.Job, "_part", note):
+            job.set_tests("11111\n01010\n")
+            for call in (job.simulate, job.first_tests, job.coverage):
+                elsewhere = threading.Event()
+                wanted = call()
+                self.assertFalse(elsewhere.is_set())
+                self.assertEqual(list(call(workers=3)), list(wanted))
+                self.assertTrue(elsewhere.is_set(), call)
+
+    def test_error_of_another_thread(self):
+        # The caller's thread takes no share until another thread has failed with one.
+        failed, own, part = threading.Event(), threading.current_thread(), faultsim.Job._part
+
+        def fail_elsewhere(job, asked):
+            if threading.current_thread() is own:
+                self.assertTrue(failed.wait(60))
+                return part(job, asked)
+            failed.set()
+            raise MemoryError("elsewhere")
+
+        with faultsim.Job(C17) as job, mock.patch.object(faultsim.Job, "_part", fail_elsewhere):
+            job.set_tests("11111\n")
+            with self.assertRaisesRegex(MemoryError, "elsewhere"):
+                job.simulate(workers=2)
+
     def test_shared_tests_stay(self):
         with faultsim.Job(AND) as job, job.share() as other:
             for it in (job, other):
@@ -298,6 +364,101 @@ class Threads(unittest.TestCase):
                 signal.signal(signal.SIGALRM, before)
         self.assertEqual(set(said), {(14, 34)})
 
+    def test_signal_handler_that_raises(self):
+        # Whatever a handler stops, the next tests free what it left. What it stops as a job is
+        # collected, Python tells to a hook.
+        class Stop(Exception):
+            pass
+
+        def forget(_):
+            pass
+
+        def stop(*_):
+            if armed:
+                raise Stop
+
+        rows, stopped, armed = [[1, 1, 1, 1, 1], [0, 1, 0, 1, 0]], 0, []
+        before = signal.signal(signal.SIGALRM, stop)
+        try:
+            with faultsim.Job(C17) as job, mock.patch("sys.unraisablehook", forget):
+                for turn in range(300):
+                    try:
+                        armed.append(turn)
+                        signal.setitimer(signal.ITIMER_REAL, 0.0002 + 0.00002 * (turn % 97))
+                        job.set_tests(rows)
+                        job.simulate(workers=3)
+                        job.share().close()
+                        job.share()
+                        armed.clear()
+                    except Stop:
+                        armed.clear()
+                        stopped += 1
+                job.set_tests("11111\n")
+                self.assertEqual(job.coverage(workers=2), (14, 34))
+        finally:
+            signal.setitimer(signal.ITIMER_REAL, 0)
+            signal.signal(signal.SIGALRM, before)
+        self.assertGreater(stopped, 0)
+
+    def test_job_that_was_not_freed(self):
+        # As if a signal handler raised where a job that shares this one is collected.
+        with faultsim.Job(C17) as job:
+            other = job.share()
+            with mock.patch.object(faultsim.Job, "__del__", lambda _: None):
+                del other
+            job.set_tests("11111\n")
+            self.assertEqual(job.coverage(), (14, 34))
+            other = job.share()
+            with self.assertRaises(RuntimeError):
+                job.set_tests("11111\n")
+            other.close()
+
+    def test_tests_of_a_handler_amid_a_call(self):
+        # The other thread waits until the caller's thread, amid a share, has set other tests.
+        part, were_set = faultsim.Job._part, threading.Event()
+
+        def set_tests_first(job, asked):
+            if job is not whole:
+                self.assertTrue(were_set.wait(60))
+            elif not were_set.is_set():
+                job.set_tests("11111\n11111\n")
+                were_set.set()
+            return part(job, asked)
+
+        with faultsim.Job(C17) as whole, mock.patch.object(faultsim.Job, "_part", set_tests_first):
+            whole.set_tests("11111\n")
+            with self.assertRaisesRegex(RuntimeError, "other tests"):
+                whole.simulate(workers=2)
+            self.assertEqual((whole.tests, whole.coverage(workers=2)), (2, (14, 34)))
+
+    def test_memory_is_freed(self):
+        # A chain of 2,000 gates takes megabytes. 60 jobs that stay would take over 60 MB.
+        gates = "".join(f"n{i} = NOT(n{i - 1})\n" for i in range(1, 2000))
+        bench = f"INPUT(n0)\nOUTPUT(n1999)\n{gates}"
+
+        def resident():
+            with open("/proc/self/statm", encoding="ascii") as file:
+                return int(file.read().split()[1]) * resource.getpagesize()
+
+        def read_again(job):
+            job.__init__(bench)
+
+        def close(job):
+            job.close()
+
+        for free in (read_again, close):
+            job = faultsim.Job(bench)
+            with faultsim.Job(bench) as other:
+                self.assertEqual(other.sources, 1)
+            before = resident()
+            kept = [job]
+            for _ in range(60):
+                free(kept[-1])
+                if free is close:
+                    kept.append(faultsim.Job(bench))
+            self.assertLess(resident() - before, 20_000_000, free.__name__)
+            kept[-1].close()
+
     def test_no_copies(self):
         with faultsim.Job(AND) as job:
             for call in (copy.copy, copy.deepcopy, pickle.dumps):
@@ -335,6 +496,26 @@ class InOneCall(unittest.TestCase):
             said = subprocess.run(words, capture_output=True, text=True, check=True)
         self.assertEqual(said.stdout, "14 of 34 (41.17%)\n")
 
+    def test_module_with_a_model(self):
+        # Under 0 and then 1 a buffer's two lines are slow to rise, of four faults.
+        for model, wanted in (
+            ("stuck", "4 of 4 (100.00%)\n"),
+            ("transition", "2 of 4 (50.00%)\n"),
+            ("transition-pairs", "2 of 4 (50.00%)\n"),
+        ):
+            self.assertEqual(self.printed("0\n1\n", model), wanted)
+        self.assertEqual(self.printed("1\n0\n1\n", "transition"), "4 of 4 (100.00%)\n")
+        self.assertEqual(self.printed("1\n0\n1\n", "transition-pairs"), "2 of 4 (50.00%)\n")
+
+    def printed(self, tests, model):
+        """What the module prints of a buffer."""
+        with tempfile.TemporaryDirectory() as folder:
+            bench, rows = pathlib.Path(folder, "a.bench"), pathlib.Path(folder, "a.tests")
+            bench.write_text("INPUT(a)\nOUTPUT(z)\nz = BUFF(a)\n", encoding="ascii")
+            rows.write_text(tests, encoding="ascii")
+            words = [sys.executable, "-m", "faultsim", str(bench), str(rows), model]
+            return subprocess.run(words, capture_output=True, text=True, check=True).stdout
+
 
 @unittest.skipIf(faultsim.numpy is None, "numpy is not there")
 class Arrays(unittest.TestCase):
@@ -347,6 +528,42 @@ class Arrays(unittest.TestCase):
             self.assertEqual(int(firsts[int(job.classes_of()[4])]), 70)
             with self.assertRaises(IndexError):
                 job.set_tests(faultsim.numpy.zeros((2, 3)))
+
+    def test_shapes_of_words(self):
+        # 65 tests of two sources: only the last has a 1 at a, and only test 63 one at b.
+        numpy = faultsim.numpy
+        words = numpy.array([[0, 1 << 63], [1, 0]], numpy.uint64)
+        with faultsim.Job(AND) as job:
+            for right in (words, numpy.asfortranarray(words), words.astype(">u8")):
+                job.set_tests(right, count=65)
+                self.assertEqual([job.word(0, 0), job.word(0, 1)], [0, 1 << 63])
+                self.assertEqual([job.word(1, it) & 1 for it in (0, 1)], [1, 0])
+            job.set_tests(numpy.zeros((3, 2), numpy.uint64), count=129)
+            for wrong in (
+                numpy.zeros((2, 3), numpy.uint64),
+                numpy.zeros((6, 1), numpy.uint64),
+                numpy.zeros((1, 3, 2), numpy.uint64),
+                numpy.array(0, numpy.uint64),
+            ):
+                with self.assertRaisesRegex(IndexError, "shape"):
+                    job.set_tests(wrong, count=129)
+            self.assertEqual(job.tests, 129)
+
+    def test_masked_arrays_and_shapes_of_lists(self):
+        masked = faultsim.numpy.ma.masked_array
+        with faultsim.Job(AND) as job:
+            job.set_tests("11\n")
+            for call in (
+                lambda: job.simulate(masked([0, 1], mask=[True, False])),
+                lambda: job.set_tests(masked([[1, 1]], mask=[[True, False]])),
+                lambda: job.set_tests(masked([1, 1], mask=[True, False]), count=1),
+            ):
+                with self.assertRaises(TypeError):
+                    call()
+            for wrong in (faultsim.numpy.zeros((2, 2), int), faultsim.numpy.array(3)):
+                with self.assertRaisesRegex(IndexError, "shape"):
+                    job.simulate(wrong)
+            self.assertEqual((job.tests, job.coverage()), (1, (3, 6)))
 
     def test_arrays_of_other_numbers(self):
         numpy = faultsim.numpy

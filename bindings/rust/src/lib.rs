@@ -8,7 +8,9 @@ mod sys;
 
 pub use sys::{Fault, Sizes};
 
+use std::cell::UnsafeCell;
 use std::error::Error as StdError;
+use std::ffi::CStr;
 use std::fmt;
 use sys::Handle;
 
@@ -91,36 +93,30 @@ impl Kind {
     }
 }
 
-/// What is wrong, by the kind of a [`Fault`]; its place is for the braces.
-const KINDS: [&str; 15] = [
-    "unknown",
-    "bench: more bytes than the limit",
-    "bench: more signals than the limit",
-    "bench: more pins than the limit",
-    "bench line {}: syntax",
-    "bench line {}: name defined before",
-    "bench line {}: name not defined",
-    "bench line {}: gate on a cycle, or fed by one",
-    "bench: no line",
-    "tests line {}: not 0 or 1",
-    "tests line {}: wrong width",
-    "tests: more than 65,536 rows",
-    "words: more than 65,536 tests",
-    "words: wrong number of words",
-    "words: source {} has a bit past the last test",
-];
+impl Error {
+    /// Returns the status that `faultsim.h` has for it.
+    fn status(self) -> u32 {
+        match self {
+            Error::Memory => 2,
+            Error::Refused(_) => 3,
+            Error::OutOfRange => 4,
+            Error::Shared => 5,
+        }
+    }
+}
 
 impl fmt::Display for Error {
     fn fmt(&self, to: &mut fmt::Formatter<'_>) -> fmt::Result {
-        match self {
-            Error::Memory => write!(to, "out of memory"),
-            Error::Refused(fault) => {
-                let kind = KINDS.get(fault.kind as usize).unwrap_or(&KINDS[0]);
-                write!(to, "{}", kind.replace("{}", &fault.place.to_string()))
-            }
-            Error::OutOfRange => write!(to, "a number or a length is out of range"),
-            Error::Shared => write!(to, "another job shares the tests"),
-        }
+        let fault = match self {
+            Error::Refused(fault) => *fault,
+            _ => Fault::default(),
+        };
+        let mut text = [0; 128];
+        // SAFETY: each pointer comes of a reference, and the length is that of the room.
+        let wanted =
+            unsafe { sys::fs_message(self.status(), &fault, text.as_mut_ptr().cast(), text.len()) };
+        let said = &text[..wanted.min(text.len() - 1)];
+        to.write_str(&String::from_utf8_lossy(said))
     }
 }
 
@@ -139,22 +135,26 @@ fn told(status: u32, fault: Fault) -> Result<(), Error> {
 
 /// A circuit, its faults in classes, and tests.
 #[derive(Debug)]
-pub struct Job(Handle);
+pub struct Job(UnsafeCell<Handle>);
 
 // SAFETY: the library's proof says that what a handle holds may go to another thread.
 unsafe impl Send for Job {}
 
 impl Job {
+    fn none() -> Job {
+        Job(UnsafeCell::new(Handle::EMPTY))
+    }
+
     /// Reads a bench file's text. The job has no tests yet.
     pub fn read(model: Model, bench: &[u8]) -> Result<Job, Error> {
-        let (mut job, mut fault) = (Job(Handle::EMPTY), Fault::default());
+        let (job, mut fault) = (Job::none(), Fault::default());
         // SAFETY: each pointer comes of a reference, and the handle is zeros.
         let status = unsafe {
             sys::fs_job_read(
                 model as u32,
                 bench.as_ptr(),
                 bench.len(),
-                &mut job.0,
+                job.0.get(),
                 &mut fault,
             )
         };
@@ -164,20 +164,20 @@ impl Job {
 
     /// Makes a second job of the same circuit, faults and tests, for another thread.
     pub fn share(&mut self) -> Result<Job, Error> {
-        let mut other = Job(Handle::EMPTY);
+        let other = Job::none();
         // SAFETY: as above, and the two handles are two.
         told(
-            unsafe { sys::fs_job_share(&mut self.0, &mut other.0) },
+            unsafe { sys::fs_job_share(self.0.get(), other.0.get()) },
             Fault::default(),
         )?;
         Ok(other)
     }
 
     /// Returns the sizes of the job.
-    pub fn sizes(&mut self) -> Sizes {
+    pub fn sizes(&self) -> Sizes {
         let mut sizes = Sizes::default();
         // SAFETY: as above. A `Job` has a job, so the call is done.
-        unsafe { sys::fs_sizes_of(&mut self.0, &mut sizes) };
+        unsafe { sys::fs_sizes_of(self.0.get(), &mut sizes) };
         sizes
     }
 
@@ -187,7 +187,7 @@ impl Job {
         let mut fault = Fault::default();
         // SAFETY: as above.
         let status = unsafe {
-            sys::fs_set_words(&mut self.0, count, words.as_ptr(), words.len(), &mut fault)
+            sys::fs_set_words(self.0.get(), count, words.as_ptr(), words.len(), &mut fault)
         };
         told(status, fault)
     }
@@ -200,7 +200,7 @@ impl Job {
         let mut fault = Fault::default();
         // SAFETY: as above.
         let status = unsafe {
-            sys::fs_next_words(&mut self.0, count, words.as_ptr(), words.len(), &mut fault)
+            sys::fs_next_words(self.0.get(), count, words.as_ptr(), words.len(), &mut fault)
         };
         told(status, fault)
     }
@@ -210,28 +210,28 @@ impl Job {
         let mut fault = Fault::default();
         // SAFETY: as above.
         let status =
-            unsafe { sys::fs_set_text(&mut self.0, text.as_ptr(), text.len(), &mut fault) };
+            unsafe { sys::fs_set_text(self.0.get(), text.as_ptr(), text.len(), &mut fault) };
         told(status, fault)
     }
 
     /// Returns the class of each fault.
-    pub fn classes_of(&mut self) -> Vec<u32> {
+    pub fn classes_of(&self) -> Vec<u32> {
         let mut of = vec![0; self.sizes().faults as usize];
         // SAFETY: as above, and the length is the number of faults.
-        unsafe { sys::fs_classes_of(&mut self.0, of.as_mut_ptr(), of.len()) };
+        unsafe { sys::fs_classes_of(self.0.get(), of.as_mut_ptr(), of.len()) };
         of
     }
 
     /// Returns the stem of each class, the signal at which its fanout-free region ends.
-    pub fn stems_of(&mut self) -> Vec<u32> {
+    pub fn stems_of(&self) -> Vec<u32> {
         let mut stems = vec![0; self.sizes().classes as usize];
         // SAFETY: as above, and the length is the number of classes.
-        unsafe { sys::fs_stems_of(&mut self.0, stems.as_mut_ptr(), stems.len()) };
+        unsafe { sys::fs_stems_of(self.0.get(), stems.as_mut_ptr(), stems.len()) };
         stems
     }
 
     /// Returns the name of a signal.
-    pub fn name_of(&mut self, signal: u32) -> Result<String, Error> {
+    pub fn name_of(&self, signal: u32) -> Result<String, Error> {
         // SAFETY: as above; the call tests the number.
         self.text(|job, text, room, wanted| unsafe {
             sys::fs_name_of(job, signal, text, room, wanted)
@@ -239,7 +239,7 @@ impl Job {
     }
 
     /// Returns the name of a fault, as each line of `faultsim faults` begins: `stem G1 sa0`.
-    pub fn fault_name(&mut self, fault: u32) -> Result<String, Error> {
+    pub fn fault_name(&self, fault: u32) -> Result<String, Error> {
         // SAFETY: as above; the call tests the number.
         self.text(|job, text, room, wanted| unsafe {
             sys::fs_fault_text(job, fault, text, room, wanted)
@@ -248,12 +248,12 @@ impl Job {
 
     /// Returns the text of a call whose last argument gets the number of its bytes.
     fn text(
-        &mut self,
+        &self,
         call: impl Fn(*mut Handle, *mut u8, usize, *mut usize) -> u32,
     ) -> Result<String, Error> {
         let (mut text, mut wanted) = (Vec::new(), 0);
         loop {
-            let status = call(&mut self.0, text.as_mut_ptr(), text.len(), &mut wanted);
+            let status = call(self.0.get(), text.as_mut_ptr(), text.len(), &mut wanted);
             if status == 4 && text.len() < wanted {
                 text.resize(wanted, 0);
                 continue;
@@ -264,33 +264,33 @@ impl Job {
     }
 
     /// Returns the place of a signal in a test, from 0, or none for the signal of a gate.
-    pub fn source_of(&mut self, signal: u32) -> Option<u32> {
+    pub fn source_of(&self, signal: u32) -> Option<u32> {
         let mut place = 0;
         // SAFETY: as above; the call tests the number.
-        let status = unsafe { sys::fs_source_of(&mut self.0, signal, &mut place) };
+        let status = unsafe { sys::fs_source_of(self.0.get(), signal, &mut place) };
         (status == 0).then_some(place)
     }
 
     /// Returns the fault-free value of a signal: bit k is that in test `64 * block + k`. Bits past the
     /// last test may be 1.
-    pub fn word(&mut self, block: u32, signal: u32) -> Result<u64, Error> {
+    pub fn word(&self, block: u32, signal: u32) -> Result<u64, Error> {
         let mut word = 0;
         // SAFETY: as above; the call tests the numbers.
         told(
-            unsafe { sys::fs_word(&mut self.0, block, signal, &mut word) },
+            unsafe { sys::fs_word(self.0.get(), block, signal, &mut word) },
             Fault::default(),
         )?;
         Ok(word)
     }
 
     /// Returns the signal of each observer: the OUTPUT lines, and then the data pins of the flip-flops.
-    pub fn observers(&mut self) -> Vec<u32> {
+    pub fn observers(&self) -> Vec<u32> {
         let (mut signals, mut wanted) = (Vec::new(), 0);
         loop {
             // SAFETY: as above.
             unsafe {
                 sys::fs_observers_of(
-                    &mut self.0,
+                    self.0.get(),
                     signals.as_mut_ptr(),
                     signals.len(),
                     &mut wanted,
@@ -305,16 +305,16 @@ impl Job {
 
     /// Returns the fault-free values of the observers: for each block a word for each of them. Bits
     /// past the last test may be 1.
-    pub fn responses(&mut self) -> Vec<u64> {
+    pub fn responses(&self) -> Vec<u64> {
         let mut words = vec![0; self.sizes().blocks as usize * self.observers().len()];
         // SAFETY: as above, and the length is that of the words.
-        unsafe { sys::fs_responses(&mut self.0, words.as_mut_ptr(), words.len()) };
+        unsafe { sys::fs_responses(self.0.get(), words.as_mut_ptr(), words.len()) };
         words
     }
 
     /// Returns the report that `faultsim run` writes: the lines that are asked for, the coverage, and
     /// with `classes` that of the classes.
-    pub fn report(&mut self, lines: Lines, classes: bool) -> Result<String, Error> {
+    pub fn report(&self, lines: Lines, classes: bool) -> Result<String, Error> {
         // SAFETY: as above; the call tests the number.
         self.text(|job, text, room, wanted| unsafe {
             sys::fs_report(job, lines as u32, classes, text, room, wanted)
@@ -322,12 +322,12 @@ impl Job {
     }
 
     /// Finds the first test that detects each class of a list.
-    pub fn simulate(&mut self, classes: &[u32]) -> Result<Vec<Option<u32>>, Error> {
+    pub fn simulate(&self, classes: &[u32]) -> Result<Vec<Option<u32>>, Error> {
         let mut firsts = vec![0; classes.len()];
         // SAFETY: as above; the call tests the classes.
         let status = unsafe {
             sys::fs_simulate(
-                &mut self.0,
+                self.0.get(),
                 classes.as_ptr(),
                 classes.len(),
                 firsts.as_mut_ptr(),
@@ -339,22 +339,22 @@ impl Job {
     }
 
     /// Returns a word: bit k is 1 exactly if test `64 * block + k` detects the class.
-    pub fn detecting(&mut self, class: u32, block: u32) -> Result<u64, Error> {
+    pub fn detecting(&self, class: u32, block: u32) -> Result<u64, Error> {
         let mut lanes = 0;
         // SAFETY: as above; the call tests the numbers.
-        let status = unsafe { sys::fs_detecting(&mut self.0, class, block, &mut lanes) };
+        let status = unsafe { sys::fs_detecting(self.0.get(), class, block, &mut lanes) };
         told(status, Fault::default())?;
         Ok(lanes)
     }
 
     /// Counts how many tests detect each class of a list, no more than `most` of a class. It
     /// simulates class by class, and so takes many times as long as [`Job::simulate`].
-    pub fn detections(&mut self, classes: &[u32], most: u32) -> Result<Vec<u32>, Error> {
+    pub fn detections(&self, classes: &[u32], most: u32) -> Result<Vec<u32>, Error> {
         let mut counts = vec![0; classes.len()];
         // SAFETY: as above; the call tests the classes.
         let status = unsafe {
             sys::fs_detections(
-                &mut self.0,
+                self.0.get(),
                 classes.as_ptr(),
                 classes.len(),
                 most,
@@ -367,14 +367,14 @@ impl Job {
     }
 
     /// Returns the number of faults that the job's tests detect, and the number of all faults.
-    pub fn coverage(&mut self) -> Result<(u32, u32), Error> {
+    pub fn coverage(&self) -> Result<(u32, u32), Error> {
         let firsts: Vec<_> = self.faults()?.map(|it| it.first).collect();
         let found = firsts.iter().filter(|it| it.is_some()).count();
         Ok((found as u32, firsts.len() as u32))
     }
 
     /// Iterates over the faults, each with its class and the first test that detects it.
-    pub fn faults(&mut self) -> Result<impl Iterator<Item = FaultFirst>, Error> {
+    pub fn faults(&self) -> Result<impl Iterator<Item = FaultFirst>, Error> {
         let classes: Vec<u32> = (0..self.sizes().classes).collect();
         let firsts = self.simulate(&classes)?;
         let of = self.classes_of();
@@ -392,7 +392,7 @@ impl Job {
 impl Drop for Job {
     fn drop(&mut self) {
         // SAFETY: as above.
-        unsafe { sys::fs_job_free(&mut self.0) }
+        unsafe { sys::fs_job_free(self.0.get()) }
     }
 }
 
@@ -407,6 +407,14 @@ pub struct FaultFirst {
 /// The test of a number, none if the number is the greatest.
 fn some_test(first: u32) -> Option<u32> {
     (first != u32::MAX).then_some(first)
+}
+
+/// Returns the release of the library that is linked, such as `0.3.0`, or `0.3.0 (unproved)` if
+/// nothing of it was proved.
+pub fn release() -> &'static str {
+    // SAFETY: the call takes nothing, and its text ends in a 0 and lasts as long as the program.
+    let text = unsafe { CStr::from_ptr(sys::fs_release()) };
+    text.to_str().unwrap_or_default()
 }
 
 /// Returns the version of the calls in the library that is linked; this crate is for 1.

@@ -1,6 +1,6 @@
 //! The calls of `faultsim.h`, as C has them.
 
-use std::ffi::c_void;
+use std::ffi::{c_char, c_void};
 use std::ptr::null_mut;
 
 #[repr(C)]
@@ -43,6 +43,8 @@ pub struct Fault {
 
 extern "C" {
     pub fn fs_version() -> u32;
+    pub fn fs_release() -> *const c_char;
+    pub fn fs_message(status: u32, fault: *const Fault, text: *mut c_char, size: usize) -> usize;
     pub fn fs_job_read(
         model: u32,
         bench: *const u8,

@@ -1,6 +1,6 @@
 //! C17 under one test: 14 of 34 faults.
 
-use faultsim::{firsts, version, Error, Fault, Job, Kind, Lines, Model};
+use faultsim::{firsts, release, version, Error, Fault, Job, Kind, Lines, Model};
 
 const C17: &[u8] = b"INPUT(1)\nINPUT(2)\nINPUT(3)\nINPUT(6)\nINPUT(7)\nOUTPUT(22)\nOUTPUT(23)\n\
     10 = NAND(1, 3)\n11 = NAND(3, 6)\n16 = NAND(2, 11)\n19 = NAND(11, 7)\n\
@@ -20,6 +20,8 @@ fn one_test_detects_14_of_34() -> Result<(), Error> {
     let all = firsts(Model::StuckAt, C17, b"11111\n")?;
     assert_eq!(all.iter().filter(|it| it.is_some()).count(), 14);
     assert_eq!(version(), 1);
+    let package = env!("CARGO_PKG_VERSION");
+    assert!([package, &format!("{package} (unproved)")].contains(&release()));
     assert_eq!(job.fault_name(0)?, "stem 1 sa0");
     assert_eq!(job.fault_name(34), Err(Error::OutOfRange));
     // Under 11111 NAND(10, 16) is 1, and NAND(16, 19) is 0.

@@ -12,14 +12,16 @@ to `64 * b + 63`. Arrays are numpy's if numpy is there, and else `array.array`.
 
 from __future__ import annotations
 
+import _thread
 import ctypes
 import enum
 import operator
+import os
 import threading
+import weakref
 from array import array
 from collections import deque
-from concurrent.futures import ThreadPoolExecutor
-from typing import Any, Iterable, Optional, Sequence, Union
+from typing import TYPE_CHECKING, Any, Iterable, Optional, Sequence, Union
 
 from . import _library
 from ._library import NONE, Error, FsFault, FsJob, FsSizes, Kind, check, library
@@ -27,12 +29,21 @@ from ._library import NONE, Error, FsFault, FsJob, FsSizes, Kind, check, library
 try:
     import numpy
 except ImportError:
-    numpy = None
+    numpy = None  # type: ignore[assignment]
 
-__all__ = ["NONE", "Error", "Job", "Kind", "Lines", "Model", "firsts"]
-__version__ = "0.1.0"
+__all__ = ["NONE", "Error", "Job", "Kind", "Lines", "Model", "firsts", "release"]
+__version__ = "0.3.0"
 
 Text = Union[str, bytes]
+if TYPE_CHECKING:
+    from numpy import uint32, uint64
+    from numpy.typing import NDArray
+
+    # What calls return: an array of numpy, or of the module `array` if numpy isn't there.
+    Numbers = Union[NDArray[uint32], "array[int]"]
+    Words = Union[NDArray[uint64], "array[int]"]
+else:
+    Numbers = Words = Any
 
 
 class Model(enum.IntEnum):
@@ -73,17 +84,23 @@ def _number(value: int) -> int:
     return number
 
 
+def _is_array(values: Any) -> bool:
+    """Whether something is an array of numpy. One with masked items is an error."""
+    if numpy is None or not isinstance(values, numpy.ndarray):
+        return False
+    if isinstance(values, numpy.ma.MaskedArray):
+        raise TypeError("a masked array, and not one of numbers")
+    return True
+
+
 def _numbers(values: Iterable[int], code: str) -> Any:
     """Numbers in one piece of memory, of 32 bits ('I') or 64 bits ('Q')."""
-    if numpy is not None and isinstance(values, numpy.ndarray):
-        if values.size and values.dtype.kind not in "iu":
-            raise TypeError(f"an array of {values.dtype}, and not of integers")
-        bits = 32 if code == "I" else 64
-        if values.size and not 0 <= int(values.min()) <= int(values.max()) < 1 << bits:
-            raise IndexError("a number of the array is out of range")
-        kind = {"I": numpy.uint32, "Q": numpy.uint64}[code]
-        return numpy.require(values, kind, ["C", "A"]).reshape(-1)
+    if _is_array(values):
+        return _array_numbers(values, code)
     if not (isinstance(values, array) and values.typecode == code):
+        values = values if isinstance(values, (range, array)) else list(values)
+        if isinstance(values, list) and any(isinstance(it, bool) for it in values):
+            raise TypeError("a list of truth values, and not of numbers")
         try:
             values = array(code, values)
         except OverflowError as error:
@@ -91,6 +108,19 @@ def _numbers(values: Iterable[int], code: str) -> Any:
     if numpy is None:
         return values
     return numpy.array(values, {"I": numpy.uint32, "Q": numpy.uint64}[code])
+
+
+def _array_numbers(values: Any, code: str) -> Any:
+    """The same of a numpy array."""
+    if values.ndim != 1:
+        raise IndexError(f"an array of the shape {values.shape}, and not of one dimension")
+    if values.size and values.dtype.kind not in "iu":
+        raise TypeError(f"an array of {values.dtype}, and not of integers")
+    bits = 32 if code == "I" else 64
+    if values.size and not 0 <= int(values.min()) <= int(values.max()) < 1 << bits:
+        raise IndexError("a number of the array is out of range")
+    kind = {"I": numpy.uint32, "Q": numpy.uint64}[code]
+    return numpy.require(values, kind, ["C", "A"])
 
 
 def _room(count: int, code: str) -> Any:
@@ -177,6 +207,46 @@ def _packed(rows: Any, width: int) -> tuple[int, Any]:
     return count, numpy.ascontiguousarray(packed).reshape(-1).view("<u8")
 
 
+def _hint(text: Any) -> str:
+    """What an error says of a text that looks like the name of a file."""
+    if not isinstance(text, str) or "\n" in text or "(" in text or not text.strip():
+        return ""
+    kind = "is" if os.path.exists(text) else "looks like"
+    return f" ({text!r} {kind} the name of a file, and a job takes the text in it)"
+
+
+def _begin(function: Any, arguments: Any, errors: list[BaseException]) -> Any:
+    """Calls a function in another thread. Returns a lock that is released at its end; what it raises
+    is put into a list. (A thread of `threading` may not start if a signal handler raises.)"""
+    end = _thread.allocate_lock()
+    end.acquire()
+
+    def run() -> None:
+        try:
+            function(*arguments)
+        except BaseException as error:
+            errors.append(error)
+        finally:
+            end.release()
+
+    _thread.start_new_thread(run, ())
+    return end
+
+
+# Each handle that may have a job, with its job. A signal handler that raises as a job is collected
+# leaves a handle of no job.
+_HANDLES: dict[int, Any] = {}
+_HANDLES_LOCK = threading.RLock()
+
+
+def _free_handles_of_no_job() -> None:
+    with _HANDLES_LOCK:
+        for key, (job, handle) in list(_HANDLES.items()):
+            if job() is None:
+                library.fs_job_free(handle)
+                _HANDLES.pop(key, None)
+
+
 class Job:
     """A circuit, its faults in classes, and tests.
 
@@ -190,15 +260,23 @@ class Job:
     def __init__(self, bench: Text, model: int = Model.STUCK_AT) -> None:
         """Reads a bench file's text (not its path). Raises `Error` if it is wrong, with the line in
         `place`."""
+        self.close()
         self._start()
         model, text, fault = _number(model), _bytes(bench), FsFault()
-        check(library.fs_job_read(model, text, len(text), self._handle, fault), fault)
+        try:
+            check(library.fs_job_read(model, text, len(text), self._handle, fault), fault)
+        except Error as error:
+            raise Error(error.kind, error.place, _hint(bench)) from None
         self._sizes()
 
     def _start(self) -> None:
         # A signal handler may call the job that its thread calls, between two calls of the library.
         self._handle, self._lock = FsJob(), threading.RLock()
+        _HANDLES[id(self._handle)] = weakref.ref(self), self._handle
+        # The jobs of the threads that have simulated.
         self._helpers: list[Job] = []
+        # How often tests were taken.
+        self._turn = 0
         # What depends on the circuit alone: all classes, their runs, and their shares by threads.
         self._whole: Any = None
         self._cuts: dict[int, list[Any]] = {}
@@ -229,6 +307,7 @@ class Job:
             with self._lock:
                 self._free_helpers()
                 self._call(library.fs_job_free)
+                _HANDLES.pop(id(self._handle), None)
 
     def __reduce__(self) -> Any:
         raise TypeError("a job can't be copied; share makes another one")
@@ -248,9 +327,16 @@ class Job:
         """
         other = Job.__new__(Job)
         other._start()
+        try:
+            self._share_with(other)
+        except BaseException:
+            other.close()
+            raise
+        return other
+
+    def _share_with(self, other: "Job") -> None:
         check(self._call(library.fs_job_share, other._handle))
         other._sizes()
-        return other
 
     def set_tests(
         self, tests: Any, count: Optional[int] = None, keep_last: bool = False
@@ -259,15 +345,16 @@ class Job:
 
         tests: a text with a line of 0s and 1s for each test; or rows of 0 and 1, of the shape
         (tests, sources), as a list or a numpy array; or, with `count`, words: for each block of 64
-        tests one for each source, in one list, with bit k for test 64 * block + k.
+        tests one for each source, with bit k for test 64 * block + k, in one list or in a numpy
+        array of the shape (blocks, sources).
 
         keep_last: the job's last test stays, as test 0 before the new ones, which are rows or
         words. So under `Model.TRANSITION` the pair of it and the first new test isn't lost. Under
         `Model.TRANSITION_PAIRS` leave it out: it would move the pairs by one test.
 
-        Raises `Error` if a text or words are wrong, `IndexError` if rows have another width,
-        `ValueError` if they have another bit, and `RuntimeError` if `share` made another job that
-        isn't closed.
+        Raises `Error` if a text or words are wrong, `IndexError` if rows have another width or an
+        array another shape, `ValueError` if rows have another bit, and `RuntimeError` if `share`
+        made another job that isn't closed.
         """
         if isinstance(tests, (str, bytes, bytearray, memoryview)):
             if count is not None or keep_last:
@@ -276,29 +363,43 @@ class Job:
             self._take(library.fs_set_text, text, len(text))
         else:
             if count is not None:
-                words = _numbers(tests, "Q")
-            elif numpy is not None and isinstance(tests, numpy.ndarray):
+                words = self._words(tests, _number(count))
+            elif _is_array(tests):
                 count, words = _packed(tests, self.sources)
             else:
                 count, words = _words_of(list(tests), self.sources)
             call = library.fs_next_words if keep_last else library.fs_set_words
             self._take(call, _number(count), _address(words), len(words))
 
+    def _words(self, words: Any, count: int) -> Any:
+        """Words of so many tests, in one list."""
+        if _is_array(words) and words.ndim != 1:
+            shape = (-(-count // 64), self.sources)
+            if words.shape != shape:
+                raise IndexError(f"words of the shape {words.shape}, and not {shape}")
+            words = words.reshape(-1)
+        return _numbers(words, "Q")
+
     def _take(self, function: Any, *arguments: Any) -> None:
         """Takes tests by a function of the library, when no other call runs."""
         fault = FsFault()
         with self._lock:
+            self._turn += 1
             self._free_helpers()
-            check(self._call(function, *arguments, fault), fault)
+            status = self._call(function, *arguments, fault)
+            if status == _library.SHARED:
+                _free_handles_of_no_job()
+                status = self._call(function, *arguments, fault)
+            check(status, fault)
             self._sizes()
 
-    def classes_of(self) -> Any:
+    def classes_of(self) -> Numbers:
         """The class of each fault: an array of the shape (faults,)."""
         classes = _room(self.faults, "I")
         check(self._call(library.fs_classes_of, _address(classes), len(classes)))
         return classes
 
-    def stems_of(self) -> Any:
+    def stems_of(self) -> Numbers:
         """The stem of each class, the signal at which its fanout-free region ends: an array of the
         shape (classes,)."""
         stems = _room(self.classes, "I")
@@ -355,7 +456,7 @@ class Job:
         check(self._call(library.fs_word, _number(block), _number(signal), word))
         return word.value
 
-    def observers(self) -> Any:
+    def observers(self) -> Numbers:
         """The signal of each observer, the OUTPUT lines and then the data pins of the flip-flops:
         an array of the shape (observers,)."""
         wanted, signals = ctypes.c_size_t(), _room(0, "I")
@@ -367,7 +468,7 @@ class Job:
         check(status)
         return signals
 
-    def responses(self) -> Any:
+    def responses(self) -> Words:
         """The fault-free words of the observers, for each block one for each: an array of the shape
         (blocks * observers,), or (blocks, observers) with numpy. Bits past the last test may be
         1."""
@@ -387,7 +488,7 @@ class Job:
             self._whole = _numbers(range(self.classes), "I")
         return self._whole
 
-    def simulate(self, classes: Optional[Iterable[int]] = None, workers: int = 1) -> Any:
+    def simulate(self, classes: Optional[Iterable[int]] = None, workers: int = 1) -> Numbers:
         """The first test that detects each class of a list, or of all: an array of the shape
         (classes,), with `NONE` for a class that no test detects.
 
@@ -403,37 +504,44 @@ class Job:
             self._simulate(asked, found)
         else:
             with self._lock:
+                turn = self._turn
                 shares = deque(self._cut(None if classes is None else asked, workers))
-                self._simulate_shares(asked, shares, found, workers)
+                try:
+                    self._simulate_shares(asked, shares, found, workers)
+                finally:
+                    if turn != self._turn:
+                        raise RuntimeError("a signal handler set other tests during the call")
         return found
 
     def _simulate_shares(self, asked: Any, shares: Any, found: Any, workers: int) -> None:
         """Simulates the shares of a list by this thread and others."""
-        jobs: list[Job] = []
-        try:
-            for _ in range(workers - 1):
-                jobs.append(self._helper())
-            with ThreadPoolExecutor(workers - 1) as pool:
-                runs = [pool.submit(job._work, asked, shares, found) for job in jobs]
-                self._work(asked, shares, found)
-                for run in runs:
-                    run.result()
-        finally:
-            self._helpers.extend(jobs)
+        errors: list[BaseException] = []
+        ends = [
+            _begin(job._work, (asked, shares, found), errors)
+            for job in self._helpers_for(workers - 1)
+        ]
+        self._work(asked, shares, found)
+        for end in ends:
+            end.acquire()
+        for error in errors:
+            raise error
 
-    def _helper(self) -> "Job":
-        """A job of the same tests for another thread: one that is kept, or a new one."""
-        try:
-            return self._helpers.pop()
-        except IndexError:
-            return self.share()
+    def _helpers_for(self, threads: int) -> list["Job"]:
+        """Jobs of the same tests for other threads. A new one is kept before it shares the job, so
+        that the next tests free it even if a signal handler raises."""
+        jobs = [it for it in self._helpers if it._handle.live][:threads]
+        while len(jobs) < threads:
+            helper = Job.__new__(Job)
+            helper._start()
+            self._helpers.append(helper)
+            self._share_with(helper)
+            jobs.append(helper)
+        return jobs
 
     def _free_helpers(self) -> None:
-        try:
-            while True:
-                self._helpers.pop().close()
-        except IndexError:
-            pass
+        for helper in list(self._helpers):
+            helper.close()
+        self._helpers.clear()
 
     def _work(self, asked: Any, shares: Any, found: Any) -> None:
         """Simulates one share after another, each the places of classes in a list."""
@@ -505,7 +613,7 @@ class Job:
         check(self._call(library.fs_detecting, _number(class_), _number(block), lanes))
         return lanes.value
 
-    def detections(self, most: int, classes: Optional[Iterable[int]] = None) -> Any:
+    def detections(self, most: int, classes: Optional[Iterable[int]] = None) -> Numbers:
         """How many tests detect each class of a list, or of all, counted up to `most`: an array
         of the shape (classes,). It simulates class by class, and so takes many times as long as
         `simulate`."""
@@ -524,14 +632,20 @@ class Job:
 
     def coverage(self, workers: int = 1) -> tuple[int, int]:
         """How many faults the tests detect, and how many there are."""
-        found = self.simulate(workers=workers)
-        of = self.classes_of()
+        found: Any = self.simulate(workers=workers)
+        of: Any = self.classes_of()
         if numpy is not None:
             return int((found[of] != NONE).sum()), self.faults
         return sum(int(found[int(class_)]) != NONE for class_ in of), self.faults
 
 
-def firsts(bench: Text, tests: Text, model: int = Model.STUCK_AT) -> Any:
+def release() -> str:
+    """The release of the library, such as `0.3.0`, or `0.3.0 (unproved)` if nothing of it was
+    proved."""
+    return library.fs_release().decode()
+
+
+def firsts(bench: Text, tests: Text, model: int = Model.STUCK_AT) -> Numbers:
     """The first test of a text that detects each fault of a circuit, in one call: an array of the
     shape (faults,), with `NONE` for a fault that no test detects."""
     model, bench, tests = _number(model), _bytes(bench), _bytes(tests)

@@ -30,25 +30,6 @@ class Kind(enum.IntEnum):
     WORDS_IDLE = 14
 
 
-KINDS = (
-    "unknown",
-    "bench: more bytes than the limit",
-    "bench: more signals than the limit",
-    "bench: more pins than the limit",
-    "bench line {}: syntax",
-    "bench line {}: name defined before",
-    "bench line {}: name not defined",
-    "bench line {}: gate on a cycle, or fed by one",
-    "bench: no line",
-    "tests line {}: not 0 or 1",
-    "tests line {}: wrong width",
-    "tests: more than 65,536 rows",
-    "words: more than 65,536 tests",
-    "words: wrong number of words",
-    "words: source {} has a bit past the last test",
-)
-
-
 class FsJob(c.Structure):
     """A handle: `struct fs_job`."""
 
@@ -77,26 +58,29 @@ class FsFault(c.Structure):
 class Error(ValueError):
     """A text or words are wrong.
 
-    `kind` is a `Kind`. `place` is a line, from 1, or a source, from 0, or 0.
+    `kind` is a `Kind`. `place` is a line, from 1, or a source, from 0, or 0. `hint` is what the
+    message ends with, or nothing.
     """
 
-    def __init__(self, kind: int, place: int) -> None:
-        super().__init__(kind, place)
-        self.kind, self.place = Kind(kind), place
+    def __init__(self, kind: int, place: int, hint: str = "") -> None:
+        super().__init__(kind, place, hint)
+        self.kind, self.place, self.hint = Kind(kind), place, hint
 
     def __str__(self) -> str:
-        return KINDS[self.kind].format(self.place)
+        return message(REFUSED, FsFault(self.kind, self.place)) + self.hint
 
 
 _U32, _SIZE = c.c_uint32, c.c_size_t
-# A text; the address of an array of 32 or of 64 bits.
-_U8S, _U32S, _U64S = c.c_char_p, c.c_void_p, c.c_void_p
+# A text, or room for one; the address of an array of 32 or of 64 bits.
+_U8S, _CHARS, _U32S, _U64S = c.c_char_p, c.c_char_p, c.c_void_p, c.c_void_p
 _JOB, _SIZES, _FAULT = c.POINTER(FsJob), c.POINTER(FsSizes), c.POINTER(FsFault)
 _TO_U32, _TO_U64, _TO_SIZE = (c.POINTER(it) for it in (c.c_uint32, c.c_uint64, c.c_size_t))
 
 # Each function with its result and its parameters, as faultsim.h has them (contrib/check-bindings).
 SIGNATURES = {
     "fs_version": (_U32, []),
+    "fs_release": (_CHARS, []),
+    "fs_message": (_SIZE, [_U32, _FAULT, _CHARS, _SIZE]),
     "fs_job_read": (_U32, [_U32, _U8S, _SIZE, _JOB, _FAULT]),
     "fs_job_free": (None, [_JOB]),
     "fs_job_share": (_U32, [_JOB, _JOB]),
@@ -153,6 +137,13 @@ def _load() -> c.CDLL:
 library = _load()
 
 
+def message(status: int, fault: Optional[FsFault] = None) -> str:
+    """What a status says, in words."""
+    text = c.create_string_buffer(128)
+    library.fs_message(status, fault, text, len(text))
+    return text.value.decode()
+
+
 def check(status: int, fault: Optional[FsFault] = None) -> None:
     """Raises the exception of a status other than DONE."""
     if status == DONE:
@@ -162,9 +153,7 @@ def check(status: int, fault: Optional[FsFault] = None) -> None:
     if status == NO_JOB:
         raise ValueError("the job is closed")
     if status == MEMORY:
-        raise MemoryError("no memory for the call")
+        raise MemoryError(message(status))
     if status == RANGE:
-        raise IndexError("a number is out of range, or an array has the wrong length")
-    if status == SHARED:
-        raise RuntimeError("another handle shares the job")
-    raise RuntimeError(f"unknown status {status}")
+        raise IndexError(message(status))
+    raise RuntimeError(message(status))
