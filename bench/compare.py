@@ -1,8 +1,8 @@
 #!/usr/bin/env python3
 """Times `faultsim` against a C++ simulator of the same job, and checks that all write the same.
 
-    bench/compare.py [--designs] [--hard] [--workers] [--counts] [--model M] [--rounds N]
-                     [--only WORD] [--processor] [--program FILE | --built]
+    bench/compare.py [--designs] [--hard] [--workers] [--counts] [--detections] [--model M]
+                     [--rounds N] [--only WORD] [--processor] [--program FILE | --built]
 
 It builds baseline.cpp with g++ and the program with `rt run`, and makes circuits and tests with
 generate.py in a temporary folder (circuits of designs/ are unpacked). It runs in turn the program, the
@@ -26,6 +26,10 @@ reach.
 
 With --counts it prints how many gates the baseline evaluates by events, and the fraction of it by
 regions and by packs. These don't depend on the machine, and the program isn't built for them.
+
+With --detections it runs the program alone, with one worker, and prints how many times as long as `run`
+the runs with --detections 1, 5 and 20 take. The report of --detections 1 must be the one of `run`.
+
 --only takes the name of a case, or a part of a title. --built takes the program in out/, and --program
 another one.
 """
@@ -115,6 +119,10 @@ DESIGN_CASES = [
 # With --workers, where --only names no other.
 WORKER_CASES = ("c17", "ecc32long", "mult16long", "r22klong", "r100kshort")
 WORKERS = (1, 2, 4)
+
+# With --detections, where --only names no other.
+DETECTION_CASES = ("r100k", "s38417", "picosoc")
+DETECTIONS = (1, 5, 20)
 
 REGIONS = ["--algorithm", "regions", "--prune", "--groups"]
 PACKS = ["--algorithm", "packs"]
@@ -299,6 +307,23 @@ def count(folder, baseline, case, options):
     print(f"{case.name}, {case.title}: {events:,} by events, {parts}", flush=True)
 
 
+def compare_detections(folder, case, options):
+    words = [it for it in words_of(folder, case, options.model) if it != "--list"]
+    plain = [str(PROGRAM), *words, "--workers", "1"]
+    ways = {0: plain} | {most: [*plain, "--detections", str(most)] for most in DETECTIONS}
+    least, outs = {}, {}
+    for _ in range(options.rounds):
+        for most, command in ways.items():
+            before = processor_time()
+            took, outs[most] = timed(command)
+            took = processor_time() - before if options.processor else took
+            least[most] = min(took, least.get(most, took))
+    if outs[0] != outs[1] or outs[0][0] != 0:
+        sys.exit(f"{case.title}: the reports differ")
+    ratios = ", ".join(f"{least[most] / least[0]:.1f} with {most}" for most in DETECTIONS)
+    print(f"{case.name}, {case.title}: {ratios}", flush=True)
+
+
 def processor_time():
     used = resource.getrusage(resource.RUSAGE_CHILDREN)
     return used.ru_utime + used.ru_stime
@@ -312,6 +337,7 @@ def main():
     parser.add_argument("--hard", action="store_true")
     parser.add_argument("--workers", action="store_true")
     parser.add_argument("--counts", action="store_true")
+    parser.add_argument("--detections", action="store_true")
     parser.add_argument("--designs", action="store_true")
     parser.add_argument("--processor", action="store_true")
     parser.add_argument("--built", action="store_true")
@@ -325,18 +351,25 @@ def main():
         cases = DESIGN_CASES
     elif options.workers and not options.only:
         cases = [case for case in cases if case.name in WORKER_CASES]
+    elif options.detections and not options.only:
+        cases = [case for case in cases if case.name in DETECTION_CASES]
     elif not options.counts and not options.only:
         cases = HARD_CASES if options.hard else CASES
-    if options.workers or options.counts:
+    if options.workers or options.counts or options.detections:
         cases = [case for case in cases if case.tests]
     with tempfile.TemporaryDirectory() as name:
         folder = pathlib.Path(name)
-        baseline = build_baseline(folder) if options.counts else build(folder, options.built)
+        if options.counts:
+            baseline = build_baseline(folder)
+        elif not options.detections or not options.built:
+            baseline = build(folder, options.built)
         for case in chosen(cases, options.only):
             if options.counts:
                 count(folder, baseline, case, options)
             elif options.workers:
                 compare_workers(folder, baseline, case, options)
+            elif options.detections:
+                compare_detections(folder, case, options)
             else:
                 # a look at whole blocks takes up to ten times as long, and hard cases are long already
                 compare(folder, baseline, case, options, whole_blocks=case in CASES)

@@ -10,8 +10,9 @@ the test `memory::calls::each_call_that_was_refused_succeeds_again` that `rt tes
 command_line_tests (--built: the ones in out/). The first allocation fails, then in the next run the
 second, and so on, until none fails. Each run of the program must end with status 3, `out of memory`
 or `thread refused`, and nothing on standard output (with --format a prefix of the table), or do the
-same as without a failure. Each run of the test must pass, unless it couldn't set up its calls. With
---quick it runs only PROGRAM, and builds no other; that takes less than a minute.
+same as without a failure. After the start of a thread it must be `thread refused`; an allocation
+may be one that the start of a thread makes. Each run of the test must pass, unless it couldn't set
+up its calls. With --quick it runs only PROGRAM, and builds no other; that takes a minute or two.
 
 Status: 0 if all runs did so, 1 if one did anything else, 3 if there is no gcc.
 """
@@ -30,15 +31,20 @@ HERE = pathlib.Path(__file__).resolve().parent
 CRATES = HERE.parent / "crates"
 DATA = CRATES / "faultsim" / "data"
 TEST = "memory::calls::each_call_that_was_refused_succeeds_again"
-REFUSED = (b"faultsim: out of memory\n", b"faultsim: thread refused\n")
-WAYS = ("REFUSE_ALLOCATION", "REFUSE_START")
+# What is refused, by the setting of refuse.c, and what the program says of it.
+NO_THREAD = b"faultsim: thread refused\n"
+WAYS = {
+    "REFUSE_ALLOCATION": (b"faultsim: out of memory\n", NO_THREAD),
+    "REFUSE_START": (NO_THREAD,),
+}
 # Command lines of the program, in a folder with these files.
 FILES = ("bench", "tests", "order", "first", "second")
 # A chain of inverters under tests of one bit each: threads share their fault-free words.
 CHAIN, MANY = 1024, 16384
 # A gate with so many pins: threads put the lines of its list together.
 PINS = 9000
-# A number of inputs, which are outputs, and of tests: their file has 9 MB, and is read piece by piece.
+# A number of inputs, which are outputs, and of tests: their file has 9 MB, and is read piece by
+# piece.
 INPUTS, ROWS = 8000, 1100
 TEXTS = "--bench bench --tests tests"
 COMMANDS = (
@@ -103,11 +109,13 @@ def sweep_program(program, library, folder, command):
             return "as ever"
         # (a table is written line by line)
         is_begun = "--format" in words and expected[1].startswith(came[1])
-        if came[0] == 3 and (is_begun or not came[1]) and came[2] in REFUSED:
+        if came[0] == 3 and (is_begun or not came[1]) and came[2] in wanted:
             return came[2].decode().strip().removeprefix("faultsim: ")
         return None
 
-    seen = [f"{way.lower()}: {sweep(library, folder, words, way, judge)}" for way in WAYS]
+    seen = []
+    for way, wanted in WAYS.items():
+        seen.append(f"{way.lower()}: {sweep(library, folder, words, way, judge)}")
     return f"faultsim {command}: {', '.join(seen)}"
 
 

@@ -1,7 +1,9 @@
 //! The files that the programs read and write.
 
 use std::alloc::Global;
-use std::io::{ErrorKind, Read};
+use std::fmt::{self, Display, Formatter};
+use std::fs::File;
+use std::io::{self, ErrorKind, Read, Seek, SeekFrom, Stdin};
 use std::os::unix::fs::{FileTypeExt, MetadataExt};
 use std::{fs, rt};
 
@@ -10,8 +12,23 @@ use std::{fs, rt};
 pub enum SourceFault {
     /// It cannot be read, for any cause but memory.
     Unreadable,
+    /// It cannot be read, and the system names the cause by this number.
+    System(i32),
     /// There is no memory for it.
     Memory,
+}
+
+impl Display for SourceFault {
+    /// Writes the system's words for the cause after a colon, and nothing for a cause without any.
+    fn fmt<W: fmt::Write>(&self, f: &mut Formatter<W>) -> fmt::Result {
+        match self {
+            SourceFault::System(number) => {
+                let error = io::Error::from_raw_os_error(*number);
+                write!(f, ": {error}")
+            }
+            SourceFault::Unreadable | SourceFault::Memory => Ok(()),
+        }
+    }
 }
 
 /// A file could not be written.
@@ -27,15 +44,24 @@ pub struct FileId {
 
 /// The system as the programs see it: the bytes at a path, files that they write, and a clock.
 pub trait Source {
-    /// A file that is read from its first byte on.
-    type File: Read + Send + Drop;
-
     /// Returns the bytes at a path.
     fn read(&mut self, alloc: Global, path: &str) -> Result<Vec<u8>, SourceFault>;
 
-    /// Opens a file, and returns it with its length in bytes. Returns `None` if there is no such
-    /// file, or it can be read only once, as a pipe.
-    fn open(&self, path: &str) -> Option<(Self::File, u64)>;
+    /// Returns the bytes at a path, or only the first ones, more than `most`, if they are more.
+    fn read_up_to(
+        &mut self,
+        alloc: Global,
+        path: &str,
+        _most: u64,
+    ) -> Result<Vec<u8>, SourceFault> {
+        self.read(alloc, path)
+    }
+
+    /// Opens a file, and returns it with the number of bytes that are left to read. Returns `None`
+    /// if there is no such file, or it can be read only once, as a pipe.
+    fn open(&self, _path: &str) -> Option<(File, u64)> {
+        None
+    }
 
     /// Returns the identity of the file at a path, if there is one: the same for all its paths.
     fn identity(&self, _path: &str) -> Option<FileId> {
@@ -44,6 +70,12 @@ pub trait Source {
 
     /// Returns the identity of the file at a path, if it can be read only once, as a pipe.
     fn stream(&self, _path: &str) -> Option<FileId> {
+        None
+    }
+
+    /// Returns the identity of the file that the standard output goes to, if it goes to one and
+    /// not to a device or a pipe.
+    fn output(&self) -> Option<FileId> {
         None
     }
 
@@ -63,44 +95,102 @@ pub fn is_standard_input(path: &str) -> bool {
     matches!(path, "-" | "/dev/stdin" | "/dev/fd/0" | "/proc/self/fd/0")
 }
 
+/// The names that the system has for the standard input and output, and for what it knows of the
+/// input.
+const STANDARD_INPUT: &str = "/dev/stdin";
+
+const STANDARD_OUTPUT: &str = "/dev/stdout";
+
+const INPUT_STATE: &str = "/proc/self/fdinfo/0";
+
 /// Returns the path of the system for a path of the command line.
 fn system_path(path: &str) -> &str {
-    if path == "-" { "/dev/stdin" } else { path }
+    if path == "-" { STANDARD_INPUT } else { path }
 }
 
 /// The files of the system, with the standard input as `-`.
 #[derive(Drop)]
 pub struct Files<'a, R> {
     rt: &'a R,
+    input: Stdin,
 }
 
-impl<'a, R: rt::Files + rt::Clock + AllocGlobal> Files<'a, R> {
+impl<'a, R: rt::Files<File = File> + rt::Clock + AllocGlobal> Files<'a, R> {
     /// Returns the files that a runtime reaches.
-    pub fn new(rt: &'a R) -> Self {
-        Files { rt }
+    pub fn new(rt: &'a R, input: Stdin) -> Self {
+        Files { rt, input }
+    }
+
+    /// Returns the place at which the standard input stands, from its first byte, if the system
+    /// says so.
+    fn input_place(&self) -> Option<u64> {
+        let state = fs::read_to_string(self.rt, INPUT_STATE).ok()?;
+        let place = state.lines().find_map(|line| line.strip_prefix("pos:"))?;
+        place.trim().parse().ok()
+    }
+
+    /// Opens the file that the standard input is once more, at the place at which that stands, and
+    /// returns it with the number of bytes behind that.
+    fn reopen_input(&self) -> Option<(File, u64)> {
+        let place = self.input_place()?;
+        let len = self.len_of(STANDARD_INPUT)?;
+        let mut file = File::open(self.rt, STANDARD_INPUT).ok()?;
+        file.seek(SeekFrom::Start(place)).ok()?;
+        Some((file, len.saturating_sub(place)))
+    }
+
+    /// Returns the number of bytes of the file at a path, if it is one and not a device or a pipe.
+    fn len_of(&self, path: &str) -> Option<u64> {
+        let found = fs::metadata(self.rt, path).ok()?;
+        found.is_file().then_some(found.len())
+    }
+
+    /// Returns the first bytes at a path, at most `most` of them. The standard input is read from
+    /// where it stands.
+    fn front(&self, path: &str, most: u64) -> io::Result<Vec<u8>> {
+        let mut bytes = Vec::new(self.rt.alloc());
+        if is_standard_input(path) {
+            self.input.take(most).read_to_end(&mut bytes)?;
+        } else {
+            let file = File::open(self.rt, path)?;
+            file.take(most).read_to_end(&mut bytes)?;
+        }
+        Ok(bytes)
     }
 }
 
-impl<R: rt::Files + rt::Clock + AllocGlobal> Source for Files<'_, R>
-where
-    R::File: Send,
-{
-    type File = R::File;
+/// Returns the reason for an error of the system.
+fn source_fault(error: io::Error) -> SourceFault {
+    match (error.kind(), error.raw_os_error()) {
+        (ErrorKind::OutOfMemory, _) => SourceFault::Memory,
+        (_, Some(number)) => SourceFault::System(number),
+        (_, None) => SourceFault::Unreadable,
+    }
+}
 
+impl<R: rt::Files<File = File> + rt::Clock + AllocGlobal> Source for Files<'_, R> {
     fn read(&mut self, _alloc: Global, path: &str) -> Result<Vec<u8>, SourceFault> {
-        fs::read(self.rt, system_path(path)).map_err(|error| match error.kind() {
-            ErrorKind::OutOfMemory => SourceFault::Memory,
-            _ => SourceFault::Unreadable,
-        })
+        self.front(path, u64::MAX).map_err(source_fault)
     }
 
-    fn open(&self, path: &str) -> Option<(R::File, u64)> {
-        let found = fs::metadata(self.rt, path).ok()?;
-        if !found.is_file() {
-            return None;
+    /// Reads one byte past `most` at most.
+    fn read_up_to(
+        &mut self,
+        _alloc: Global,
+        path: &str,
+        most: u64,
+    ) -> Result<Vec<u8>, SourceFault> {
+        self.front(path, most.saturating_add(1))
+            .map_err(source_fault)
+    }
+
+    fn open(&self, path: &str) -> Option<(File, u64)> {
+        if is_standard_input(path) {
+            return self.reopen_input();
         }
-        let file = fs::File::open(self.rt, path).ok()?;
-        Some((file, found.len()))
+        let len = self.len_of(path)?;
+        let file = File::open(self.rt, path).ok()?;
+        Some((file, len))
     }
 
     /// Returns the device and the inode of a file.
@@ -112,15 +202,19 @@ where
         })
     }
 
-    /// Returns those of a pipe or a socket.
+    /// Returns those of a pipe. A path doesn't open a socket at all.
     fn stream(&self, path: &str) -> Option<FileId> {
         let found = fs::metadata(self.rt, system_path(path)).ok()?;
-        let kind = found.file_type();
-        if kind.is_fifo() || kind.is_socket() {
+        if found.file_type().is_fifo() {
             self.identity(path)
         } else {
             None
         }
+    }
+
+    fn output(&self) -> Option<FileId> {
+        self.len_of(STANDARD_OUTPUT)?;
+        self.identity(STANDARD_OUTPUT)
     }
 
     fn write(&mut self, path: &str, text: &[u8]) -> Result<(), WriteFault> {

@@ -1,6 +1,11 @@
 -- The outputs of a run.
-use Rattle.std.specs.Prelude.{◌<◌}
+use Rattle.std.specs.Prelude.{◌<◌, ⊤, ℕ, List}
+use Rattle.block_sim.specs.Parts.{Parts}
 use Rattle.job_loading.specs.Splits.{HasSomePart}
+use Rattle.report.specs.Curve.{IsCurveOfJob}
+use Rattle.report.specs.EndToEnd.{IsReportOfJob}
+use Rattle.tables.specs.CurveTables.{IsCurveTableOfJob}
+use Rattle.tables.specs.Tables.{IsFirstTableOfJob}
 use Rattle.command_line.specs.declared.form.Form.{Form}
 use Rattle.command_line.specs.declared.form.Form.TheVariants.{Report, Reasons, Part, Table}
 use Rattle.command_line.specs.declared.form.Form.TheVariants.{ReasonTable, Curve, CurveTable}
@@ -14,3 +19,19 @@ HasParts (Table lines format split) = HasSomePart split
 HasParts (ReasonTable format split) = HasSomePart split
 HasParts (Curve split) = HasSomePart split
 HasParts (CurveTable format split) = HasSomePart split
+
+-- the output has the verdicts on all classes, and nothing else of the run
+abbrev pub HasVerdictsAlone : Form → Type 0
+HasVerdictsAlone (Report contents split) = ⊤
+HasVerdictsAlone (Table lines format split) = ⊤
+HasVerdictsAlone (Curve split) = ⊤
+HasVerdictsAlone (CurveTable format split) = ⊤
+HasVerdictsAlone _ = ⊥
+
+-- the bytes are such an output of a job
+abbrev pub IsFormOfJob : Parts → Form → List ℕ → Type 0
+IsFormOfJob job (Report contents split) = IsReportOfJob job contents
+IsFormOfJob job (Table lines format split) = IsFirstTableOfJob job lines format
+IsFormOfJob job (Curve split) = IsCurveOfJob job
+IsFormOfJob job (CurveTable format split) = IsCurveTableOfJob job format
+IsFormOfJob job _ = λ _. ⊥

@@ -8,24 +8,23 @@ use command_basics::{DONE, Files};
 use report::{Out, Plain};
 use std::alloc::{AllocError, Global};
 use std::env;
-use std::io::{BufWriter, ErrorKind, Write};
+use std::fs::File;
+use std::io::{BufWriter, ErrorKind, Stdin, Write};
 use std::rt::{Clock, Env, Files as HasFiles};
 use std::sync::Wait;
 use std::thread::Threads;
 
-/// Runs the arguments of the process, as [`run_words`] does, on the files of the system, and
-/// returns the status. The output has a buffer, which is flushed at the end.
+/// Runs the arguments of the process, as [`run_words`] does, on the files of the system and on its
+/// standard input, and returns the status. The output has a buffer, which is flushed at the end.
 pub fn run_arguments<
-    R: Env + HasFiles + Clock + AllocGlobal + Threads + Wait,
+    R: Env + HasFiles<File = File> + Clock + AllocGlobal + Threads + Wait,
     W: Write + Drop,
     E: Out + Send,
->(rt: &R, out: W, err: &mut E) -> u8
-where
-    R::File: Send,
+>(rt: &R, input: Stdin, out: W, err: &mut E) -> u8
     ensures { result ≤ 4 }
 {
     match read_arguments(rt) {
-        Ok(arguments) => run_on_files(rt, &arguments, out, err),
+        Ok(arguments) => run_on_files(rt, &arguments, input, out, err),
         Err(fault) => answer_fault(&fault, err),
     }
 }
@@ -44,18 +43,15 @@ fn read_arguments<R: Env + AllocGlobal>(rt: &R) -> Result<Vec<String>, CommandEr
 }
 
 /// Runs arguments on the files of the system.
-fn run_on_files<R: HasFiles + Clock + AllocGlobal + Threads + Wait, W: Write + Drop, E: Out + Send>(
-    rt: &R,
-    arguments: &[String],
-    out: W,
-    err: &mut E,
-) -> u8
-where
-    R::File: Send,
+fn run_on_files<
+    R: HasFiles<File = File> + Clock + AllocGlobal + Threads + Wait,
+    W: Write + Drop,
+    E: Out + Send,
+>(rt: &R, arguments: &[String], input: Stdin, out: W, err: &mut E) -> u8
     ensures { result ≤ 4 }
 {
     match words_of(rt.alloc(), arguments) {
-        Ok(words) => run_with_buffer(rt, &words, out, err),
+        Ok(words) => run_with_buffer(rt, &words, input, out, err),
         Err(AllocError) => answer_fault(&NO_MEMORY, err),
     }
 }
@@ -68,19 +64,18 @@ fn words_of<'a>(alloc: Global, arguments: &'a [String]) -> Result<Vec<&'a str>, 
 /// Runs words on the files of the system, with a buffer before the output.
 fn run_with_buffer<
     'a,
-    R: HasFiles + Clock + AllocGlobal + Threads + Wait,
+    R: HasFiles<File = File> + Clock + AllocGlobal + Threads + Wait,
     W: Write + Drop,
     E: Out + Send,
->(rt: &R, words: &'a [&'a str], out: W, err: &mut E) -> u8
-where
-    R::File: Send,
+>(rt: &R, words: &'a [&'a str], input: Stdin, out: W, err: &mut E) -> u8
     ensures { result ≤ 4 }
 {
     let Ok(buffered) = BufWriter::new(rt.alloc(), out) else {
         return answer_fault(&NO_MEMORY, err);
     };
     let mut out = Plain::new(buffered);
-    let status = run_words(rt, rt.alloc(), words, &mut Files::new(rt), &mut out, err);
+    let mut files = Files::new(rt, input);
+    let status = run_words(rt, rt.alloc(), words, &mut files, &mut out, err);
     let flushed = out.into_writer().flush();
     if matches!(status, DONE | MISSED) && flushed.is_err() {
         return answer_fault(&UNWRITTEN, err);

@@ -106,18 +106,18 @@ fn workers_option<'a>(alloc: Global, help: &'a str) -> Arg<'a> {
         .help(help)
 }
 
-/// The words that `--parts` takes in place of a number.
-static PARTS_WORDS: [&str; 1] = [AUTO];
+/// The choices of `--parts` if its value is a word.
+static PARTS_CHOICES: [&str; 2] = ["1..=65536", AUTO];
 
 /// Returns the option `--parts N`, whose value is a word or a number.
-fn parts_option<'a>(alloc: Global, auto: bool) -> Arg<'a> {
+fn parts_option<'a>(alloc: Global, word: bool) -> Arg<'a> {
     let option = Arg::new(alloc, "parts")
         .long("parts")
         .value_name("N")
         .hide_possible_values(true)
         .help("Run the fault classes in parts, 1 to 65536, or auto: as many as needed");
-    if auto {
-        option.value_parser(PARTS_WORDS.as_slice())
+    if word {
+        option.value_parser(PARTS_CHOICES.as_slice())
     } else {
         option.value_parser(value_parser!(u32).range(1..=i64::from(MAX_PARTS)))
     }
@@ -321,7 +321,7 @@ pub(crate) struct Setting<'a> {
     /// The help of `--workers N`.
     pub(crate) workers: &'a str,
     /// Whether `--parts` has a word in place of a number.
-    pub(crate) auto: bool,
+    pub(crate) word: bool,
 }
 
 /// Returns an option.
@@ -342,7 +342,7 @@ pub(crate) fn option<'a>(
         ),
         Choice::Model => model_option(alloc),
         Choice::Workers => workers_option(alloc, setting.workers),
-        Choice::Parts => parts_option(alloc, setting.auto),
+        Choice::Parts => parts_option(alloc, setting.word),
         Choice::Part => part_option(alloc),
         Choice::Detections => detections_option(alloc)?,
         Choice::Histogram => histogram_flag(alloc)?,

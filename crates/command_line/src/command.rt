@@ -1,6 +1,7 @@
 //! The commands of the program.
 
-ghost use Rattle.std.specs.Prelude.{◌≤◌};
+ghost use Rattle.std.specs.Prelude.{◌≤◌, IfOk};
+ghost use Rattle.command_line.specs.Options.{NamesModel};
 
 use crate::check::do_check;
 use crate::choices::{Setting, workers_help};
@@ -12,8 +13,9 @@ use crate::merge::do_merge;
 use crate::options::{Task, command_line};
 use crate::responses::do_responses;
 use crate::run::do_run;
-use crate::split::is_auto;
-use crate::status::{CommandError, NO_MEMORY, UNWRITTEN, answer_fault};
+use crate::split::has_word;
+use crate::status::{CommandError, NO_MEMORY, UNWRITTEN, WrongFile, answer_fault};
+use bench_net::read::MAX_BYTES;
 use clap::error::ErrorKind;
 use clap::{ArgMatches, Error};
 use command_basics::{DONE, FileId, MISUSED, Source, SourceFault, is_standard_input, model_named};
@@ -59,8 +61,8 @@ fn run_with_help<'a, R: Threads + Wait, S: Source, W: Out, E: Out + Send>(
 ) -> u8
     ensures { result ≤ 4 }
 {
-    let auto = is_auto(words);
-    let Ok(command) = command_line(alloc, Setting { workers, auto }) else {
+    let word = has_word(words);
+    let Ok(command) = command_line(alloc, Setting { workers, word }) else {
         return answer_fault(&NO_MEMORY, err);
     };
     match command.try_get_matches_from(words) {
@@ -82,8 +84,35 @@ fn run_matched<'a, R: Threads + Wait, S: Source, W: Out, E: Out + Send>(
 {
     match do_task(rt, alloc, matches, files, out, err) {
         Ok(()) => DONE,
-        Err(fault) => answer_fault(&fault, err),
+        Err(fault) => {
+            let status = answer_fault(&fault, err);
+            write_hint(matches, &fault, err);
+            status
+        }
     }
+}
+
+/// Prints which command shows the place of an error in a line of a bench or test file, after the
+/// error of any other command.
+fn write_hint<'a, E: Out>(matches: &ArgMatches<'a>, fault: &CommandError<'a>, err: &mut E) {
+    let Some((name, options)) = matches.subcommand() else {
+        return;
+    };
+    let (Some(bench), false) = (options.get_str("bench"), name == Task::Check.name()) else {
+        return;
+    };
+    let tests = options.get_str("tests").unwrap_or("");
+    let mut text = Formatted(err);
+    let _ = match fault.wrong_file() {
+        Some(WrongFile::Bench) => {
+            writeln!(text, "faultsim: faultsim check --bench {bench} shows where")
+        }
+        Some(WrongFile::Tests) => writeln!(
+            text,
+            "faultsim: faultsim check --bench {bench} --tests {tests} shows where"
+        ),
+        None => return,
+    };
 }
 
 /// Prints help, or the error of a command line.
@@ -175,7 +204,9 @@ fn check_streams<'a, S: Source>(
 }
 
 /// Returns the model that the command line names.
-pub(crate) fn read_model<'a>(matches: &ArgMatches<'a>) -> Result<Model, CommandError<'a>> {
+pub(crate) fn read_model<'a>(matches: &ArgMatches<'a>) -> Result<Model, CommandError<'a>>
+    ensures { IfOk result (NamesModel matches.now) }
+{
     let Some(name) = matches.get_str("model") else {
         return Err(CommandError::Misused("--model"));
     };
@@ -185,17 +216,21 @@ pub(crate) fn read_model<'a>(matches: &ArgMatches<'a>) -> Result<Model, CommandE
     }
 }
 
-/// Reads the file that an option names.
+/// Reads the file that an option names. Of a bench file that is too large it reads only the front.
 pub(crate) fn read_option<'a, S: Source>(
     alloc: Global,
     matches: &ArgMatches<'a>,
     option: &'a str,
     files: &mut S,
 ) -> Result<Vec<u8>, CommandError<'a>> {
-    match matches.get_str(option) {
-        Some(path) => read_file(alloc, path, files),
-        None => Err(CommandError::Misused(option)),
+    let Some(path) = matches.get_str(option) else {
+        return Err(CommandError::Misused(option));
+    };
+    if option != "bench" {
+        return read_file(alloc, path, files);
     }
+    let text = files.read_up_to(alloc, path, MAX_BYTES as u64);
+    text.map_err(|fault| source_error(path, fault))
 }
 
 /// Reads the file at a path.
@@ -204,10 +239,16 @@ pub(crate) fn read_file<'a, S: Source>(
     path: &'a str,
     files: &mut S,
 ) -> Result<Vec<u8>, CommandError<'a>> {
-    match files.read(alloc, path) {
-        Ok(text) => Ok(text),
-        Err(SourceFault::Unreadable) => Err(CommandError::Unreadable(path)),
-        Err(SourceFault::Memory) => Err(NO_MEMORY),
+    files
+        .read(alloc, path)
+        .map_err(|fault| source_error(path, fault))
+}
+
+/// Returns the error of a file that is not read.
+fn source_error(path: &str, fault: SourceFault) -> CommandError<'_> {
+    match fault {
+        SourceFault::Memory => NO_MEMORY,
+        _ => CommandError::Unreadable(path, fault),
     }
 }
 

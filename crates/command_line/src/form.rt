@@ -118,22 +118,23 @@ pub(crate) fn write_form<'a, R: Threads + Wait, S: Source, W: Out, E: Out + Send
         write_text(rt, alloc, inputs, form, &Quiet::new(&tally), out)
     };
     match done {
+        Ok(()) if !form.is_whole() => Ok(()),
         Ok(()) => end_run(alloc, summary, threshold, inputs, tally.found(), files),
         Err(fault) if form.is_whole() => Err(run_fault(alloc, fault, model, &bench, &tests)),
         Err(fault) => Err(CommandError::Sim(fault)),
     }
 }
 
-/// Compares the coverage of a run with the threshold, if the run has results.
+/// Compares the coverage of a run of all classes with the threshold.
 fn check_found<'a>(threshold: Option<Threshold<'a>>, found: Found) -> Result<(), CommandError<'a>> {
     match found.counts {
         Some(counts) => check_threshold(threshold, counts.detected, counts.faults),
-        None => Ok(()),
+        None => Err(CommandError::Lost),
     }
 }
 
-/// Ends a run whose text is written, with its results. It writes the summary, if one is requested,
-/// and compares the coverage with the threshold. A run of one part has neither.
+/// Ends a run of all classes whose text is written, with its results. It writes the summary, if one
+/// is requested, and compares the coverage with the threshold.
 fn end_run<'a, S: Source>(
     alloc: Global,
     summary: Option<Request<'a>>,
@@ -142,10 +143,7 @@ fn end_run<'a, S: Source>(
     found: Found,
     files: &mut S,
 ) -> Result<(), CommandError<'a>> {
-    let Some(counts) = found.counts else {
-        return Ok(());
-    };
-    if let Some(request) = summary {
+    if let (Some(request), Some(counts)) = (summary, found.counts) {
         write_summary(alloc, request, inputs, counts, found.reasons, files)?;
     }
     check_found(threshold, found)
@@ -193,7 +191,7 @@ fn write_drawn<R: Threads + Wait, W: Out, E: Out + Send>(
 ) -> Result<(), SimFault>
     requires { HasParts form }
 {
-    let Ok(progress) = Progress::new(alloc, inputs.workers, tally, err) else {
+    let Ok(progress) = Progress::new(alloc, tally, err) else {
         return Err(SimFault::Memory);
     };
     let done = write_text(rt, alloc, inputs, form, &progress, out);

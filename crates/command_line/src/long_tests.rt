@@ -1,22 +1,26 @@
 //! Runs whose test file is long: it is read piece by piece, so that its bytes are never all in
 //! memory.
 
-ghost use Rattle.std.specs.Prelude.{IfSome};
+ghost use Rattle.std.specs.Prelude.{◌≡◌, ◌<◌, IfOk, IfSome, true};
+ghost use Rattle.block_sim.specs.Parts.{BelongTogether};
 ghost use Rattle.job_loading.specs.Splits.{HasSomePart};
-ghost use Rattle.command_line.specs.Form.{HasParts};
+ghost use Rattle.report.specs.EndToEnd.{WritesOneOf};
+ghost use Rattle.command_line.specs.Form.{HasParts, HasVerdictsAlone, IsFormOfJob};
+ghost use Rattle.command_line.specs.Options.{NamesModel};
 
 use crate::command::{read_model, read_option, read_workers};
 use crate::form::Form;
 use crate::pieces::{is_excess, run_fault};
 use crate::progress::Progress;
-use crate::status::{CommandError, NO_MEMORY};
+use crate::status::CommandError;
 use crate::tally::{Found, Quiet, Tally};
 use clap::ArgMatches;
 use command_basics::Source;
 use fault_model::Model;
-use job_loading::{LONG_TESTS, split_run_in_pieces};
+use job_loading::{LONG_TESTS, RunJob, split_run_in_pieces};
 use report::{Out, SimFault, Split, Watch, write_curve_of_run, write_report_of_run};
 use std::alloc::Global;
+use std::fs::File;
 use std::io::Read;
 use std::sync::Wait;
 use std::thread::Threads;
@@ -33,25 +37,12 @@ struct Inputs<'b, F: Drop> {
     workers: u32,
 }
 
-/// The reason why the output of a run is not written.
-enum NoOutput {
-    /// The run fails.
-    Fault(SimFault),
-    /// Nothing is written, since the tests can't be read piece by piece.
-    NotInPieces,
-}
-
-impl From<SimFault> for NoOutput {
-    fn from(fault: SimFault) -> NoOutput {
-        NoOutput::Fault(fault)
-    }
-}
-
 /// Returns the split of a run of all classes whose output has its verdicts and no more, and `None`
 /// for any other form.
 fn split_of(form: Form) -> Option<Split>
     requires { HasParts form }
-    ensures { IfSome result HasSomePart }
+    ensures split { IfSome result HasSomePart }
+    ensures form { IfSome result (λ split. HasVerdictsAlone form) }
 {
     match form {
         Form::Report { split, .. }
@@ -92,13 +83,13 @@ pub(crate) fn write_of_long_tests<'a, R: Threads + Wait, S: Source, W: Out, E: O
         write_run(rt, alloc, inputs, form, split, &Quiet::new(&tally), out)
     };
     match done {
-        Ok(()) => Ok(Some(tally.found())),
-        Err(NoOutput::NotInPieces) => Ok(None),
-        Err(NoOutput::Fault(fault)) if is_excess(&fault) => {
+        None => Ok(None),
+        Some(Ok(())) => Ok(Some(tally.found())),
+        Some(Err(fault)) if is_excess(&fault) => {
             let tests = read_option(alloc, matches, "tests", files)?;
             Err(run_fault(alloc, fault, model, bench, &tests))
         }
-        Err(NoOutput::Fault(fault)) => Err(CommandError::Sim(fault)),
+        Some(Err(fault)) => Err(CommandError::Sim(fault)),
     }
 }
 
@@ -107,7 +98,10 @@ fn open_inputs<'a, 'b, S: Source>(
     matches: &ArgMatches<'a>,
     bench: &'b [u8],
     files: &S,
-) -> Result<Option<Inputs<'b, S::File>>, CommandError<'a>> {
+) -> Result<Option<Inputs<'b, File>>, CommandError<'a>>
+    ensures { IfOk result (λ found.
+        IfSome found (λ inputs. NamesModel matches.now inputs.model)) }
+{
     let model = read_model(matches)?;
     let workers = read_workers(matches)?;
     let Some(path) = matches.get_str("tests") else {
@@ -125,7 +119,7 @@ fn open_inputs<'a, 'b, S: Source>(
     }
 }
 
-/// Runs and writes the output, and draws the progress of the run.
+/// Runs and writes the output, and draws the progress of the run, as [`write_run`] does without.
 fn write_drawn<R: Threads + Wait, F: Read + Send + Drop, W: Out, E: Out + Send>(
     rt: &R,
     alloc: Global,
@@ -135,18 +129,20 @@ fn write_drawn<R: Threads + Wait, F: Read + Send + Drop, W: Out, E: Out + Send>(
     tally: &Tally,
     out: &mut W,
     err: &mut E,
-) -> Result<(), NoOutput>
-    requires { HasSomePart split }
+) -> Option<Result<(), SimFault>>
+    requires split { HasSomePart split }
+    requires form { HasVerdictsAlone form }
 {
-    let Ok(progress) = Progress::new(alloc, inputs.workers, tally, err) else {
-        return Err(NoOutput::Fault(SimFault::Memory));
+    let Ok(progress) = Progress::new(alloc, tally, err) else {
+        return Some(Err(SimFault::Memory));
     };
     let done = write_run(rt, alloc, inputs, form, split, &progress, out);
     progress.close();
     done
 }
 
-/// Reads the files, runs under a gate, and writes the output.
+/// Reads the files, runs under a gate, and writes the output. Returns `None`, with nothing written,
+/// if the tests can't be read piece by piece.
 fn write_run<R: Threads + Wait, F: Read + Send + Drop, G: Watch + Sync, W: Out>(
     rt: &R,
     alloc: Global,
@@ -155,8 +151,9 @@ fn write_run<R: Threads + Wait, F: Read + Send + Drop, G: Watch + Sync, W: Out>(
     split: Split,
     gate: &G,
     out: &mut W,
-) -> Result<(), NoOutput>
-    requires { HasSomePart split }
+) -> Option<Result<(), SimFault>>
+    requires split { HasSomePart split }
+    requires form { HasVerdictsAlone form }
 {
     let Inputs {
         model,
@@ -166,30 +163,44 @@ fn write_run<R: Threads + Wait, F: Read + Send + Drop, G: Watch + Sync, W: Out>(
         workers,
     } = inputs;
     let apart = gate.lets_all_pass();
-    let read = split_run_in_pieces(rt, alloc, model, bench, tests, size, split, apart, workers);
-    let Some(made) = read else {
-        return Err(NoOutput::NotInPieces);
-    };
-    let (run, parts) = made?;
-    let mut run = run;
+    match split_run_in_pieces(rt, alloc, model, bench, tests, size, split, apart, workers)? {
+        Ok((run, parts)) => {
+            let mut run = run;
+            Some(write_form_of_run(rt, alloc, &mut run, parts, workers, form, gate, out))
+        }
+        Err(fault) => Some(Err(fault)),
+    }
+}
+
+/// Runs a job in a number of parts under a gate, and writes the output.
+fn write_form_of_run<R: Threads + Wait, G: Watch + Sync, W: Out>(
+    rt: &R,
+    alloc: Global,
+    run: &mut RunJob,
+    parts: u32,
+    workers: u32,
+    form: Form,
+    gate: &G,
+    out: &mut W,
+) -> Result<(), SimFault>
+    requires job { BelongTogether run.old.parts }
+    requires gate { run.old.apart ≡ true → G.passing gate.now }
+    requires parts { 0 < parts }
+    requires form { HasVerdictsAlone form }
+    ensures { WritesOneOf (IsFormOfJob run.old.parts form) result (W.seen out.old)
+        (W.seen out.new) }
+{
     match form {
         Form::Report { contents, .. } => {
-            write_report_of_run(rt, alloc, &mut run, parts, workers, contents, gate, out)?;
+            write_report_of_run(rt, alloc, run, parts, workers, contents, gate, out)
         }
         Form::Table { lines, format, .. } => {
-            write_table_of_run(
-                rt, alloc, &mut run, parts, workers, lines, format, gate, out,
-            )?;
+            write_table_of_run(rt, alloc, run, parts, workers, lines, format, gate, out)
         }
-        Form::Curve { .. } => {
-            write_curve_of_run(rt, alloc, &mut run, parts, workers, gate, out)?;
-        }
+        Form::Curve { .. } => write_curve_of_run(rt, alloc, run, parts, workers, gate, out),
         Form::CurveTable { format, .. } => {
-            write_curve_table_of_run(rt, alloc, &mut run, parts, workers, format, gate, out)?;
+            write_curve_table_of_run(rt, alloc, run, parts, workers, format, gate, out)
         }
-        Form::Reasons { .. } | Form::Part { .. } | Form::ReasonTable { .. } => {
-            return Err(NoOutput::NotInPieces);
-        }
+        Form::Reasons { .. } | Form::Part { .. } | Form::ReasonTable { .. } => unreachable!(),
     }
-    Ok(())
 }

@@ -33,7 +33,7 @@ static TASKS: [Task; 8] = [
 // The texts have any lifetime, because a command has one lifetime for all its texts.
 impl Task {
     /// Returns the name of the subcommand.
-    fn name<'a>(self) -> &'a str {
+    pub(crate) fn name<'a>(self) -> &'a str {
         match self {
             Task::Check => "check",
             Task::Run => "run",

@@ -3,7 +3,7 @@
 use crate::tally::Tally;
 use block_sim::Job;
 use patterns::Tests;
-use report::{Formatted, Gate, Out, ReasonCounts, Verdicts, Watch};
+use report::{Formatted, Gate, MAX_WORKERS, Out, ReasonCounts, Verdicts, Watch};
 use std::alloc::{AllocError, Global};
 use std::fmt::Write;
 use std::sync::Mutex;
@@ -190,15 +190,14 @@ pub(crate) struct Progress<'a, E> {
 }
 
 impl<'a, E: Out> Progress<'a, E> {
-    /// Makes the gate of a run by this number of workers.
+    /// Makes the gate of a run by any number of workers.
     pub(crate) fn new(
         alloc: Global,
-        workers: u32,
         tally: &'a Tally,
         err: &'a mut E,
     ) -> Result<Progress<'a, E>, AllocError> {
-        let mut places = Vec::with_capacity(alloc, workers as usize)?;
-        for _worker in 0..workers {
+        let mut places = Vec::with_capacity(alloc, MAX_WORKERS as usize)?;
+        for _worker in 0..MAX_WORKERS {
             places.push(Place::new())?;
         }
         Ok(Progress {

@@ -10,12 +10,17 @@ use report::Split;
 /// The word for as many parts as the run needs.
 pub(crate) const AUTO: &str = "auto";
 
-/// Returns whether the words have this word as the number of parts. The parser of a number takes no
-/// word, so the option has another parser then.
-pub(crate) fn is_auto(words: &[&str]) -> bool {
+/// Returns whether the words have a word as the number of parts. The parser of a number takes no
+/// word, and names none as a choice, so the option has another parser then.
+pub(crate) fn has_word(words: &[&str]) -> bool {
     let mut is_value = false;
     for word in words {
-        if *word == "--parts=auto" || (is_value && *word == AUTO) {
+        let value = if is_value {
+            *word
+        } else {
+            word.strip_prefix("--parts=").unwrap_or("")
+        };
+        if matches!(value.as_bytes(), [b'A'..=b'Z' | b'a'..=b'z', ..]) {
             return true;
         }
         is_value = *word == "--parts";

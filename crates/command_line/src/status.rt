@@ -2,9 +2,11 @@
 
 ghost use Rattle.std.specs.Prelude.{◌<◌, ◌≤◌};
 
-use command_basics::{FAILED, MISUSED, REFUSED, status_of};
+use bench_net::BenchFault;
+use command_basics::{FAILED, MISUSED, REFUSED, SourceFault, status_of};
 use input_check::Excess;
 use part_files::{MergeFault, PartFault};
+use patterns::TestFault;
 use report::{Formatted, Out, ReportFault, SimFault};
 use std::fmt::Write;
 
@@ -20,8 +22,8 @@ pub(crate) enum CommandError<'a> {
     Misused(&'a str),
     /// The command line has a value that an option doesn't take, for this reason.
     Unfit(&'a str, &'static str),
-    /// The file at a path cannot be read.
-    Unreadable(&'a str),
+    /// The file at a path cannot be read, for this reason.
+    Unreadable(&'a str, SourceFault),
     /// The file at a path cannot be written.
     Unwritten(&'a str),
     /// A file has an error, or the work on it or the output failed.
@@ -32,8 +34,38 @@ pub(crate) enum CommandError<'a> {
     Part(&'a str, MergeFault),
     /// Part files don't go together.
     Merge(MergeFault),
+    /// All was written, and the results of the run are not known.
+    Lost,
     /// All was written, and the coverage is below this percentage.
     Missed(&'a str),
+}
+
+/// A file with an error in one of its lines.
+#[derive(Clone, Copy)]
+pub(crate) enum WrongFile {
+    Bench,
+    Tests,
+}
+
+impl CommandError<'_> {
+    /// Returns which of the bench file and the test file has an error in one of its lines, if one
+    /// has.
+    pub(crate) fn wrong_file(&self) -> Option<WrongFile> {
+        match self {
+            CommandError::Sim(
+                SimFault::Bench(
+                    BenchFault::Syntax(_)
+                    | BenchFault::Redefined(_)
+                    | BenchFault::Undefined(_)
+                    | BenchFault::Cycle(_),
+                ),
+            ) => Some(WrongFile::Bench),
+            CommandError::Sim(SimFault::Tests(TestFault::BadByte(_) | TestFault::BadWidth(_))) => {
+                Some(WrongFile::Tests)
+            }
+            _ => None,
+        }
+    }
 }
 
 /// The output fails.
@@ -73,7 +105,9 @@ pub(crate) fn answer_fault<E: Out>(fault: &CommandError<'_>, err: &mut E) -> u8
         CommandError::Unfit(option, reason) => {
             writeln!(text, "faultsim: cannot use {option}\n    {reason}")
         }
-        CommandError::Unreadable(path) => writeln!(text, "faultsim: cannot read {path}"),
+        CommandError::Unreadable(path, fault) => {
+            writeln!(text, "faultsim: cannot read {path}{fault}")
+        }
         CommandError::Unwritten(path) => writeln!(text, "faultsim: cannot write {path}"),
         CommandError::Sim(fault) => writeln!(text, "faultsim: {fault}"),
         CommandError::TooManyPieces(fault, excess) => {
@@ -81,11 +115,12 @@ pub(crate) fn answer_fault<E: Out>(fault: &CommandError<'_>, err: &mut E) -> u8
         }
         CommandError::Part(path, fault) => writeln!(text, "faultsim: {path}: {fault}"),
         CommandError::Merge(fault) => writeln!(text, "faultsim: {fault}"),
+        CommandError::Lost => writeln!(text, "faultsim: results lost"),
         CommandError::Missed(least) => writeln!(text, "faultsim: coverage below {least}%"),
     };
     match fault {
         CommandError::NoText | CommandError::Misused(_) | CommandError::Unfit(..) => MISUSED,
-        CommandError::Unreadable(_) | CommandError::Unwritten(_) => FAILED,
+        CommandError::Unreadable(..) | CommandError::Unwritten(_) | CommandError::Lost => FAILED,
         CommandError::Sim(fault) | CommandError::TooManyPieces(fault, _) => status_of(fault),
         CommandError::Part(..) | CommandError::Merge(_) => REFUSED,
         CommandError::Missed(_) => MISSED,

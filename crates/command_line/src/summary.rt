@@ -10,7 +10,7 @@ use tables::{Summary, summary_text};
 const UNPROVED: &str = " (unproved)";
 
 /// The reason why the summary cannot go to a path.
-const NO_FILE: &str = "give a file that is no input";
+const NO_FILE: &str = "give a file that is no input and not the output";
 
 /// A summary that the command line requests.
 #[derive(Clone, Copy)]
@@ -28,16 +28,20 @@ pub(crate) fn read_request<'a, S: Source>(
     let Some(path) = matches.get_str("summary") else {
         return Ok(None);
     };
-    if is_standard_input(path) || is_input(matches, files, path) {
+    if is_standard_input(path) || is_used(matches, files, path) {
         return Err(CommandError::Unfit("--summary", NO_FILE));
     }
     let began = files.milliseconds();
     Ok(Some(Request { path, began }))
 }
 
-/// Returns whether the command line names the file at this path for an input, by whatever path.
-fn is_input<S: Source>(matches: &ArgMatches<'_>, files: &S, path: &str) -> bool {
+/// Returns whether the file at this path is an input of the command line, by whatever path, or the
+/// standard output goes to it.
+fn is_used<S: Source>(matches: &ArgMatches<'_>, files: &S, path: &str) -> bool {
     let wanted = files.identity(path);
+    if wanted.is_some() && files.output() == wanted {
+        return true;
+    }
     for option in ["bench", "tests"] {
         let Some(input) = matches.get_str(option) else {
             continue;

@@ -15,9 +15,8 @@ use worked_circuits::C17;
 const COVERAGE: &str = "14 of 34 (41.17%)\n";
 
 /// Command lines, each with its output.
-static WRITTEN: [(&str, &str); 3] = [
+static WRITTEN: [(&str, &str); 2] = [
     ("faultsim run --bench bench --tests tests", COVERAGE),
-    ("faultsim run --bench bench --tests long", COVERAGE),
     (
         "faultsim merge first second --list",
         "stem a sa0 7\nstem a sa1 none\n1 of 2 (50.00%)\n",

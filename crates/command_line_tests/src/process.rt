@@ -5,8 +5,8 @@ use crate::screen::Screen;
 use command_line::run_arguments;
 use std::alloc::{Allocator, Global};
 use std::env::FillError;
-use std::fs::{Metadata, OpenOptions};
-use std::io::{self, ErrorKind, Write};
+use std::fs::{File, Metadata, OpenOptions};
+use std::io::{self, ErrorKind, Stdin, Write};
 use std::rt::{Clock, Env, Files};
 use std::sync::Wait;
 use std::thread::Threads;
@@ -53,12 +53,12 @@ impl<R> Env for Process<'_, R> {
     }
 }
 
-impl<R: Files> Files for Process<'_, R> {
-    type File = R::File;
+impl<R: Files<File = File>> Files for Process<'_, R> {
+    type File = File;
 
     type Dir = R::Dir;
 
-    fn open_file(&self, _how: &OpenOptions, _path: &str) -> io::Result<R::File> {
+    fn open_file(&self, _how: &OpenOptions, _path: &str) -> io::Result<File> {
         Err(self.refusal.into())
     }
 
@@ -161,23 +161,24 @@ static CASES: [Case; 3] = [
 ];
 
 /// Returns whether a process ends as a case wants.
-fn ends_right<R: AllocGlobal + Files + Threads + Wait>(rt: &R, case: &Case) -> bool
-where
-    R::File: Send,
-{
+fn ends_right<R: AllocGlobal + Files<File = File> + Threads + Wait>(
+    rt: &R,
+    input: Stdin,
+    case: &Case,
+) -> bool {
     let process = Process {
         rt,
         line: case.line,
         refusal: case.files,
     };
     let mut err = Screen::new(rt.alloc());
-    let status = run_arguments(&process, case.out, &mut err);
+    let status = run_arguments(&process, input, case.out, &mut err);
     err.text() == case.stderr.as_bytes() && status == 3
 }
 
 #[test]
 fn refused_files_and_flushes_are_told(rt: HostRuntime) {
     for case in &CASES {
-        check(&rt, ends_right(&rt, case), case.stderr);
+        check(&rt, ends_right(&rt, rt.stdin(), case), case.stderr);
     }
 }

@@ -10,5 +10,5 @@ use std::process::ExitCode;
 fn main(rt: HostRuntime) -> ExitCode {
     let mut out = Plain::new(rt.stdout());
     let mut err = Plain::new(rt.stderr());
-    ExitCode::from(run_arguments(&rt, &mut out, &mut err))
+    ExitCode::from(run_arguments(&rt, rt.stdin(), &mut out, &mut err))
 }

@@ -9,5 +9,5 @@ use std::process::ExitCode;
 /// Runs the command line, and ends with its status.
 fn main(rt: HostRuntime) -> ExitCode {
     let mut err = Plain::new(rt.stderr());
-    ExitCode::from(run_arguments(&rt, rt.stdout(), &mut err))
+    ExitCode::from(run_arguments(&rt, rt.stdin(), rt.stdout(), &mut err))
 }

@@ -5,5 +5,4 @@ mod LeftClasses
 mod Searches
 mod SortedTests
 mod Pieces
-mod Refusals
 mod Texts

@@ -33,12 +33,12 @@ IsSearching m c seed blocks n left kept round quiet =
 -- at first nothing is kept
 pub searching_none : (m : Model) (c : List Statement) (seed blocks n : ℕ) (left : List ℕ)
     (kept : List (List Bool)) → length kept ≡ 0
-    → ((class : ℕ) → class < n → slice_get left class ≡ Some class)
+    → ((class : ℕ) → class < n → (k : ℕ) × (slice_get left k ≡ Some class))
     → IsSearching m c seed blocks n left kept 0 0
 searching_none m c seed blocks n left kept none all =
     inr (record {
       none = none;
-      all = λ class lt. (class, all class lt);
+      all = all;
       tried = λ k lt. absurd (omega (arith, lt));
       count = omega arith;
     })

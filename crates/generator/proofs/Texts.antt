@@ -23,7 +23,8 @@ use Rattle.job_loading.specs.declared.fault.SimFault.{SimFault}
 use Rattle.job_loading.specs.declared.fault.SimFault.TheVariants as fault
 use Rattle.job_loading.specs.Jobs.{IsJobOf}
 use Rattle.report.specs.EndToEnd.{IsReportFault}
-use Rattle.generator.specs.Generated.{AreFewPieces, HasJob, IsGeneratorFault, IsSearchFault}
+use Rattle.region_runs.specs.Refused.{IsOpenFault}
+use Rattle.generator.specs.Generated.{AreFewPieces, HasJob, IsGeneratorFault}
 
 -- the laws of files: a bench file has one circuit, and a file with tests has no error
 abbrev pub OneCircuit : Type 0
@@ -60,7 +61,7 @@ same_pieces one_circuit m bench text job other is also =
 
 -- an error of a run of a job within the limit of pieces is an error of a run of the search
 run_refused : (job : Parts) (workers : ℕ) (f : RunFault) → piece_count job ≤ max_pieces
-    → IsRunFault job workers ⊤ no_stop f → IsSearchFault workers f
+    → IsRunFault job workers ⊤ no_stop f → IsOpenFault workers f
 run_refused job workers run_fault.NoWorkers few is = is
 run_refused job workers run_fault.TooManyWorkers few is = is
 run_refused job workers (run_fault.NoSuchMove index) few is = absurd is

@@ -13,8 +13,7 @@ use Rattle.patterns.specs.declared.TestFault.TheVariants as test_fault
 use Rattle.block_sim.specs.declared.job.JobFault.TheVariants as job_fault
 use Rattle.block_sim.specs.Parts.{Parts}
 use Rattle.compaction.specs.Compaction.{IsCompaction}
-use Rattle.workers.specs.declared.RunFault.{RunFault}
-use Rattle.workers.specs.declared.RunFault.TheVariants.{NoWorkers, TooManyWorkers, Memory, Threads}
+use Rattle.region_runs.specs.Refused.{IsOpenFault}
 use Rattle.job_loading.specs.declared.fault.SimFault.{SimFault}
 use Rattle.job_loading.specs.declared.fault.SimFault.TheVariants as fault
 use Rattle.job_loading.specs.Jobs.{IsJobWithin}
@@ -66,19 +65,10 @@ HasJob m bench text = (job : Parts) × IsJobWithin m bench text job
 abbrev pub AreFewPieces : ℕ → ℕ → Type 0
 AreFewPieces classes tests = classes * blocks tests ≤ max_pieces
 
--- the condition of each error of a run of the generator: its number of workers, and then memory or
--- a thread
-abbrev pub IsSearchFault : ℕ → RunFault → Type 0
-IsSearchFault workers NoWorkers = workers ≡ 0
-IsSearchFault workers TooManyWorkers = 64 < workers
-IsSearchFault workers Memory = (0 < workers) × (workers ≤ 64)
-IsSearchFault workers Threads = (0 < workers) × (workers ≤ 64)
-IsSearchFault workers _ = ⊥
-
 -- The condition of each error of the search. Memory may be refused at any time, and this is the
 -- only error of a job: no round makes too many pieces.
 abbrev pub IsWorkFault : ℕ → SimFault → Type 0
-IsWorkFault workers (fault.Run f) = IsSearchFault workers f
+IsWorkFault workers (fault.Run f) = IsOpenFault workers f
 IsWorkFault workers (fault.Job f) = f ≡ job_fault.Memory
 IsWorkFault workers fault.Memory = ⊤
 IsWorkFault workers _ = ⊥

@@ -7,24 +7,23 @@ use command_basics::Files;
 use report::Out;
 use std::alloc::{AllocError, Global};
 use std::env;
-use std::io::ErrorKind;
+use std::fs::File;
+use std::io::{ErrorKind, Stdin};
 use std::rt::{Clock, Env, Files as HasFiles};
 use std::sync::Wait;
 use std::thread::Threads;
 
-/// Runs the arguments of the process, as [`run_words`] does, on the files of the system, and
-/// returns the status.
-pub fn run_arguments<R: Env + HasFiles + Clock + AllocGlobal + Threads + Wait, W: Out, E: Out>(
-    rt: &R,
-    out: &mut W,
-    err: &mut E,
-) -> u8
-where
-    R::File: Send,
+/// Runs the arguments of the process, as [`run_words`] does, on the files of the system and on its
+/// standard input, and returns the status.
+pub fn run_arguments<
+    R: Env + HasFiles<File = File> + Clock + AllocGlobal + Threads + Wait,
+    W: Out,
+    E: Out,
+>(rt: &R, input: Stdin, out: &mut W, err: &mut E) -> u8
     ensures { result ≤ 3 }
 {
     match read_arguments(rt) {
-        Ok(arguments) => run_on_files(rt, &arguments, out, err),
+        Ok(arguments) => run_on_files(rt, &arguments, input, out, err),
         Err(fault) => answer(&fault, err),
     }
 }
@@ -43,18 +42,17 @@ fn read_arguments<R: Env + AllocGlobal>(rt: &R) -> Result<Vec<String>, CommandEr
 }
 
 /// Runs arguments on the files of the system.
-fn run_on_files<R: HasFiles + Clock + AllocGlobal + Threads + Wait, W: Out, E: Out>(
+fn run_on_files<R: HasFiles<File = File> + Clock + AllocGlobal + Threads + Wait, W: Out, E: Out>(
     rt: &R,
     arguments: &[String],
+    input: Stdin,
     out: &mut W,
     err: &mut E,
 ) -> u8
-where
-    R::File: Send,
     ensures { result ≤ 3 }
 {
     match words_of(rt.alloc(), arguments) {
-        Ok(words) => run_words(rt, rt.alloc(), &words, &mut Files::new(rt), out, err),
+        Ok(words) => run_words(rt, rt.alloc(), &words, &mut Files::new(rt, input), out, err),
         Err(AllocError) => answer(&NO_MEMORY, err),
     }
 }

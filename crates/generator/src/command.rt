@@ -4,6 +4,7 @@ ghost use Rattle.std.specs.Prelude.{◌≤◌};
 
 use crate::options::command_line;
 use crate::{Settings, generate};
+use bench_net::read::MAX_BYTES;
 use byte_output::put_all;
 use clap::error::ErrorKind;
 use clap::{ArgMatches, Error};
@@ -22,7 +23,7 @@ pub(crate) enum CommandError<'a> {
     /// The command line lacks an option.
     Misused(&'a str),
     /// The file at a path cannot be read.
-    Unreadable(&'a str),
+    Unreadable(&'a str, SourceFault),
     /// The output fails.
     Unwritten,
     /// The circuit has an error, or the work on it failed.
@@ -126,10 +127,10 @@ fn read_bench<'a, S: Source>(
     let Some(path) = matches.get_str("bench") else {
         return Err(CommandError::Misused("--bench"));
     };
-    match files.read(alloc, path) {
+    match files.read_up_to(alloc, path, MAX_BYTES as u64) {
         Ok(text) => Ok(text),
-        Err(SourceFault::Unreadable) => Err(CommandError::Unreadable(path)),
         Err(SourceFault::Memory) => Err(NO_MEMORY),
+        Err(fault) => Err(CommandError::Unreadable(path, fault)),
     }
 }
 
@@ -158,13 +159,15 @@ pub(crate) fn answer<E: Out>(fault: &CommandError<'_>, err: &mut E) -> u8
     let _ = match fault {
         CommandError::NoText => writeln!(text, "faultgen: an argument is no text"),
         CommandError::Misused(option) => writeln!(text, "faultgen: cannot use {option}"),
-        CommandError::Unreadable(path) => writeln!(text, "faultgen: cannot read {path}"),
+        CommandError::Unreadable(path, fault) => {
+            writeln!(text, "faultgen: cannot read {path}{fault}")
+        }
         CommandError::Unwritten => writeln!(text, "faultgen: cannot write"),
         CommandError::Sim(fault) => writeln!(text, "faultgen: {fault}"),
     };
     match fault {
         CommandError::NoText | CommandError::Misused(_) => MISUSED,
-        CommandError::Unreadable(_) | CommandError::Unwritten => FAILED,
+        CommandError::Unreadable(..) | CommandError::Unwritten => FAILED,
         CommandError::Sim(fault) => status_of(fault),
     }
 }

@@ -6,6 +6,7 @@ ghost use Rattle.bench_net.specs.Scan.{sources};
 ghost use Rattle.patterns.specs.Making.{IsMadeOf};
 ghost use Rattle.patterns.specs.Tests.{IsTestList, max_pieces, max_tests};
 ghost use Rattle.block_sim.specs.Parts.{piece_count};
+ghost use Rattle.region_sim.specs.ClassOrder.{AreAllByRegion};
 ghost use Rattle.generator.specs.Generated.{AreFewPieces, DetectsEarly, FindsNone, IsWorkFault};
 ghost use Rattle.generator.specs.Keeping.{AreLeft};
 ghost use Rattle.generator.specs.RandomTests.{after_words, next_words, numbers};
@@ -17,11 +18,12 @@ use patterns::{BLOCK_SIZE, MAX_PIECES, MAX_TESTS, Tests};
 use rand::SeedableRng;
 use rand::rngs::SmallRng;
 use rand_core::Rng;
+use region_runs::run_classes;
+use region_sim::class_order::{ClassOrder, class_order};
 use report::SimFault;
 use std::alloc::{AllocError, Global};
 use std::sync::Wait;
 use std::thread::Threads;
-use workers::{OpenGate, run_classes};
 
 /// The search ends after this number of blocks in a row that detect nothing new.
 const QUIET_BLOCKS: u32 = 20;
@@ -59,7 +61,7 @@ pub(crate) fn search<R: Threads + Wait>(
         }
         take_random_tests(alloc, job, blocks, &mut rng)?;
         let _tests = job.tests();
-        let firsts = run_classes(rt, alloc, job, &left, settings.workers, &OpenGate)?;
+        let firsts = run_classes(rt, alloc, job, &left, settings.workers)?;
         keep_tests(alloc, job, &left, &firsts, room, &mut kept)?;
         let still = undetected(alloc, &left, &firsts)?;
         quiet = if still.len() < left.len() {
@@ -83,19 +85,15 @@ fn room_of(job: &Job) -> u32
     BLOCK_SIZE * blocks.min(MAX_TESTS / BLOCK_SIZE)
 }
 
-/// Returns all classes of a job.
+/// Returns all classes of a job, region by region.
 fn all_classes(alloc: Global, job: &Job) -> Result<Vec<u32>, AllocError>
-    ensures few { IfOk result (λ all. length all.items ≤ length job.now.classes.representative) }
-    ensures within { IfOk result (λ all.
-        All (λ class. class < length job.now.classes.representative) all.items) }
-    ensures each { IfOk result (λ all. (class : ℕ) → class < length job.now.classes.representative
-        → slice_get all.items class ≡ Some class) }
+    ensures { IfOk result (λ all. AreAllByRegion job.now all.items) }
 {
-    let count = job.classes().count();
-    let mut classes = Vec::with_capacity(alloc, count as usize)?;
-    for class in 0..count {
-        classes.push(class)?;
-    }
+    let order = class_order(alloc, job)?;
+    let ClassOrder {
+        classes,
+        positions: _positions,
+    } = order;
     Ok(classes)
 }
 

@@ -3,9 +3,9 @@
 ghost use Rattle.std.specs.Prelude.{◌≡◌, IfOk};
 ghost use Rattle.input_check.specs.Checks.{IsBenchCheckOf};
 
-use crate::first::findings_of;
+use crate::first::{findings_of, foreign_findings};
 use bench_net::{BenchFault, Circuit, read_bench};
-use input_errors::{Findings, InputError, find_in_bench};
+use input_errors::{Findings, InputError, find_in_bench, foreign_kind};
 use std::alloc::{AllocError, Global};
 
 /// The result of checking a bench file.
@@ -37,6 +37,9 @@ fn bench_findings<'a>(
 ) -> Result<Findings<'a>, AllocError>
     ensures { IfOk result (λ findings. findings.first.fault ≡ InputError.Bench fault) }
 {
-    let found = find_in_bench(alloc, text, fault)?;
-    Ok(findings_of(found, InputError::Bench(fault)))
+    let error = InputError::Bench(fault);
+    match foreign_kind(text) {
+        Some(kind) => Ok(foreign_findings(alloc, kind, error)),
+        None => Ok(findings_of(find_in_bench(alloc, text, fault)?, error)),
+    }
 }

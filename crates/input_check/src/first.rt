@@ -2,7 +2,8 @@
 
 ghost use Rattle.std.specs.Prelude.{◌≡◌};
 
-use input_errors::{Finding, Findings, Found, InputError, Note, Place};
+use input_errors::{Finding, Findings, Foreign, Found, InputError, Note, Place};
+use std::alloc::Global;
 
 /// Returns the errors of a file with this error first.
 pub(crate) fn findings_of<'a>(found: Found<'a>, fault: InputError) -> Findings<'a>
@@ -26,11 +27,29 @@ fn first_of<'a>(first: Option<Finding<'a>>, fault: InputError) -> Finding<'a>
 {
     match first {
         Some(finding) if finding.fault == fault => Finding { fault, ..finding },
-        _ => Finding {
-            fault,
-            text: &[],
-            place: Place { start: 0, len: 0 },
-            note: Note::Nothing,
-        },
+        _ => whole(fault, Note::Nothing),
+    }
+}
+
+/// Returns the error of a file of another kind.
+pub(crate) fn foreign_findings<'a>(alloc: Global, kind: Foreign, fault: InputError) -> Findings<'a>
+    ensures { result.first.fault ≡ fault }
+{
+    Findings {
+        first: whole(fault, Note::Foreign(kind)),
+        others: Vec::new(alloc),
+        more: 0,
+    }
+}
+
+/// Returns the finding of an error of a whole file.
+fn whole<'a>(fault: InputError, note: Note<'a>) -> Finding<'a>
+    ensures { result.fault ≡ fault }
+{
+    Finding {
+        fault,
+        text: &[],
+        place: Place { start: 0, len: 0 },
+        note,
     }
 }

@@ -3,9 +3,9 @@
 ghost use Rattle.std.specs.Prelude.{◌≡◌, IfOk};
 ghost use Rattle.input_check.specs.Checks.{IsTestCheckOf};
 
-use crate::first::findings_of;
+use crate::first::{findings_of, foreign_findings};
 use bench_net::Circuit;
-use input_errors::{Findings, InputError, find_in_tests};
+use input_errors::{Findings, InputError, find_in_tests, foreign_kind};
 use patterns::{TestFault, Tests, read_tests};
 use std::alloc::{AllocError, Global};
 
@@ -43,8 +43,12 @@ fn test_findings<'a>(
 ) -> Result<Findings<'a>, AllocError>
     ensures { IfOk result (λ findings. findings.first.fault ≡ InputError.Tests fault) }
 {
+    let error = InputError::Tests(fault);
+    if let Some(kind) = foreign_kind(text) {
+        return Ok(foreign_findings(alloc, kind, error));
+    }
     let inputs = circuit.inputs().len();
     let cells = circuit.scan_cells().len();
     let found = find_in_tests(alloc, text, inputs, cells)?;
-    Ok(findings_of(found, InputError::Tests(fault)))
+    Ok(findings_of(found, error))
 }

@@ -21,22 +21,25 @@ pub fn find_in_bench<'a>(
 ) -> Result<Found<'a>, AllocError> {
     let mut found = Found::new(alloc);
     match fault {
-        BenchFault::TooLarge(Limit::Bytes) => {
-            found.push(whole(fault, text.len(), "bytes"))?;
-        }
+        BenchFault::TooLarge(Limit::Bytes) => found.push(whole(fault, Note::Nothing))?,
         _ => look_through(alloc, text, fault, &mut found)?,
     }
     Ok(found)
 }
 
-/// Returns an error of a whole file that is past a limit.
-fn whole<'a>(fault: BenchFault, found: usize, what: &'static str) -> Finding<'a> {
+/// Returns an error of a whole file.
+fn whole<'a>(fault: BenchFault, note: Note<'a>) -> Finding<'a> {
     Finding {
         fault: InputError::Bench(fault),
         text: &[],
         place: Place { start: 0, len: 0 },
-        note: Note::TooMany { found, what },
+        note,
     }
+}
+
+/// Returns the note on a number that is past its limit.
+fn too_many<'a>(found: usize, what: &'static str) -> Note<'a> {
+    Note::TooMany { found, what }
 }
 
 /// A name on a line of the file, and the gate that reads it.
@@ -125,25 +128,17 @@ fn report_names<'a>(
     match fault {
         BenchFault::TooLarge(Limit::Signals) => {
             let count = names.definitions.len().saturating_add(names.again.len());
-            found.push(whole(fault, count, "signals"))?;
+            found.push(whole(fault, too_many(count, "signals")))?;
         }
-        BenchFault::TooLarge(_) => found.push(whole(fault, names.reads.len(), "sinks"))?,
-        BenchFault::Empty => found.push(empty())?,
+        BenchFault::TooLarge(_) => {
+            found.push(whole(fault, too_many(names.reads.len(), "sinks")))?;
+        }
+        BenchFault::Empty => found.push(whole(fault, Note::NoStatement))?,
         _ => (),
     }
     report_redefined(text, names, found)?;
     report_undefined(alloc, text, names, found)?;
     report_cycles(alloc, text, names, found)
-}
-
-/// Returns the error of a file without a statement.
-fn empty<'a>() -> Finding<'a> {
-    Finding {
-        fault: InputError::Bench(BenchFault::Empty),
-        text: &[],
-        place: Place { start: 0, len: 0 },
-        note: Note::NoStatement,
-    }
 }
 
 /// Checks each line of a file, and reports each one that is no statement.

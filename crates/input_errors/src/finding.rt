@@ -167,6 +167,9 @@ fn fmt_finding<W: fmt::Write>(
     f: &mut Formatter<W>,
 ) -> fmt::Result {
     let fault = finding.fault;
+    if let Note::Foreign(kind) = finding.note {
+        return writeln!(f, "{path}: {kind}");
+    }
     match fault.line() {
         Some(line) => writeln!(f, "{path}:{line}: {fault}")?,
         None => writeln!(f, "{path}: {fault}")?,

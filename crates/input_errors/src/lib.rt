@@ -8,6 +8,7 @@
 mod bench;
 mod cycle;
 mod finding;
+mod foreign;
 mod look;
 mod note;
 mod suggest;
@@ -17,6 +18,7 @@ mod warning;
 
 pub use bench::find_in_bench;
 pub use finding::{Finding, Findings, Found, InputError, Located};
+pub use foreign::{Foreign, foreign_kind};
 pub use note::Note;
 pub use tests::find_in_tests;
 pub use tokens::{Place, Token};

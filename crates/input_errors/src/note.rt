@@ -1,5 +1,6 @@
 //! The notes on errors beside their words.
 
+use crate::foreign::Foreign;
 use crate::tokens::{Short, Token};
 use std::fmt::{self, Display, Formatter};
 
@@ -8,6 +9,8 @@ use std::fmt::{self, Display, Formatter};
 pub enum Note<'a> {
     /// Nothing beside the words of the error.
     Nothing,
+    /// The file is of another kind.
+    Foreign(Foreign),
     /// Another token than is expected.
     Expected {
         found: Token<'a>,
@@ -148,8 +151,14 @@ fn write_cycle<W: fmt::Write>(names: &[&str], f: &mut Formatter<W>) -> fmt::Resu
 fn write_no_bit<W: fmt::Write>(byte: u8, f: &mut Formatter<W>) -> fmt::Result {
     match byte {
         b' ' | b'\t' => f.write_str("found a blank inside a test, expected 0 or 1"),
-        b'x' | b'X' => f.write_str("found `x`, expected 0 or 1: a test has a bit for each source"),
-        0x21..=0x7e => write!(f, "found `{}`, expected 0 or 1", char::from(byte)),
+        0x21..=0x7e => {
+            let character = char::from(byte);
+            let why = match byte {
+                b'x' | b'X' => ": a test has a bit for each source",
+                _ => "",
+            };
+            write!(f, "found `{character}`, expected 0 or 1{why}")
+        }
         _ => write!(f, "found the byte 0x{byte:02x}, expected 0 or 1"),
     }
 }
@@ -171,6 +180,7 @@ impl Display for Note<'_> {
     fn fmt<W: fmt::Write>(&self, f: &mut Formatter<W>) -> fmt::Result {
         match self {
             Note::Nothing => Ok(()),
+            Note::Foreign(kind) => write!(f, "{kind}"),
             Note::Expected { found, expected } => write!(f, "found {found}, expected {expected}"),
             Note::UnknownGate { word, near } => {
                 write!(f, "unknown gate {}", Short(*word))?;

@@ -11,7 +11,8 @@ use Rattle.job_loading.specs.declared.split.Split.TheVariants as split
 use Rattle.bench_net.specs.Statement.{Statement}
 use Rattle.patterns.specs.Tests.{TestList}
 use Rattle.job_loading.specs.declared.fault.SimFault.TheVariants as fault
-use Rattle.job_loading.specs.Jobs.{IsJobFault, IsPiecesFault, IsReadFault}
+use Rattle.bench_net.specs.Refusal.{IsAccepted}
+use Rattle.job_loading.specs.Jobs.{AreTestsFor, IsJobFault, IsPiecesFault, IsReadFault}
 
 -- a given number of parts isn't 0
 abbrev pub HasSomePart : Split → Type 0
@@ -45,3 +46,8 @@ abbrev pub IsSplitFaultFor : Model → List Statement → TestList → Split →
 IsSplitFaultFor m c tests split.Whole f = IsPiecesFault m c tests f
 IsSplitFaultFor m c tests (split.Parts count) f = f ≡ fault.Memory
 IsSplitFaultFor m c tests split.Fitting f = f ≡ fault.Memory
+
+-- the error of such a run of an accepted bench file and of some tests for its circuit
+abbrev pub IsSplitFaultForSome : Model → List ℕ → Split → SimFault → Type 0
+IsSplitFaultForSome m bench parts f = (c : List Statement) × (tests : TestList)
+    × IsAccepted bench c × AreTestsFor c tests × IsSplitFaultFor m c tests parts f

@@ -1,6 +1,7 @@
 //! How a run is split into parts.
 
 ghost use Rattle.std.specs.Prelude.{◌≡◌, ℕ, ◌*◌, ◌<◌, ◌≤◌, IfErr, IfOk, IfSome, true};
+ghost use Rattle.bench_net.specs.Refusal.{IsAccepted};
 ghost use Rattle.patterns.specs.Tests.{max_pieces};
 ghost use Rattle.region_runs.specs.Part.{stretch_size};
 ghost use Rattle.region_runs.specs.Refused.{ArePartsWithin};
@@ -8,7 +9,7 @@ ghost use Rattle.block_sim.specs.JobParts.{IsJobUnder};
 ghost use Rattle.block_sim.specs.Parts.{BelongTogether, piece_count};
 ghost use Rattle.job_loading.specs.Jobs.{AreTestsFor, IsJobOf};
 ghost use Rattle.job_loading.specs.Splits.{HasSomePart, IsLeastSplit, IsSplitFault};
-ghost use Rattle.job_loading.specs.Splits.{IsSplitFaultFor, IsSplitOf};
+ghost use Rattle.job_loading.specs.Splits.{IsSplitFaultFor, IsSplitFaultForSome, IsSplitOf};
 
 use crate::fault::SimFault;
 use crate::pieces::read_job_in_pieces;
@@ -180,6 +181,10 @@ where
     requires { HasSomePart split }
     ensures job { IfSome (F.remaining tests) (λ text. IfSome result (λ read.
         IfOk read (λ made. IsJobOf model bench.now text made.0.parts))) }
+    ensures circuit { IfSome result (λ read. IfOk read (λ made.
+        IsAccepted bench.now made.0.parts.circuit)) }
+    ensures model { IfSome result (λ read. IfOk read (λ made.
+        made.0.parts.list.model ≡ model)) }
     ensures together { IfSome result (λ read. IfOk read (λ made. BelongTogether made.0.parts)) }
     ensures apart { IfSome result (λ read. IfOk read (λ made.
         made.0.apart ≡ true → apart ≡ true)) }
@@ -187,6 +192,8 @@ where
         IsSplitOf made.0.parts split workers made.1)) }
     ensures refused { IfSome (F.remaining tests) (λ text. IfSome result (λ read.
         IfErr read (IsSplitFault model bench.now text split))) }
+    ensures refused_for_some { IfSome result (λ read.
+        IfErr read (IsSplitFaultForSome model bench.now split)) }
 {
     let (job, tests) = read_job_in_pieces(rt, alloc, model, bench, tests, size, workers)?;
     Some(split_run_with(rt, alloc, job, tests, split, apart, workers))

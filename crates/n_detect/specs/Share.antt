@@ -33,6 +33,11 @@ abbrev pub HasRowsOf : Parts → List ℕ → ℕ → List ListedClass → Type 
 HasRowsOf job owners owner rows = (class : ℕ) → class < length job.classes.representative
     → slice_get owners class ≡ Some owner → IsOpen rows class
 
+-- the rows have no other class
+abbrev pub AreRowsOfOwner : List ℕ → ℕ → List ListedClass → Type 0
+AreRowsOfOwner owners owner rows = (place : ℕ) (row : ListedClass)
+    → slice_get rows place ≡ Some row → slice_get owners row.class ≡ Some owner
+
 -- of the first tests, as many as the number, this many detect the representative of a class,
 -- counted up to `most`
 abbrev pub IsCountBefore : Parts → ℕ → ℕ → ℕ → ℕ → Type 0

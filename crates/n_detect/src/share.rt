@@ -5,7 +5,7 @@ ghost use Rattle.flat_circuit.specs.BlockSpans.{groups};
 ghost use Rattle.region_sim.specs.GroupLanes.{HaveGroupLanes};
 ghost use Rattle.block_sim.specs.Listed.{IsListed};
 ghost use Rattle.block_sim.specs.Parts.{HasRoom};
-ghost use Rattle.n_detect.specs.Share.{AreTallied, HasAllClasses, HasCounted};
+ghost use Rattle.n_detect.specs.Share.{AreRowsOfOwner, AreTallied, HasAllClasses, HasCounted};
 ghost use Rattle.n_detect.specs.Share.{HasRowsOf, IsShareFor};
 
 use crate::tally::tally;
@@ -66,6 +66,7 @@ fn rows_of(
     requires owners { length owners.now ≡ length job.now.classes.representative }
     ensures listed { IfOk result (λ rows. All (IsListed job.now) rows.items) }
     ensures whole { IfOk result (λ rows. HasRowsOf job.now owners.now owner rows.items) }
+    ensures own { IfOk result (λ rows. AreRowsOfOwner owners.now owner rows.items) }
 {
     let mut rows = Vec::new(alloc);
     for class in classes {

@@ -21,7 +21,8 @@ use Rattle.block_sim.specs.Parts.{Parts}
 use Rattle.region_sim.specs.RegionHits.{HasFirst, IsOpenAt}
 use Rattle.flat_circuit.specs.BlockSpans.{IsInSpan}
 use Rattle.region_runs.specs.declared.stretch_run.BlockSweep.{BlockSweep}
-use Rattle.region_runs.specs.BlockSweeps.{HaveFirstsFrom, HaveFirstsAfter, between, classes_of}
+use Rattle.region_sim.specs.ClassOrder.{classes_of}
+use Rattle.region_runs.specs.BlockSweeps.{HaveFirstsFrom, HaveFirstsAfter, between}
 
 -- ---- from the first test of a span to outcomes
 

@@ -20,7 +20,8 @@ use Rattle.block_sim.specs.First.{IsFirstOn}
 use Rattle.block_sim.proofs.Public.{true_table}
 use Rattle.workers.specs.Stops.{Stops}
 use Rattle.region_runs.specs.declared.stretch_run.Stop.{Stop}
-use Rattle.region_runs.specs.BlockSweeps.{AreAllNotStopped, AreDeadFrom, between, classes_of}
+use Rattle.region_sim.specs.ClassOrder.{classes_of}
+use Rattle.region_runs.specs.BlockSweeps.{AreAllNotStopped, AreDeadFrom, between}
 use Rattle.region_runs.specs.StretchRuns.{AreFoundUpTo, ArePassed, HasEnded, IsEarlier}
 use Rattle.region_runs.specs.StretchRuns.{IsUndetected}
 use Rattle.region_runs.proofs.BlockSweeps.{row_listed, true_clear}

@@ -17,6 +17,7 @@ mod ReturnsByPart
 mod SharedStretches
 mod WindowTests
 mod WindowWords
+mod FittingWords
 mod WindowFirsts
 mod WindowSteps
 mod PartRefusals

@@ -14,9 +14,10 @@ use Rattle.workers.specs.Verdict.{AreClassFirsts}
 use Rattle.region_runs.specs.declared.parts.PartVerdict.{PartVerdict}
 use Rattle.region_runs.specs.declared.parts.PartVerdict.TheVariants.{First, OtherPart}
 use Rattle.region_runs.specs.ListRunners.{AreMarked}
-use Rattle.region_runs.specs.Part.{AreAllByRegion, AreClassVerdicts, IsClassVerdict, first_in}
+use Rattle.region_sim.specs.ClassOrder.{AreAllByRegion}
+use Rattle.region_runs.specs.Part.{AreClassVerdicts, IsClassVerdict, first_in}
 use Rattle.region_runs.proofs.ClassOrders.{is_kept}
-use Rattle.region_runs.proofs.PartsOfClasses.{all_within}
+use Rattle.region_sim.proofs.Public.{all_within}
 
 module _ (job : Parts) (order : List ℕ) (all : AreAllByRegion job order) where
   -- the kept classes of all classes are classes of the job

@@ -32,9 +32,10 @@ use Rattle.workers.proofs.Public.{class_count, class_in}
 use Rattle.region_runs.specs.declared.parts.PartVerdict.{PartVerdict}
 use Rattle.region_runs.specs.declared.parts.PartVerdict.TheVariants.{First, OtherPart}
 use Rattle.region_runs.specs.Part.{AreClassVerdicts, ArePartOf, ArePartVerdicts, IsClassVerdict}
-use Rattle.region_runs.specs.Part.{AreAllByRegion, IsInOnePart, IsOfPart, IsPartVerdict}
+use Rattle.region_sim.specs.ClassOrder.{AreAllByRegion}
+use Rattle.region_runs.specs.Part.{IsInOnePart, IsOfPart, IsPartVerdict}
 use Rattle.region_runs.specs.Part.{first_in, stretch, stretch_size}
-use Rattle.region_runs.specs.ClassOrder.{IsCutOf}
+use Rattle.region_runs.specs.Cut.{IsCutOf}
 
 -- the part of a class is the part of its one stem
 pub part_of_stem : (job : Parts) (parts part class stem : ℕ)
@@ -63,12 +64,6 @@ pub part_within : (job : Parts) (parts part : ℕ) (classes : List ℕ)
     → ArePartOf job parts part classes
     → All (λ class. class < length job.classes.representative) classes
 part_within job parts part classes are k d lt =
-    (are.each k (get_or classes k d) (slice_get-get_or classes k d lt)).0
-
--- and so is each of all classes
-pub all_within : (job : Parts) (classes : List ℕ) → AreAllByRegion job classes
-    → All (λ class. class < length job.classes.representative) classes
-all_within job classes are k d lt =
     (are.each k (get_or classes k d) (slice_get-get_or classes k d lt)).0
 
 -- from a verdict on a class that was set at one more place

@@ -22,7 +22,7 @@ use Rattle.region_runs.specs.StretchRuns.{IsLowestIn, IsOpenIn, IsStopAt, PartRu
 use Rattle.region_runs.specs.StretchRuns.{StretchesWaitFor, WaitsIn, at_first, run_at, runs_from}
 use Rattle.region_runs.specs.StretchRuns.{unbegun_run}
 use Rattle.region_runs.specs.Part.{stretch}
-use Rattle.region_runs.specs.ClassOrder.{IsCutOf}
+use Rattle.region_runs.specs.Cut.{IsCutOf}
 use Rattle.region_runs.proofs.ReturnsByPart.{kept, last_of}
 use Rattle.region_runs.proofs.PartsOfClasses.{FirstsUpTo, firsts_more, stretch_within}
 use Rattle.region_runs.proofs.ClassOrders.{pushed}

@@ -43,7 +43,7 @@ use Rattle.region_runs.specs.StretchRuns.{AreGivenBack, HasEnded, IsDone}
 use Rattle.region_runs.specs.StretchRuns.{IsLowest, IsOpenIn, IsStopAt, IsStoppedAmong}
 use Rattle.region_runs.specs.StretchRuns.{run_at, runs_from}
 use Rattle.region_runs.specs.Part.{stretch, stretch_count, stretch_size}
-use Rattle.region_runs.specs.ClassOrder.{IsCutOf}
+use Rattle.region_runs.specs.Cut.{IsCutOf}
 use Rattle.region_runs.specs.Stretches.{AreApart, AreOfStretches, AreServed, AreShared}
 use Rattle.region_runs.specs.Stretches.{EachClaim, StandsFor}
 use Rattle.region_runs.specs.Stretches.{EndsServing, HasServed, IsAmong, Stands, crew_of}

@@ -18,7 +18,8 @@ use Rattle.region_sim.specs.OpenPlaces.{AreSettled}
 use Rattle.block_sim.proofs.Public.{true_table}
 use Rattle.workers.specs.Schedule.{IsTableOf}
 use Rattle.workers.specs.Stops.{Stops}
-use Rattle.region_runs.specs.BlockSweeps.{AreNotStopped, classes_of}
+use Rattle.region_sim.specs.ClassOrder.{classes_of}
+use Rattle.region_runs.specs.BlockSweeps.{AreNotStopped}
 use Rattle.region_runs.specs.StretchRuns.{AreFoundUpTo, ArePassed, IsEarlier, IsUndetected}
 use Rattle.region_runs.proofs.BlockSweeps.{class_there}
 use Rattle.region_runs.proofs.OpenClasses.{get_set_here, get_set_other, set_other}

@@ -18,7 +18,8 @@ use Rattle.region_runs.specs.declared.parts.PartVerdict.{PartVerdict}
 use Rattle.region_runs.specs.declared.parts.PartVerdict.TheVariants.{First, OtherPart}
 use Rattle.region_runs.specs.Part.{AreClassVerdicts, IsClassVerdict}
 use Rattle.region_runs.specs.WindowLedgers.{open_classes}
-use Rattle.region_runs.specs.Windows.{AreFirstsBelow, IsFirstBelow, IsWindowOf, advanced}
+use Rattle.workers.specs.Verdict.{IsFirstBelow}
+use Rattle.region_runs.specs.Windows.{AreFirstsBelow, IsWindowOf, advanced}
 use Rattle.region_runs.proofs.WindowTests.{first_after, first_of_all}
 
 -- a class with no first test is among them

@@ -6,7 +6,8 @@ use Rattle.std.specs.Int.{div_ceil}
 use Rattle.bench_net.specs.Scan.{sources}
 use Rattle.patterns.specs.Tests.{IsTestList, TestList}
 use Rattle.block_sim.specs.Parts.{BelongTogether, Parts, with_tests}
-use Rattle.region_runs.specs.Part.{AreAllByRegion, ArePartOf}
+use Rattle.region_sim.specs.ClassOrder.{AreAllByRegion}
+use Rattle.region_runs.specs.Part.{ArePartOf}
 
 -- a window that there is begins before the last block
 pub step_within : (blocks step number : ℕ) → 0 < step → number < div_ceil blocks step

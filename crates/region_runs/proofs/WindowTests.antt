@@ -12,7 +12,8 @@ use Rattle.fault_model.specs.Detection.{DetectsAt, IsInitialized, LooksBack}
 use Rattle.fault_model.specs.Fault.{Fault}
 use Rattle.fault_model.specs.Solution.{Test}
 use Rattle.block_sim.specs.First.{IsFirst}
-use Rattle.region_runs.specs.Windows.{IsFirstBelow, IsWindowOf, moved}
+use Rattle.workers.specs.Verdict.{IsFirstBelow}
+use Rattle.region_runs.specs.Windows.{IsWindowOf, moved}
 
 -- a test of the window initializes a line if the test of the list does
 initialized_up : (c : List Statement) (tests window : List Test) (from end : ℕ) (l : Line)

@@ -13,15 +13,6 @@ use Rattle.flat_circuit.specs.BlockSpans.{unit_of}
 use Rattle.workers.specs.Stops.{Stops}
 use Rattle.region_runs.specs.declared.stretch_run.BlockSweep.{BlockSweep}
 
--- the numbers of the classes of rows
-abbrev pub classes_of : List ListedClass → List ℕ
-classes_of rows = map (λ row. row.class) rows
-
--- the rows stand for the classes of a list
-pub record AreRowsOf (job : Parts) (classes : List ℕ) (rows : List ListedClass) : Type 0 where
-  pub same : classes_of rows ≡ classes
-  pub each : All (IsListed job) rows
-
 -- the blocks from one to another
 abbrev pub between : ℕ → ℕ → BlockSpan
 between first last = record { first = first; last = last }

@@ -1,5 +1,5 @@
 pub mod Part
-pub mod ClassOrder
+pub mod Cut
 pub mod FaultFirsts
 pub mod StretchRuns
 pub mod Refused

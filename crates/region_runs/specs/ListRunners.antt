@@ -2,7 +2,7 @@
 use Rattle.std.specs.Prelude.{◌≡◌, ◌<◌, ℕ, Bool, List, Some, length, slice_get, true}
 use Rattle.block_sim.specs.Parts.{Parts}
 use Rattle.region_sim.specs.RegionHits.{RegionsSimulated, ServesRegions}
-use Rattle.region_runs.specs.Part.{AreAllByRegion}
+use Rattle.region_sim.specs.ClassOrder.{AreAllByRegion}
 
 -- a runner as contracts see it: the simulation of the regions, and the classes in an order
 pub record Runner : Type 0 where

@@ -8,6 +8,7 @@ use Rattle.fault_model.specs.Fault.{Fault, faults}
 use Rattle.block_sim.specs.First.{IsFirst}
 use Rattle.block_sim.specs.Parts.{Parts}
 use Rattle.flat_circuit.specs.Regions.{IsStemOfClass}
+use Rattle.region_sim.specs.ClassOrder.{AreByRegion}
 use Rattle.region_runs.specs.declared.parts.PartVerdict.{PartVerdict}
 use Rattle.region_runs.specs.declared.parts.PartVerdict.TheVariants.{First, OtherPart}
 
@@ -22,37 +23,9 @@ abbrev pub IsInOnePart : Parts → ℕ → ℕ → Type 0
 IsInOnePart job parts class = (part : ℕ) × (part < parts) × IsOfPart job parts part class
     × ((other : ℕ) → IsOfPart job parts other class → other ≡ part)
 
--- one class comes before another: by the visits to the stems of their regions, then by the numbers
--- of these, and in a region by its own number
-abbrev pub ComesBefore : Parts → List ℕ → ℕ → ℕ → Type 0
-ComesBefore job visits first second = (r q : ℕ)
-    → IsStemOfClass job.list.model job.circuit first r
-    → IsStemOfClass job.list.model job.circuit second q
-    → (slice_index_or visits r 0 < slice_index_or visits q 0)
-    ⊎ ((slice_index_or visits r 0 ≡ slice_index_or visits q 0)
-    × ((r < q) ⊎ ((r ≡ q) × (first < second))))
-
--- The classes of a job with a property, region by region. Each of the list has it, and each class
--- that has it is in the list. Each comes before the later ones by some visits to the stems, so it
--- stands there once, and the classes of one region are adjacent. So they are no more than the
--- job's.
-pub record AreByRegion (job : Parts) (Holds : ℕ → Type 0) (classes : List ℕ) : Type 0 where
-  pub visits : List ℕ
-  pub each : (k class : ℕ) → slice_get classes k ≡ Some class
-      → (class < length job.classes.representative) × Holds class
-  pub all : (class : ℕ) → class < length job.classes.representative
-      → Holds class → (k : ℕ) × (slice_get classes k ≡ Some class)
-  pub ordered : (i k first second : ℕ) → i < k → slice_get classes i ≡ Some first
-      → slice_get classes k ≡ Some second → ComesBefore job visits first second
-  pub few : length classes ≤ length job.classes.representative
-
 -- the classes of a part, for this number of parts
 abbrev pub ArePartOf : Parts → ℕ → ℕ → List ℕ → Type 0
 ArePartOf job parts part classes = AreByRegion job (IsOfPart job parts part) classes
-
--- all classes
-abbrev pub AreAllByRegion : Parts → List ℕ → Type 0
-AreAllByRegion job classes = AreByRegion job (λ class. ⊤) classes
 
 -- The number of classes of a stretch, if `count` classes are cut into stretches of one size, as
 -- small as possible. The last stretches have fewer, or none.

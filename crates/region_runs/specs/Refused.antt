@@ -69,3 +69,10 @@ IsPartsFault job parts workers passing stops (Unfinished class block) =
     × (class < length job.classes.representative) × (block < blocks (length job.tests.tests))
     × (¬ passing) × PartsWaitFor job parts workers stops class block
 IsPartsFault job parts workers passing stops fault = IsWorkersFault workers fault
+
+-- the error of a run of some classes with an open gate: its number of workers, and then memory or a
+-- thread
+abbrev pub IsOpenFault : ℕ → RunFault → Type 0
+IsOpenFault workers Memory = (0 < workers) × (workers ≤ 64)
+IsOpenFault workers Threads = (0 < workers) × (workers ≤ 64)
+IsOpenFault workers fault = IsWorkersFault workers fault

@@ -11,7 +11,8 @@ use Rattle.workers.specs.Verdict.{AreClassFirsts}
 use Rattle.workers.specs.Stops.{Stops}
 use Rattle.region_runs.specs.declared.stretch_run.Stop.{Stop}
 use Rattle.region_runs.specs.declared.stretch_run.Waiting.{Waiting}
-use Rattle.region_runs.specs.Part.{AreAllByRegion, ArePartOf, stretch, stretch_size, stretches_for}
+use Rattle.region_sim.specs.ClassOrder.{AreAllByRegion}
+use Rattle.region_runs.specs.Part.{ArePartOf, stretch, stretch_size, stretches_for}
 use Rattle.region_runs.specs.declared.stretch_workers.Done.{Done}
 
 -- Of two pieces of a list, each of a place and a block, the first comes before the second: it is on

@@ -23,7 +23,8 @@ use Rattle.region_runs.specs.declared.stretch_workers.Served.{Served}
 use Rattle.region_runs.specs.StretchRuns.{AreDone}
 use Rattle.region_runs.specs.declared.parts.PartVerdict.{PartVerdict}
 use Rattle.region_runs.specs.declared.parts.PartVerdict.TheVariants.{First}
-use Rattle.region_runs.specs.Part.{AreAllByRegion, ArePartOf, stretch, stretch_count, stretch_size}
+use Rattle.region_sim.specs.ClassOrder.{AreAllByRegion}
+use Rattle.region_runs.specs.Part.{ArePartOf, stretch, stretch_count, stretch_size}
 use Rattle.region_runs.specs.Part.{stretches_for}
 
 -- the shape of a ledger of a number of stretches: each is a class of the ledger, with one block

@@ -9,7 +9,8 @@ use Rattle.workers.specs.Verdict.{VerdictList}
 use Rattle.region_runs.specs.declared.parts.PartVerdict.{PartVerdict}
 use Rattle.region_runs.specs.declared.parts.PartVerdict.TheVariants.{First, OtherPart}
 use Rattle.region_runs.specs.declared.windows.Window.{Window}
-use Rattle.region_runs.specs.Part.{AreAllByRegion, AreClassVerdicts, ArePartOf, stretch_size}
+use Rattle.region_sim.specs.ClassOrder.{AreAllByRegion}
+use Rattle.region_runs.specs.Part.{AreClassVerdicts, ArePartOf, stretch_size}
 use Rattle.region_runs.specs.Part.{stretches_for}
 use Rattle.region_runs.specs.Stretches.{AreOfStretches}
 use Rattle.region_runs.specs.Windows.{GoesOnFrom, IsWindowOf, advanced}

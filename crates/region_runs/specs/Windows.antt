@@ -12,12 +12,7 @@ use Rattle.patterns.specs.Tests.{IsWord, TestList}
 use Rattle.region_runs.specs.declared.windows.Window.{Window}
 use Rattle.region_runs.specs.declared.parts.PartVerdict.{PartVerdict}
 use Rattle.region_runs.specs.Part.{first_in}
-
--- the first of the tests below this number that detects the fault, or none if none of them does
-abbrev pub IsFirstBelow : List Statement → List Test → ℕ → Fault → Option ℕ → Type 0
-IsFirstBelow c tests end f (Some t) = (t < end) × DetectsAt c tests f t
-    × ((earlier : ℕ) → earlier < t → ¬ DetectsAt c tests f earlier)
-IsFirstBelow c tests end f None = (t : ℕ) → t < end → ¬ DetectsAt c tests f t
+use Rattle.workers.specs.Verdict.{IsFirstBelow}
 
 -- for each class of a list the first of the tests below a number that detects its faults, or none
 pub record AreFirstsBelow (m : Model) (c : List Statement) (tests : List Test) (end : ℕ)

@@ -1,42 +1,13 @@
-//! The classes of a job, region by region.
+//! The classes of a job, or of a part of it, region by region.
 
-ghost use Rattle.std.specs.Prelude.{◌≡◌, ◌<◌, ◌^◌, IfOk, length};
-ghost use Rattle.region_runs.specs.Part.{AreAllByRegion, ArePartOf};
-ghost use Rattle.region_runs.specs.ClassOrder.{AreVisits};
-ghost use Rattle.counting_sort.specs.SortedPlaces.{ArePositions};
+ghost use Rattle.std.specs.Prelude.{◌≡◌, ◌<◌, ◌≤◌, IfOk, length};
+ghost use Rattle.block_sim.specs.Parts.{BelongTogether};
+ghost use Rattle.region_sim.specs.ClassOrder.{AreAllByRegion};
+ghost use Rattle.region_runs.specs.Part.{ArePartOf};
 
 use block_sim::Job;
-use counting_sort::{SortedPlaces, sorted_places};
+use region_sim::class_order::{ClassOrder, class_order};
 use std::alloc::{AllocError, Global};
-
-/// All classes of a job in an order.
-#[derive(Drop)]
-pub(crate) struct ClassOrder {
-    /// The classes, in order.
-    pub(crate) classes: Vec<u32>,
-    /// For each class, by its number, its position in the order.
-    pub(crate) positions: Vec<u32>,
-}
-
-/// Returns all classes of a job, region by region, in the order of the visits: by the visit to the
-/// region, and in a region by number. The visit is the place of the region's stem in the lists of
-/// the simulation, and a stem's simulation reads the gates that lie ahead of it. The gates of near
-/// stems are near, so they are still in the caches.
-pub(crate) fn class_order(alloc: Global, job: &Job) -> Result<ClassOrder, AllocError>
-    ensures classes { IfOk result (λ order. AreAllByRegion job.now order.classes.items) }
-    ensures positions { IfOk result (λ order.
-        ArePositions order.classes.items order.positions.items) }
-    ensures count { IfOk result (λ order.
-        length order.positions.items ≡ length job.now.classes.representative) }
-{
-    let visits = visits_of(alloc, job)?;
-    let sorted = sorted_places(alloc, &visits, job.circuit().signals())?;
-    let SortedPlaces { places, positions } = sorted;
-    Ok(ClassOrder {
-        classes: places,
-        positions,
-    })
-}
 
 /// Returns all classes of a job in the order of [`class_order`].
 pub(crate) fn all_classes(alloc: Global, job: &Job) -> Result<Vec<u32>, AllocError>
@@ -87,16 +58,14 @@ fn of_part(
     Ok(own)
 }
 
-/// Returns the visit to the region of each class, by the class's number.
-pub(crate) fn visits_of(alloc: Global, job: &Job) -> Result<Vec<u32>, AllocError>
-    ensures visits { IfOk result (λ visits. AreVisits job.now visits.items) }
-    ensures few { IfOk result (λ visits. length visits.items < 2 ^ 32) }
+/// Returns the number of classes of a list that has no more classes than the job.
+pub(crate) fn count_in(job: &Job, classes: &[u32]) -> u32
+    requires { length classes.now ≤ length job.now.classes.representative }
+    ensures count { result ≡ length classes.now }
+    ensures together { BelongTogether job.now }
 {
-    let count = job.classes().count();
-    let places = job.places();
-    let mut visits = Vec::with_capacity(alloc, count as usize)?;
-    for class in 0..count {
-        visits.push(places[job.stem_of_class(class) as usize])?;
-    }
-    Ok(visits)
+    let most = job.classes().count();
+    let holds = classes.len() <= most as usize;
+    prove!(holds);
+    classes.len() as u32
 }

@@ -24,7 +24,7 @@ mod stretches;
 mod windows;
 
 pub use list_runner::ListRunner;
-pub use open_run::run_open;
+pub use open_run::{run_classes, run_open};
 pub use parts::{
     LedgerRun, PartVerdict, in_one_part, part_of, run_in_parts, run_over_ledger, run_part,
 };

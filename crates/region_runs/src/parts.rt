@@ -12,7 +12,7 @@ ghost use Rattle.region_runs.specs.StretchRuns.{IsLowest, IsLowestAt, IsLowestIn
 ghost use Rattle.region_runs.specs.StretchRuns.{runs_from};
 ghost use Rattle.region_runs.specs.Part.{AreClassVerdicts, ArePartVerdicts, IsInOnePart};
 ghost use Rattle.region_runs.specs.Part.{IsOfPart, first_in, stretch, stretch_count};
-ghost use Rattle.region_runs.specs.ClassOrder.{IsCutOf};
+ghost use Rattle.region_runs.specs.Cut.{IsCutOf};
 ghost use Rattle.region_runs.specs.Refused.{ArePartsWithin, IsPartFault, IsPartsFault};
 ghost use Rattle.region_runs.specs.Refused.{IsPartWithin};
 ghost use Rattle.region_runs.specs.Refused.{IsStretchesFault};
@@ -20,18 +20,19 @@ ghost use Rattle.region_runs.specs.Stretches.{AreApart, AreOfStretches, AreShare
 ghost use Rattle.region_runs.specs.Stretches.{IsOfStretches, IsPartOfStretches, crew_of};
 ghost use Rattle.region_runs.specs.Stretches.{shape_of_stretches};
 
-use crate::class_order::{ClassOrder, class_order, part_classes};
+use crate::class_order::{count_in, part_classes};
 use crate::fault_firsts::{OrderedFirsts, verdicts_in};
 use crate::stretch_run::{Waiting, lower_of};
 use crate::stretch_workers::{Done, Served, empty_table, not_begun, take_parts};
 use crate::stretches::{Cut, filled, stretches_for};
 use block_sim::Job;
-use fault_ledger::{Closed, Finish, Seat, SharedLedger};
+use fault_ledger::{Closed, Finish, LedgerFault, Seat, SharedLedger};
 use patterns::BLOCK_SIZE;
+use region_sim::class_order::{ClassOrder, class_order};
 use std::alloc::{AllocError, Global};
 use std::sync::Wait;
 use std::thread::Threads;
-use workers::{Gate, RunFault, Verdicts, check_pieces, check_workers, count_in};
+use workers::{Gate, RunFault, Verdicts, check_pieces, check_workers};
 
 /// The verdict of a run over a part of the classes for a fault.
 #[derive(Clone, Copy, Debug, PartialEq, Eq)]
@@ -439,7 +440,8 @@ fn close_over(
     let Returned { seats, dones } = returned;
     match ledger.close(alloc, seats) {
         Ok(ledger) => Ok(Handed { ledger, dones }),
-        Err(_) => Err(RunFault::Memory),
+        Err(LedgerFault::Memory) => Err(RunFault::Memory),
+        Err(_) => unreachable!(),
     }
 }
 
@@ -459,7 +461,8 @@ fn ledger_of(
 {
     match SharedLedger::new(alloc, stretches, BLOCK_SIZE, workers) {
         Ok(made) => Ok(made),
-        Err(_) => Err(RunFault::Memory),
+        Err(LedgerFault::Memory) => Err(RunFault::Memory),
+        Err(_) => unreachable!(),
     }
 }
 

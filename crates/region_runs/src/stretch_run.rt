@@ -14,16 +14,16 @@ ghost use Rattle.region_runs.specs.StretchRuns.{AreEarlier, AreFoundUpTo, ArePas
 ghost use Rattle.region_runs.specs.StretchRuns.{IsLowerOf, IsLowest, IsOpenIn, IsStopAt};
 ghost use Rattle.region_runs.specs.StretchRuns.{IsUndetected};
 ghost use Rattle.region_sim.specs.OpenPlaces.{AreNextOpen};
-ghost use Rattle.region_runs.specs.BlockSweeps.{HaveFirstsFrom, HaveFirstsAfter, AreRowsOf};
+ghost use Rattle.region_runs.specs.BlockSweeps.{HaveFirstsFrom, HaveFirstsAfter};
 ghost use Rattle.region_runs.specs.BlockSweeps.{AreAllNotStopped, AreNotStopped, AreDeadFrom};
 ghost use Rattle.region_runs.specs.BlockSweeps.{IsBlockSweep};
-ghost use Rattle.region_runs.specs.BlockSweeps.{IsWhole, between, classes_of};
+ghost use Rattle.region_sim.specs.ClassOrder.{classes_of};
+ghost use Rattle.region_runs.specs.BlockSweeps.{IsWhole, between};
 
 use crate::open_classes::{leave_out, next_open};
 use block_sim::{Job, ListedClass};
 use patterns::Outcome;
 use region_sim::RegionSimulation;
-use std::alloc::{AllocError, Global};
 use workers::Gate;
 
 /// The point at which its gate stopped a worker that goes over a list: before the class at this
@@ -39,22 +39,6 @@ pub(crate) struct Stop {
 pub(crate) struct Waiting {
     pub(crate) class: u32,
     pub(crate) block: u32,
-}
-
-/// Returns the classes of a list, each with the start of its simulation.
-pub(crate) fn rows_of(
-    alloc: Global,
-    job: &Job,
-    classes: &[u32],
-) -> Result<Vec<ListedClass>, AllocError>
-    requires { All (λ class. class < length job.now.classes.representative) classes.now }
-    ensures { IfOk result (λ rows. AreRowsOf job.now classes.now rows.items) }
-{
-    let mut rows = Vec::with_capacity(alloc, classes.len())?;
-    for class in classes {
-        rows.push(job.listed(*class))?;
-    }
-    Ok(rows)
 }
 
 /// A sweep over the classes of a list on one block. Its later blocks are those after the block, up

@@ -3,11 +3,11 @@
 ghost use Rattle.std.specs.Prelude.{◌≡◌, ◌<◌, ◌≤◌, All, length};
 ghost use Rattle.patterns.specs.Tests.{max_pieces};
 ghost use Rattle.region_runs.specs.Part.{parts_for, stretch, stretch_count, stretches_for};
-ghost use Rattle.region_runs.specs.ClassOrder.{IsCutOf};
+ghost use Rattle.region_runs.specs.Cut.{IsCutOf};
 
+use crate::class_order::count_in;
 use block_sim::Job;
 use fault_ledger::MAX_WORKERS;
-use workers::count_in;
 
 /// The number of parts for each of several workers. Fewer parts end less evenly: on a circuit of
 /// 5,000 gates with 16,384 tests four workers took 0.18 s with one part each, 0.16 with two and

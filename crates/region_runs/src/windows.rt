@@ -4,7 +4,7 @@
 //! has only those of some blocks at a time: it runs all classes on the blocks of the first window,
 //! then those that no test detects yet on the next, and so on.
 
-ghost use Rattle.std.specs.Prelude.{◌≡◌, ◌⊎◌, ◌<◌, ◌≤◌, ◌+◌, ◌*◌, ◌^◌, All, IfErr, IfOk};
+ghost use Rattle.std.specs.Prelude.{◌-◌, ◌≡◌, ◌⊎◌, ◌<◌, ◌≤◌, ◌+◌, ◌*◌, ◌^◌, All, IfErr, IfOk};
 ghost use Rattle.std.specs.Prelude.{[], IsTrue, List, OnOk, Option};
 ghost use Rattle.std.specs.Prelude.{⊤, ℕ, length, map, min, slice_index_or, zip};
 ghost use Rattle.bench_net.specs.Scan.{sources};
@@ -14,7 +14,8 @@ ghost use Rattle.counting_sort.specs.SortedPlaces.{AreSortedPlaces};
 ghost use Rattle.fault_ledger.specs.Seats.{ClosedFace};
 ghost use Rattle.workers.specs.Stops.{no_stop};
 ghost use Rattle.workers.specs.Verdict.{AreAfterHits, AreClassFirsts, AreFirsts};
-ghost use Rattle.region_runs.specs.Part.{AreAllByRegion, AreClassVerdicts, ArePartVerdicts};
+ghost use Rattle.region_sim.specs.ClassOrder.{AreAllByRegion};
+ghost use Rattle.region_runs.specs.Part.{AreClassVerdicts, ArePartVerdicts};
 ghost use Rattle.region_runs.specs.Refused.{ArePartsWithin, IsPartFault, IsPartsFault};
 ghost use Rattle.region_runs.specs.Refused.{IsPartWithin};
 ghost use Rattle.region_runs.specs.WindowLedgers.{AreFoundByLedger, AreOfWindows};
@@ -22,7 +23,7 @@ ghost use Rattle.region_runs.specs.WindowLedgers.{IsOfWindows, IsPartOfWindows, 
 ghost use Rattle.region_runs.specs.Windows.{AreFirstsBelow, AreWordsFrom, GoesOnFrom};
 ghost use Rattle.region_runs.specs.Windows.{IsWindowOf, advanced, moved};
 
-use crate::class_order::{all_classes, part_classes, visits_of};
+use crate::class_order::{all_classes, count_in, part_classes};
 use crate::parts::{
     PartVerdict, by_class, first_in, firsts_of_faults, gather, of_faults, skipped_after, verdict_on,
 };
@@ -30,12 +31,13 @@ use crate::stretch_workers::no_firsts;
 use crate::stretches::{Cut, stretches_for};
 use block_sim::Job;
 use counting_sort::{SortedPlaces, sorted_places};
-use patterns::{BLOCK_SIZE, MAX_TESTS, Tests};
+use patterns::{BLOCK_SIZE, MAX_TESTS, Tests, WordsFault};
+use region_sim::class_order::visits_of;
 use std::alloc::{AllocError, Global};
 use std::sync::Wait;
 use std::thread;
 use std::thread::Threads;
-use workers::{Gate, RunFault, Verdicts, check_pieces_of, check_workers, count_in};
+use workers::{Gate, RunFault, Verdicts, check_pieces_of, check_workers};
 
 /// The most memory for the fault-free words of a window, in bytes: 256 MB.
 const MOST_BYTES: u32 = 1 << 28;
@@ -114,12 +116,27 @@ fn tests_of(alloc: Global, tests: &Tests, window: Window) -> Result<Tests, RunFa
     for block in window.from..window.end {
         words = add_block(words, tests, block)?;
     }
+    made_of(alloc, tests, window, words.as_slice())
+}
+
+/// Makes the tests of a window of the words of its blocks.
+fn made_of(alloc: Global, tests: &Tests, window: Window, words: &[u64]) -> Result<Tests, RunFault>
+    requires list { IsTestList tests.now }
+    requires window { (first : ℕ) × GoesOnFrom (blocks (length tests.now.tests)) first window }
+    requires words { AreWordsFrom tests.now window.from (window.end - window.from) words.now }
+    ensures tests { IfOk result (λ some.
+        IsWindowOf tests.now.tests (64 * window.from) (64 * window.end) some.tests) }
+    ensures list { IfOk result (λ some. IsTestList some) }
+    ensures width { IfOk result (λ some. some.width ≡ tests.now.width) }
+    ensures refused { IfErr result (λ fault. fault ≡ RunFault.Memory) }
+{
     let before = BLOCK_SIZE * window.from;
     let count = tests.count().min(BLOCK_SIZE * window.end) - before;
-    match Tests::from_words(alloc, tests.width(), count, words.as_slice()) {
+    match Tests::from_words(alloc, tests.width(), count, words) {
         Ok(some) => Ok(some),
+        Err(WordsFault::Memory) => Err(RunFault::Memory),
         // The words are those of tests, so they fit.
-        Err(_) => Err(RunFault::Memory),
+        Err(_) => unreachable!(),
     }
 }
 
@@ -325,9 +342,9 @@ fn have_window<R: Threads + Wait>(
     take_window(rt, alloc, job, tests, window, workers)
 }
 
-/// Returns all classes of a job in the order of [`crate::class_order::class_order`], and whether it
-/// has the tests of the first window now: with a second worker a thread sorts the classes while the
-/// job takes them.
+/// Returns all classes of a job in the order of [`region_sim::class_order::class_order`], and
+/// whether it has the tests of the first window now: with a second worker a thread sorts the classes
+/// while the job takes them.
 fn classes_and_window<R: Threads + Wait>(
     rt: &R,
     alloc: Global,

@@ -12,14 +12,14 @@ use Rattle.fault_model.specs.Solution.{Test, Detects}
 use Rattle.fault_model.specs.Detection.{DetectsAt}
 use Rattle.flat_circuit.specs.declared.block_span.BlockSpan.{BlockSpan}
 use Rattle.flat_circuit.specs.declared.origin.ListedClass.{ListedClass}
-use Rattle.region_sim.specs.declared.simulation.Approach.{Approach}
-use Rattle.region_sim.specs.declared.simulation.Approach.TheVariants.{Known, Stem}
+use Rattle.region_sim.specs.declared.region.Approach.{Approach}
+use Rattle.region_sim.specs.declared.region.Approach.TheVariants.{Known, Stem}
 use Rattle.flat_circuit.specs.BlockSpans.{group_of}
 use Rattle.region_sim.specs.GroupLanes.{AreAmongLanes, AreApproaches, AreGroupLanes, HasWholeGroup}
 use Rattle.region_sim.specs.GroupLanes.{HaveGroupLanes, IsAmongLanes, IsApproachInLanes, lanes_seen}
 use Rattle.block_sim.specs.Parts.{Parts}
 use Rattle.block_sim.specs.Flips.{AreLanesFor, DetectsFlip}
-use Rattle.region_sim.specs.Simulation.{HasArrived}
+use Rattle.region_sim.specs.Arrivals.{HasArrived}
 use Rattle.flat_circuit.specs.Words.{lane, test_of}
 use Rattle.flat_circuit.proofs.Public.{lane_or, index_of, set_here, set_there}
 use Rattle.block_sim.proofs.Public.{lanes_both, lanes_first}

@@ -1,5 +1,5 @@
 -- The known words of signals, by their marks.
-use Rattle.std.proofs.Common.{◌≡◌, ◌≢◌, ◌<◌, ◌≤◌, ◌==◌, ℕ, zero, suc, refl, sym, ◌∙◌, ap, Bool}
+use Rattle.std.proofs.Common.{◌≡◌, ◌≢◌, ◌<◌, ◌==◌, ℕ, zero, suc, refl, sym, ◌∙◌, ap, Bool}
 use Rattle.std.proofs.Common.{true, false, List, [], ◌∷◌, ◌++◌, length, set, take, arith, eq-eqb}
 use Rattle.std.proofs.Common.{eqb-true}
 use Rattle.std.specs.Prelude.{Some, None, slice_index_or, if◌then◌else◌}
@@ -71,23 +71,6 @@ known_more unit (m ∷ marks) (w ∷ words) zero word e =
 known_more unit (m ∷ marks) (w ∷ words) (suc s) word e =
     ap (λ l. (if m == unit then Some w else None) ∷ l)
     (known_more unit marks words s word (omega (arith, e)))
-
--- no mark of an earlier unit is one of a later
-pub marks_set : (unit : ℕ) (marks : List ℕ) (s : ℕ)
-    → ((t : ℕ) → slice_index_or marks t 0 ≤ unit)
-    → (t : ℕ) → slice_index_or (set marks s unit) t 0 ≤ unit
-marks_set unit [] zero low t = low t
-marks_set unit [] (suc s) low t = low t
-marks_set unit (m ∷ marks) zero low zero = omega arith
-marks_set unit (m ∷ marks) zero low (suc t) = low (suc t)
-marks_set unit (m ∷ marks) (suc s) low zero = low 0
-marks_set unit (m ∷ marks) (suc s) low (suc t) = marks_set unit marks s (λ u. low (suc u)) t
-
--- after the end of a list nothing is marked
-pub past_end : (marks : List ℕ) (s : ℕ) → length marks ≤ s → slice_index_or marks s 0 ≡ 0
-past_end [] s le = refl
-past_end (m ∷ marks) zero le = absurd (omega (arith, le))
-past_end (m ∷ marks) (suc s) le = past_end marks s (omega (arith, le))
 
 -- a list that was completely overwritten
 pub written : {X : Type 0} (n : ℕ) (xs ys : List X) → length xs ≡ n → take n (xs ++ ys) ≡ xs

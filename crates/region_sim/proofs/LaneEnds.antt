@@ -1,21 +1,17 @@
 -- One lane of a simulation by events: what is seen of it, and which gates it makes active.
 use Rattle.std.proofs.Common.{◌≡◌, ◌≢◌, ℕ, refl, sym, ◌∙◌, ap}
 use Rattle.std.proofs.Common.{Bool, true, false, List, arith, inl}
-use Rattle.std.specs.Prelude.{Contains, Some, None, slice_get, slice_index_or}
+use Rattle.std.specs.Prelude.{Contains, Some, None, slice_index_or}
 use Rattle.bench_net.specs.declared.Sink.{Sink}
-use Rattle.bench_net.specs.Statement.{Name, Statement, Gate}
+use Rattle.bench_net.specs.Statement.{Name, Statement}
 use Rattle.bench_net.specs.Scan.{names, signal, observers}
 use Rattle.bench_net.specs.Circuit.{IsWellFormed}
 use Rattle.list_lemmas.proofs.Members.{among}
-use Rattle.list_lemmas.proofs.Places.{placed}
-use Rattle.bench_net.proofs.Public.{read_named}
-use Rattle.fault_model.specs.declared.Line.TheVariants as line
 use Rattle.fault_model.specs.Fault.{Fault, branch}
 use Rattle.fault_model.specs.Solution.{Test, Solves, Detects, shows}
 use Rattle.fault_model.proofs.Public.{detection_is_of_any_solution, has_solutions, observes}
 use Rattle.fault_model.proofs.Public.{under_other}
-use Rattle.block_sim.specs.ActiveGates.{IsActiveBy}
-use Rattle.flat_circuit.specs.Readers.{IsObserved, IsRising, Reads, observed}
+use Rattle.flat_circuit.specs.Readers.{IsObserved, IsRising, observed}
 use Rattle.block_sim.specs.Events.{IsElsewhere}
 use Rattle.flat_circuit.proofs.Public.{unlike}
 use Rattle.region_sim.proofs.OneLane.{IsLane, differing, kept_bit, right_by_now, turned_back}
@@ -61,35 +57,3 @@ module _ (c : List Statement) (well : IsWellFormed c) (rising : IsRising c) (t :
           let still : v o.1 ≡ differing c v d o.1 =
           sym (ap (unlike (v o.1)) (clear (signal c o.1) (o, there, refl)) ∙ kept_bit (v o.1)) in
           differ (still ∙ (is ∙ sym (under_other f (branch o.0) (w o.1) (unobserved o there))))
-
-  -- a gate that reads a signal that differs is active
-  pub lane_active : (g s : ℕ) → Reads c g s → d s ≡ true → IsActiveBy c t f g
-  lane_active g s r on =
-      let u = has_solutions c well t (Some f) in
-      let named : Contains (names c) r.read =
-      read_named c (Gate r.name r.kind r.args) r.read well (among c _ r.gate)
-      (among r.args r.read r.reads) in
-      let is = h.right s on r.read u.0 named r.of u.1 in
-      record {
-        fault_free = v;
-        faulty = u.0;
-        name = r.name;
-        kind = r.kind;
-        args = r.args;
-        pin = pin.0;
-        read = r.read;
-        solves = free;
-        solves_faulty = u.1;
-        stands = r.gate;
-        number = r.number;
-        at = pin.1;
-        differs = λ e. turned_back (v r.read) (d (signal c r.read)) (ap d r.of ∙ on)
-            (e ∙ (under_other f (line.Pin g pin.0) (u.0 r.read) (off.pin pin.0) ∙ sym is));
-      }
-    where
-      off : IsElsewhere f g
-      off = elsewhere g (λ e. let up = rising g s r in let from = h.from_start s on in
-          omega (arith, up, from, e))
-
-      pin : (i : ℕ) × (slice_get r.args i ≡ Some r.read)
-      pin = placed r.args r.read (among r.args r.read r.reads)

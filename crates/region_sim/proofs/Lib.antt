@@ -1,6 +1,6 @@
 mod FlipLanes
 mod FaultLanes
-mod KeptOutcomes
+mod Arrivals
 mod RegionHits
 mod ArrangedReaches
 mod UnitLanes
@@ -12,7 +12,6 @@ mod UnitHits
 mod UnitParts
 mod FollowedRows
 mod FollowedUnits
-mod KnownWays
 mod KnownWords
 mod KnownWideWords
 mod SensitizedLanes
@@ -35,3 +34,5 @@ mod PackKept
 mod PackBegins
 mod GroupLanes
 mod FlipsInLanes
+mod ClassOrders
+pub mod Public

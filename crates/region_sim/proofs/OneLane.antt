@@ -227,15 +227,3 @@ module _ (c : List Statement) (well : IsWellFormed c) (rising : IsRising c) (t :
     above_clear = λ s high. h.above_clear s (omega (arith, le, high));
     right = h.right;
   }
-
-  -- more gates wait
-  pub lane_waiting : (at more : List ℕ) (level : ℕ) (kept : Bool) (d : ℕ → Bool)
-      → ((s : ℕ) → slice_index_or more s 0 ≡ 0 → slice_index_or at s 0 ≡ 0)
-      → IsLane c t f start v at level kept d → IsLane c t f start v more level kept d
-  lane_waiting at more level kept d idle h = record {
-    balanced = λ on s is_counted e. h.balanced on s is_counted (idle s e);
-    starts = h.starts;
-    from_start = h.from_start;
-    above_clear = h.above_clear;
-    right = h.right;
-  }

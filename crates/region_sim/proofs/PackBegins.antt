@@ -1,14 +1,13 @@
 -- The stems of a pack, slot by slot: each differs in the lanes of its slot in which a class came.
 use Rattle.std.proofs.Common.{◌≡◌, ◌≢◌, ◌<◌, ◌≤◌, ◌⊎◌, ℕ, ◌+◌, refl, sym, ◌∙◌, ap, arith, inl, inr}
 use Rattle.std.proofs.Common.{Bool, true, false, ◌||◌, List, length, map, set, subst}
-use Rattle.std.specs.Prelude.{All, Contains, Some, bit_or, slice_get, slice_index_or, slice_range}
+use Rattle.std.specs.Prelude.{Contains, Some, bit_or, slice_get, slice_index_or, slice_range}
 use Rattle.std.specs.Prelude.{unwrap_or}
 use Rattle.std.specs.Bool.{Decides}
 use Rattle.std.proofs.lemmas.Bool.{cases_eq, false≢true, or_cases, or_left}
 use Rattle.std.proofs.lemmas.List.{get_or-set_same, get_or-set_other}
 use Rattle.std.proofs.lemmas.Nat.{le_or_l}
 use Rattle.bench_net.specs.Statement.{Statement}
-use Rattle.event_queue.proofs.Public.{index_zero}
 use Rattle.list_lemmas.proofs.Members.{contained}
 use Rattle.list_lemmas.proofs.Places.{at_place, place_within}
 use Rattle.wide_words.specs.Lanes.{Layout, lane_in, slot_of}
@@ -53,22 +52,6 @@ same_bits false false f g = refl
 
 module _ (layout : Layout) (c : List Statement) (stems : List Slot) (followed : List Followed) where
   -- ---- the start
-  pub begun_none : (delta at : List ℕ) (mask from : ℕ) → mask ≡ 0 → All (λ word. word ≡ 0) delta
-      → All (λ w. w ≡ 0) at → HaveBegun layout c stems followed delta at mask from 0
-  begun_none delta at mask from zero_is clear idle = record {
-    only = λ s k lt on. absurd (off (slice_index_or delta s 0) k (index_zero delta s clear) on);
-    lanes = λ k lt on. absurd (off mask k zero_is on);
-    all = λ k one lt below. absurd (omega (arith, below));
-    stems_alone = λ s ne. absurd (ne (index_zero delta s clear));
-    some = λ s ne. absurd (ne (index_zero delta s clear));
-    readers = λ s r ne. absurd (ne (index_zero delta s clear));
-    waiting = λ r ne. absurd (ne (index_zero at r idle));
-    least = λ s ne. absurd (ne (index_zero delta s clear));
-  }
-    where
-      off : (word k : ℕ) → word ≡ 0 → lane word k ≡ true → ⊥
-      off word k e on = false≢true (sym (lane_zero k) ∙ (ap (λ w. lane w k) (sym e) ∙ on))
-
   -- ---- the end
   pub all_begun : (delta at : List ℕ) (mask from count : ℕ) → length stems ≤ count
       → HaveBegun layout c stems followed delta at mask from count

@@ -12,11 +12,10 @@ use Rattle.bench_net.specs.Scan.{observers}
 use Rattle.bench_net.specs.Circuit.{IsWellFormed}
 use Rattle.fault_model.specs.Fault.{Fault, branch}
 use Rattle.fault_model.specs.Solution.{Test, Detects, Solves}
-use Rattle.block_sim.specs.ActiveGates.{IsActiveBy}
 use Rattle.flat_circuit.specs.Readers.{IsLive, IsObserved, IsRising, Reads}
 use Rattle.block_sim.specs.Events.{AreScheduled, HasEquation, IsElsewhere}
 use Rattle.block_sim.specs.Propagation.{is_pending}
-use Rattle.region_sim.proofs.LaneEnds.{lane_active, lane_detects, lane_misses}
+use Rattle.region_sim.proofs.LaneEnds.{lane_detects, lane_misses}
 use Rattle.region_sim.proofs.LaneSteps.{lane_evaluated}
 use Rattle.region_sim.proofs.OneLane.{IsLane, bit_cases, differing, lane_higher, lane_narrower}
 use Rattle.region_sim.proofs.OneLane.{self}
@@ -398,23 +397,6 @@ module _ (c : List Statement) (well : IsWellFormed c) (rising : IsRising c) (cou
 
   -- ---- at any moment
   module _ (m : LanesMoment) (h : ArePropagating c count lanes m) where
-    -- a gate that waits is active in some lane in which a signal differs
-    pub waits_active : (g : ℕ) → slice_index_or m.at g 0 ≢ 0
-        → (k : ℕ) × (k < count) × (s : ℕ) × (m.delta s k ≡ true)
-        × IsActiveBy c (lanes.test k) (lanes.fault k) g
-    waits_active g ne =
-        let by = h.touched g ne in
-        let k = by.1 in (
-          k,
-          by.2,
-          by.0,
-          by.4,
-          lane_active c well rising (lanes.test k) (lanes.fault k) (lanes.stem k)
-              (lanes.free k) (lanes.elsewhere k) (lanes.solves k by.2) (lanes.unobserved k) m.at
-              m.level
-              (m.kept k) (λ s. m.delta s k) (h.each k by.2) g by.0 by.3 by.4,
-        )
-
     -- each lane that was seen detects its fault
     pub seen_detects : (k : ℕ) → k < count → m.seen k ≡ true
         → Detects c (lanes.test k) (lanes.fault k)

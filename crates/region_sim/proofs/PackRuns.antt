@@ -2,8 +2,8 @@
 use Rattle.std.proofs.Common.{◌≡◌, ◌≢◌, ◌<◌, ◌≤◌, ℕ, ◌+◌, refl, sym, ◌∙◌, ap, subst}
 use Rattle.std.proofs.Common.{Bool, true, false, not, ◌&&◌, ◌||◌, List, []}
 use Rattle.std.proofs.Common.{◌∷◌, length, set, arith, inl, inr, ◌⊎◌}
-use Rattle.std.specs.Prelude.{Contains, Option, Some, None}
-use Rattle.std.specs.Prelude.{slice_index_or, count_by, map, ◌==◌}
+use Rattle.std.specs.Prelude.{Option, Some, None}
+use Rattle.std.specs.Prelude.{slice_index_or, map, ◌==◌}
 use Rattle.std.specs.Prelude.{unwrap_or}
 use Rattle.std.proofs.lemmas.Bool.{cases_eq, false≢true}
 use Rattle.bench_net.specs.Statement.{Name, Statement, Gate, Input, Output, Dff}
@@ -19,20 +19,19 @@ use Rattle.fault_model.proofs.Public.{IsSource, source_definition}
 use Rattle.wide_words.specs.Lanes.{IsLayout, Layout, lane_in, slot_of}
 use Rattle.flat_circuit.specs.Readers.{IsRising, Reads}
 use Rattle.block_sim.specs.Events.{AreScheduled, HasEquation}
-use Rattle.region_sim.specs.Pack.{AreGateRows, AreGateWords, AreHitIn, AreRows, HasActiveByPack}
+use Rattle.region_sim.specs.Pack.{AreGateRows, AreGateWords, AreHitIn, AreRows}
 use Rattle.region_sim.specs.Pack.{IsIn, TellsPack, stem_at}
-use Rattle.block_sim.specs.Propagation.{is_pending}
 use Rattle.block_sim.specs.Flips.{DetectsFlip, flip}
 use Rattle.flat_circuit.specs.Words.{AreWords, lane, lane_bits}
 use Rattle.region_sim.specs.declared.pack.Slot.{Slot}
 use Rattle.block_sim.specs.declared.propagation.Followed.{Followed}
 use Rattle.flat_circuit.proofs.Public.{gate_at, nothing, unlike}
 use Rattle.block_sim.proofs.Public.{free_pins, bit_is, place_within}
-use Rattle.block_sim.proofs.Public.{pending_higher, equation_elsewhere}
+use Rattle.block_sim.proofs.Public.{equation_elsewhere}
 use Rattle.block_sim.proofs.Public.{gate_named_of_signal_equations as gate_named}
-use Rattle.region_sim.proofs.OneLane.{bit_cases, differing, self}
-use Rattle.region_sim.proofs.PackLanes.{ArePropagating, Lanes, LanesMoment, evaluated, fewer}
-use Rattle.region_sim.proofs.PackLanes.{higher, narrower, seen_detects, unseen_misses, waits_active}
+use Rattle.region_sim.proofs.OneLane.{bit_cases, differing}
+use Rattle.region_sim.proofs.PackLanes.{ArePropagating, Lanes, LanesMoment, evaluated}
+use Rattle.region_sim.proofs.PackLanes.{higher, narrower, seen_detects, unseen_misses}
 use Rattle.region_sim.proofs.PackStarts.{pack_moment, stem_bit, stem_lanes}
 use Rattle.region_sim.proofs.PackSteps.{IsStep, wide_bits}
 use Rattle.region_sim.proofs.PackWords.{differs_in, is_some, lane_some}
@@ -217,33 +216,6 @@ module _ (l : Layout) (sizes : IsLayout l) (c : List Statement) (well : IsWellFo
         (lane_some (slice_index_or after gate 0) k on))
         (λ was now. subst (λ a. AreScheduled c gate a waits) is_taken (ev.scheduled was now))
         (λ w. ev.same w ∙ is_taken) (lane shown) seen_now ev.found ev.seen)
-
-    -- the gate is one that a class makes active
-    pub listed : (followed : List Followed) (begun : ℕ → Bool) (gates : List ℕ)
-        → ((s k : ℕ) → k < 512 → differs_in before s k ≡ true → begun k ≡ true)
-        → ((k : ℕ) → k < 512 → begun k ≡ true → (one : Followed) × IsIn l slots followed k one)
-        → HasActiveByPack l c tests group good slots followed gates → Contains gates gate
-    listed followed begun gates inside in_slot active =
-        let w = waits_active c well rising 512 lanes (moment before at level kept seen) h gate
-        waiting in
-        let one = in_slot w.0 w.1 (inside w.2 w.0 w.1 w.3) in
-        active w.0 gate one.0 w.1 one.1 w.4
-
-    pub one_less : (gates : List ℕ) → Contains gates gate
-        → count_by (is_pending self waits (gate + 1)) gates + 1
-        ≤ count_by (is_pending self at level) gates
-    one_less gates listed =
-        let few = fewer c well rising 512 lanes (moment before at gate kept seen)
-        (moment after waits (gate + 1) kept all) here in_at waiting refl (λ k lt. refl)
-        (λ s k lt ne. ap (λ word. lane word k) (ev.others s ne)) turns
-        (λ k lt. ev.here (by.3).name (by.3).kind (by.3).args k (by.3).gate (by.3).number lt) valued
-        (λ s ne. ap (λ word. not (word == 0)) (ev.others s ne)) ev.stays ev.some
-        (λ k lt on. is_some (slice_index_or after gate 0)
-        (lane_some (slice_index_or after gate 0) k on))
-        (λ was now. subst (λ a. AreScheduled c gate a waits) is_taken (ev.scheduled was now))
-        (λ w. ev.same w ∙ is_taken) (lane shown) seen_now ev.found ev.seen gates listed in
-        let up = pending_higher self at level gate gates from_level in
-        omega (arith, few, up)
 
   -- ---- what the end tells
   module _ (followed : List Followed) (delta at : List ℕ) (level begun kept seen : ℕ)

@@ -1,5 +1,5 @@
 -- Several regions that are followed in one pack, and what is found of all of their classes.
-use Rattle.std.proofs.Common.{◌≡◌, ◌+◌, ◌*◌, ◌-◌, ◌<◌, ◌≤◌, ◌⊎◌, inl, inr, ℕ}
+use Rattle.std.proofs.Common.{◌≡◌, ◌+◌, ◌-◌, ◌<◌, ◌≤◌, ◌⊎◌, inl, inr, ℕ}
 use Rattle.std.proofs.Common.{refl, sym, ◌∙◌, ap, subst, List, [], ◌∷◌, ◌++◌, length, arith}
 use Rattle.std.proofs.Common.{All, Option, Some, None, true, false, map}
 use Rattle.std.specs.Prelude.{Contains, bit_and, slice_get, slice_index_or}
@@ -20,24 +20,20 @@ use Rattle.flat_circuit.specs.declared.block_span.BlockSpan.{BlockSpan}
 use Rattle.flat_circuit.specs.declared.origin.ListedClass.{ListedClass}
 use Rattle.region_sim.specs.declared.pack.Slot.{Slot}
 use Rattle.block_sim.specs.declared.propagation.Followed.{Followed}
-use Rattle.block_sim.specs.ActiveGates.{IsActiveBy}
 use Rattle.flat_circuit.specs.Readers.{IsObserved}
-use Rattle.flat_circuit.specs.BlockSpans.{AreInSpan, IsSpan, group_of}
+use Rattle.flat_circuit.specs.BlockSpans.{IsSpan, group_of}
 use Rattle.region_sim.specs.OpenPlaces.{AreSettled}
-use Rattle.region_sim.specs.Pack.{HasActiveByPack, IsIn, TellsPack, stem_at}
+use Rattle.region_sim.specs.Pack.{IsIn, TellsPack, stem_at}
 use Rattle.block_sim.specs.Parts.{Parts}
 use Rattle.region_sim.specs.RegionHits.{AreCopied, AreFollowedAt, AreGathered, AreOpen}
 use Rattle.region_sim.specs.RegionHits.{AreSlotsConcluded, HasAdded, HasFirst, HaveFirsts}
 use Rattle.region_sim.specs.RegionHits.{HaveFirstsBut, IsFollowedAt, IsFoundOrFollowed, IsGathered}
 use Rattle.region_sim.specs.RegionHits.{IsInSlot, IsPart}
 use Rattle.block_sim.specs.First.{IsFirstOn}
-use Rattle.block_sim.specs.Flips.{DetectsFlip, TellsFirstFlips, flip}
-use Rattle.region_sim.specs.Simulation.{HasArrived}
-use Rattle.block_sim.specs.Ways.{HasActiveByFlip}
-use Rattle.flat_circuit.specs.Words.{AreWords, lane, test_of}
-use Rattle.region_sim.proofs.FlipLanes.{has_bit}
-use Rattle.region_sim.proofs.KeptOutcomes.{arrived_first, arrived_within, followed_more}
-use Rattle.region_sim.proofs.PackGates.{in_group}
+use Rattle.block_sim.specs.Flips.{DetectsFlip, TellsFirstFlips}
+use Rattle.region_sim.specs.Arrivals.{HasArrived}
+use Rattle.flat_circuit.specs.Words.{lane, test_of}
+use Rattle.region_sim.proofs.Arrivals.{arrived_first, arrived_within, followed_more}
 use Rattle.region_sim.proofs.PackSlots.{lane_of_slot, placed}
 use Rattle.region_sim.proofs.RegionHits.{at_over, first_of_word, followed_or_not, found_over}
 use Rattle.region_sim.proofs.RegionHits.{member_at, place_of_member}
@@ -154,10 +150,6 @@ module _ (job : Parts) (c : List Statement) (span : BlockSpan) (rows : List List
         with_slot up one (inr (inl same)) =
             subst (IsGathered job c span rows firsts first q new) same (own up)
         with_slot up one (inr (inr bad)) = absurd bad
-
-        old_whole : (i : ℕ) → i < length old → (one : Slot) × Contains stems one
-            × (one.begin ≤ i) × (i < one.end)
-        old_whole = g.whole
 
         whole_with : (i : ℕ) → i < length new → (i < length old) ⊎ (length old ≤ i)
             → (one : Slot) × Contains (stems ++ slot ∷ []) one × (one.begin ≤ i) × (i < one.end)
@@ -341,70 +333,9 @@ module _ (job : Parts) (c : List Statement) (span : BlockSpan) (rows : List List
                 (arrived_first job span own.row.stem one.class one.lanes t.word came back) t.test),
           )
 
-  pub kept_all : (place : ℕ) → (IsFollowedAt followed place → ⊥)
-      → slice_get hits place ≡ slice_get before place
-  kept_all place none = concluded.others place (in_none place none)
-
 -- ---- the gates that a pack makes active
-pub pack_active : (layout : Layout) (sized : IsLayout layout) (c : List Statement)
-    (well : IsWellFormed c) (tests : List Test) (span : BlockSpan) (good : List ℕ)
-    (words : AreWords c tests (group_of span) None good) (stems : List Slot)
-    (followed : List Followed) (gates : List ℕ)
-    → All (λ slot. slot.stem < length (names c)) stems
-    → ((slot : Slot) → Contains stems slot → HasActiveByFlip c tests span slot.stem gates)
-    → ((one : Followed) → Contains followed one → AreInSpan tests span one.lanes)
-    → HasActiveByPack layout c tests (λ slot. group_of span) (λ slot. good) stems followed gates
-pack_active layout sized c well tests span good words stems followed gates signals has inside
-    k gate one lt h active =
-    let j = lane_in layout k in
-    let group = group_of span in
-    let number = 128 * group + j in
-    let in_word : j < 128 = in_group layout sized k in
-    let slot = h.slot in
-    let s = slot.stem in
-    let low : s < length (names c) = subst (λ (x : Slot). x.stem < length (names c))
-    (get_or_from_slice_get stems (slot_of layout k) slot slot h.stands)
-    (signals (slot_of layout k) slot (slice_get_within stems (slot_of layout k) slot h.stands)) in
-    let own = inside one (member_at followed h.at one h.listed) j in_word h.comes in
-    let bit = lane (slice_index_or good s 0) j in
-    let is : stem_at layout stems k ≡ s = stem_is layout stems (slot_of layout k) slot h.stands k
-    refl in
-    has slot (member_at stems (slot_of layout k) slot h.stands) gate (
-      number,
-      test_of tests group j,
-      bit,
-      own,
-      slice_get-get_or tests number [] own.listed,
-      has_bit c well tests group good words s low j in_word,
-      subst (λ x. IsActiveBy c (test_of tests group j) (flip x (lane (slice_index_or good x 0) j))
-          gate) is active,
-    )
-
--- the same where each slot has these words
-pub slots_active : (layout : Layout) (c : List Statement) (tests : List Test) (group : ℕ)
-    (good : List ℕ) (rows : ℕ → List ℕ) → ((slot : ℕ) → rows slot ≡ good) → (stems : List Slot)
-    (followed : List Followed) (gates : List ℕ)
-    → HasActiveByPack layout c tests (λ slot. group) (λ slot. good) stems followed gates
-    → HasActiveByPack layout c tests (λ slot. group) rows stems followed gates
-slots_active layout c tests group good rows same stems followed gates has k gate one lt h active =
-    let s = stem_at layout stems k in
-    let j = lane_in layout k in
-    has k gate one lt h (subst (λ l. IsActiveBy c (test_of tests group j)
-    (flip s (lane (slice_index_or l s 0) j)) gate) (same (slot_of layout k)) active)
-
 -- what is true of each slot
 pub all_slots : (P : Slot → Type 0) (stems : List Slot) → ((slot : Slot) → Contains stems slot
     → P slot) → All P stems
 all_slots P stems each = λ i d lt. each (slice_index_or stems i d)
     (member_at stems i (slice_index_or stems i d) (slice_get-get_or stems i d lt))
-
--- each class that is followed came to its stem in lanes of the span's tests
-pub in_span : (job : Parts) (c : List Statement) (span : BlockSpan) (rows : List ListedClass)
-    (firsts : List (Option ℕ)) (from to : ℕ) (stems : List Slot) (followed : List Followed)
-    (hits : List (Option ℕ)) → AreGathered job c span rows firsts from to stems followed hits
-    → (one : Followed) → Contains followed one → AreInSpan job.tests.tests span one.lanes
-in_span job c span rows firsts from to stems followed hits g one there =
-    let i = place_of_member followed one there in
-    let w = g.whole i.0 (slice_get_within followed i.0 one i.1) in
-    let own = g.each w.0 w.1 in
-    arrived_within job span own.row.stem one.class one.lanes (own.came i.0 one w.2 w.3 i.1)

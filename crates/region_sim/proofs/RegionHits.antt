@@ -1,12 +1,10 @@
 -- What a simulation of regions finds out, by the places of a list of classes.
 use Rattle.std.proofs.Common.{◌≡◌, ◌≢◌, ◌+◌, ◌*◌, ◌-◌, ◌<◌, ◌≤◌, ◌⊎◌, inl, inr, ℕ, zero, suc}
-use Rattle.std.proofs.Common.{refl, sym, ◌∙◌, ap, subst, List, [], ◌∷◌, ◌++◌, length, set, arith}
-use Rattle.std.proofs.Common.{All, take, drop, length-drop, Option, Some, None}
-use Rattle.std.specs.Prelude.{Contains, bit_and, slice_get, slice_range}
-use Rattle.std.specs.List.{sum_by}
+use Rattle.std.proofs.Common.{refl, sym, ◌∙◌, ap, subst, List, [], ◌∷◌, length, set, arith}
+use Rattle.std.proofs.Common.{All, Option, Some, None}
+use Rattle.std.specs.Prelude.{Contains, bit_and, slice_get}
 use Rattle.std.proofs.lemmas.Bool.{cases_eq}
-use Rattle.std.proofs.lemmas.List.{length-set, length-take-le}
-use Rattle.std.proofs.lemmas.List.Sums.{sum_by-append}
+use Rattle.std.proofs.lemmas.List.{length-set}
 use Rattle.std.proofs.lemmas.Option.{get_or_from_slice_get, slice_get-get_or, slice_get_within}
 use Rattle.list_lemmas.proofs.Members.{Among, among, contained}
 use Rattle.bench_net.specs.Statement.{Statement}
@@ -22,12 +20,12 @@ use Rattle.block_sim.specs.Listed.{IsListed}
 use Rattle.block_sim.specs.Parts.{Parts}
 use Rattle.region_sim.specs.RegionHits.{AreConcluded, AreFollowedAt, AreOpen, HasFirst, HaveFirsts}
 use Rattle.region_sim.specs.RegionHits.{HaveFirstsBut, HaveStem, IsFollowedAt, IsFoundOrFollowed}
-use Rattle.region_sim.specs.RegionHits.{IsTestOf, open_between, open_classes}
+use Rattle.region_sim.specs.RegionHits.{IsTestOf}
 use Rattle.block_sim.specs.Flips.{TellsFirstFlips}
-use Rattle.region_sim.specs.Simulation.{AreFollowed, HasArrived, TellsFirstIn}
+use Rattle.region_sim.specs.Arrivals.{AreFollowed, HasArrived, TellsFirstIn}
 use Rattle.flat_circuit.specs.BlockSpans.{IsInSpan, IsSpan, group_of}
 use Rattle.region_sim.proofs.FollowedRows as rows_followed
-use Rattle.region_sim.proofs.KeptOutcomes.{arrived_first}
+use Rattle.region_sim.proofs.Arrivals.{arrived_first}
 use Rattle.flat_circuit.proofs.Public.{set_here, set_there}
 
 -- ---- the test of the least lane is the first one
@@ -132,114 +130,6 @@ module _ (job : Parts) (span : BlockSpan) (rows : List ListedClass) (firsts : Li
         rows_followed.each_more class_of place_of Came job span row p was followed old hits step
         (λ (one : Followed). slice_get firsts one.place ≡ Some None)
         (λ one class place came. ap (slice_get firsts) place ∙ idle)
-
--- ---- the classes that are open
-take_more : {X : Type 0} (xs : List X) (p : ℕ) (x : X) → slice_get xs p ≡ Some x
-    → take (p + 1) xs ≡ take p xs ++ x ∷ []
-take_more [] p x e = let bad : None ≡ Some x = e in absurd (cc)
-take_more (y ∷ xs) zero x e = let same : y ≡ x = let q : Some y ≡ Some x = e in cc in
-    ap (λ z. z ∷ []) same
-take_more (y ∷ xs) (suc p) x e =
-    let one : suc p + 1 ≡ suc (p + 1) = omega arith in
-    ap (λ n. take n (y ∷ xs)) one ∙ ap (λ l. y ∷ l) (take_more xs p x e)
-
-get_drop : {X : Type 0} (s : ℕ) (xs : List X) (k : ℕ) → slice_get (drop s xs) k
-    ≡ slice_get xs (s + k)
-get_drop zero xs k = let same : k ≡ 0 + k = omega arith in ap (slice_get xs) same
-get_drop (suc s) [] k = refl
-get_drop (suc s) (x ∷ xs) k = let same : suc s + k ≡ suc (s + k) = omega arith in
-    get_drop s xs k ∙ ap (slice_get (x ∷ xs)) (sym same)
-
-range_more : {X : Type 0} (xs : List X) (from p : ℕ) (x : X) → from ≤ p → slice_get xs p ≡ Some x
-    → slice_range xs from (p + 1) ≡ slice_range xs from p ++ x ∷ []
-range_more xs from p x le is =
-    let count : p + 1 - from ≡ p - from + 1 = omega (arith, le) in
-    let at : from + (p - from) ≡ p = omega (arith, le) in
-    ap (λ n. take n (drop from xs)) count
-    ∙ take_more (drop from xs) (p - from) x (get_drop from xs (p - from)
-    ∙ (ap (slice_get xs) at ∙ is))
-
-range_long : {X : Type 0} (xs : List X) (from p : ℕ) → p ≤ length xs
-    → length (slice_range xs from p) ≡ p - from
-range_long xs from p le =
-    let rest = length-drop from xs in
-    length-take-le (p - from) (drop from xs) (omega (arith, rest, le))
-
-open_push : (rows : List ListedClass) (firsts : List (Option ℕ)) (row : ListedClass)
-    → length rows ≡ length firsts
-    → open_classes (rows ++ row ∷ []) (firsts ++ None ∷ [])
-    ≡ open_classes rows firsts ++ row.class ∷ []
-open_push [] [] row e = refl
-open_push [] (f ∷ firsts) row e = absurd (omega (arith, e))
-open_push (r ∷ rows) [] row e = absurd (omega (arith, e))
-open_push (r ∷ rows) (None ∷ firsts) row e =
-    ap (λ l. r.class ∷ l) (open_push rows firsts row (omega (arith, e)))
-open_push (r ∷ rows) (Some t ∷ firsts) row e = open_push rows firsts row (omega (arith, e))
-
-open_skip : (rows : List ListedClass) (firsts : List (Option ℕ)) (row : ListedClass) (test : ℕ)
-    → length rows ≡ length firsts
-    → open_classes (rows ++ row ∷ []) (firsts ++ Some test ∷ []) ≡ open_classes rows firsts
-open_skip [] [] row test e = refl
-open_skip [] (f ∷ firsts) row test e = absurd (omega (arith, e))
-open_skip (r ∷ rows) [] row test e = absurd (omega (arith, e))
-open_skip (r ∷ rows) (None ∷ firsts) row test e =
-    ap (λ l. r.class ∷ l) (open_skip rows firsts row test (omega (arith, e)))
-open_skip (r ∷ rows) (Some t ∷ firsts) row test e =
-    open_skip rows firsts row test (omega (arith, e))
-
-module _ (way : ℕ → ℕ) (rows : List ListedClass) (firsts : List (Option ℕ)) (from p : ℕ)
-    (row : ListedClass) (long : length firsts ≡ length rows) (le : from ≤ p)
-    (is : slice_get rows p ≡ Some row) where
-  as_long : length (slice_range rows from p) ≡ length (slice_range firsts from p)
-  as_long =
-      let lt = slice_get_within rows p row is in
-      range_long rows from p (omega (arith, lt))
-      ∙ sym (range_long firsts from p (omega (arith, lt, long)))
-
-  pub ways_more : slice_get firsts p ≡ Some None
-      → sum_by way (open_between rows firsts from (p + 1))
-      ≡ sum_by way (open_between rows firsts from p) + way row.class
-  ways_more none =
-      let one : sum_by way (row.class ∷ []) ≡ way row.class = omega arith in
-      let all = sum_by-append way (open_between rows firsts from p) (row.class ∷ []) in
-      let list : open_between rows firsts from (p + 1)
-      ≡ open_between rows firsts from p ++ row.class ∷ [] =
-      ap (λ l. open_classes l (slice_range firsts from (p + 1))) (range_more rows from p row le is)
-      ∙ (ap (open_classes (slice_range rows from p ++ row ∷ [])) (range_more firsts from p None le
-      none)
-      ∙ open_push (slice_range rows from p) (slice_range firsts from p) row as_long) in
-      let sum = ap (sum_by way) list in
-      omega (arith, one, all, sum)
-
-  pub ways_same : (test : ℕ) → slice_get firsts p ≡ Some (Some test)
-      → open_between rows firsts from (p + 1) ≡ open_between rows firsts from p
-  ways_same test some =
-      ap (λ l. open_classes l (slice_range firsts from (p + 1))) (range_more rows from p row le is)
-      ∙ (ap (open_classes (slice_range rows from p ++ row ∷ [])) (range_more firsts from p
-      (Some test) le some)
-      ∙ open_skip (slice_range rows from p) (slice_range firsts from p) row test as_long)
-
-pub ways_none : (way : ℕ → ℕ) (rows : List ListedClass) (firsts : List (Option ℕ)) (from : ℕ)
-    → sum_by way (open_between rows firsts from from) ≡ 0
-ways_none way rows firsts from =
-    let none : from - from ≡ 0 = omega arith in
-    ap (λ n. sum_by way (open_classes (take n (drop from rows)) (take n (drop from firsts)))) none
-
--- a place whose first test is known is none of those that are open
-pub found_known : (job : Parts) (span : BlockSpan) (rows : List ListedClass)
-    (firsts : List (Option ℕ))
-    (followed : List Followed) (from p test : ℕ) (hits : List (Option ℕ))
-    → slice_get firsts p ≡ Some (Some test)
-    → HaveFirstsBut job span rows firsts followed from p hits
-    → HaveFirstsBut job span rows firsts followed from (p + 1) hits
-found_known job span rows firsts followed from p test hits known before place row le lt idle =
-    go (cases_eq place p)
-  where
-    go : (place ≡ p) ⊎ (place ≢ p) → HasFirst job span row hits place ⊎ IsFollowedAt followed place
-    go (inl same) =
-        let both : Some (Some test) ≡ Some None = sym known ∙ (ap (slice_get firsts) (sym same)
-        ∙ idle.unknown) in absurd (cc)
-    go (inr ne) = before place row le (omega (arith, lt, ne)) idle
 
 -- ---- what those that were followed are told
 -- the list has what stands at a place
@@ -411,30 +301,6 @@ module _ (rows : List ListedClass) (firsts : List (Option ℕ)) (from p q : ℕ)
       → slice_get hits place ≡ slice_get first place
   others_over hits first before place (inl lt) = before place (inl lt)
   others_over hits first before place (inr le) = before place (inr (omega (arith, le, up)))
-
-open_same : (way : ℕ → ℕ) (rows : List ListedClass) (firsts : List (Option ℕ)) (from p more : ℕ)
-    → length firsts ≡ length rows → from ≤ p → p + more ≤ length rows
-    → AreSettled firsts p (p + more)
-    → open_between rows firsts from (p + more) ≡ open_between rows firsts from p
-open_same way rows firsts from p zero long le within settled =
-    let same : p + 0 ≡ p = omega arith in ap (open_between rows firsts from) same
-open_same way rows firsts from p (suc more) long le within settled =
-    let all : (p + 1) + more ≡ p + suc more = omega arith in
-    let here = settled p (omega arith) (omega arith) in
-    let row = some_at rows p (omega (arith, within)) in
-    ap (open_between rows firsts from) (sym all)
-    ∙ (open_same way rows firsts from (p + 1) more long (omega (arith, le))
-    (omega (arith, within)) (λ k low lt. settled k (omega (arith, low)) (omega (arith, lt)))
-    ∙ ways_same way rows firsts from p row.0 long le row.1 here.0 here.1)
-
-pub ways_over : (way : ℕ → ℕ) (rows : List ListedClass) (firsts : List (Option ℕ)) (from p q : ℕ)
-    → length firsts ≡ length rows → from ≤ p → p ≤ q → q ≤ length rows → AreSettled firsts p q
-    → sum_by way (open_between rows firsts from q) ≡ sum_by way (open_between rows firsts from p)
-ways_over way rows firsts from p q long le up within settled =
-    let same : p + (q - p) ≡ q = omega (arith, up) in
-    ap (sum_by way) (ap (open_between rows firsts from) (sym same)
-    ∙ open_same way rows firsts from p (q - p) long le (omega (arith, same, within))
-    (subst (AreSettled firsts p) (sym same) settled))
 
 -- one row more of the stem
 pub stems_more : (rows : List ListedClass) (firsts : List (Option ℕ)) (from p stem : ℕ)

@@ -10,32 +10,25 @@ use Rattle.list_lemmas.proofs.Members.{Among, among, contained}
 use Rattle.bench_net.specs.Circuit.{IsWellFormed}
 use Rattle.bench_net.specs.Scan.{names}
 use Rattle.bench_net.specs.Statement.{Statement}
-use Rattle.fault_model.specs.Detection.{HasBit}
 use Rattle.fault_model.specs.Reordered.{IsReordered, place}
-use Rattle.fault_model.specs.Solution.{Test}
-use Rattle.fault_model.specs.declared.Line.TheVariants as line
-use Rattle.wide_words.specs.Lanes.{lane_in, slot_of}
-use Rattle.wide_words.specs.Layouts.{both_layout, both_sized}
+use Rattle.wide_words.specs.Lanes.{slot_of}
+use Rattle.wide_words.specs.Layouts.{both_layout}
 use Rattle.wide_words.specs.Wide.{number}
 use Rattle.flat_circuit.specs.declared.origin.ListedClass.{ListedClass}
 use Rattle.region_sim.specs.declared.pack.Slot.{Slot}
 use Rattle.block_sim.specs.declared.propagation.Followed.{Followed}
 use Rattle.region_sim.specs.declared.unit_simulation.UnitClass.{UnitClass}
-use Rattle.block_sim.specs.ActiveGates.{IsActiveBy}
 use Rattle.flat_circuit.specs.Readers.{IsObserved}
 use Rattle.region_sim.specs.OpenPlaces.{AreSettled}
-use Rattle.region_sim.specs.Pack.{AreRows, AreSlots, HasActiveByPack, TellsPack, stem_at}
+use Rattle.region_sim.specs.Pack.{AreSlots, TellsPack, stem_at}
 use Rattle.block_sim.specs.Parts.{Parts}
 use Rattle.region_sim.specs.RegionHits.{HasFirst, HaveFirsts}
 use Rattle.block_sim.specs.First.{IsFirstOn}
-use Rattle.block_sim.specs.Flips.{DetectsFlip, flip}
+use Rattle.block_sim.specs.Flips.{DetectsFlip}
 use Rattle.region_sim.specs.UnitHits.{AreClassesAt, AreParted, AreUnitConcluded, HaveArrivedInUnit}
 use Rattle.region_sim.specs.UnitHits.{HaveFirstsBeside, IsClassAt}
 use Rattle.region_sim.specs.Units.{group_in, lane_test, unit_span}
-use Rattle.block_sim.specs.Ways.{HasActiveByFlip}
 use Rattle.flat_circuit.specs.Words.{lane, test_of}
-use Rattle.region_sim.proofs.FlipLanes.{has_bit}
-use Rattle.region_sim.proofs.PackGates.{in_group}
 use Rattle.region_sim.proofs.PackedRegions.{stem_is}
 use Rattle.block_sim.proofs.Public.{same_flips}
 use Rattle.region_sim.proofs.UnitApproaches.{arrived_first, first_in_unit, lane_number}
@@ -182,30 +175,3 @@ module _ (stem : ℕ) (classes : List UnitClass) (slots : List Slot) (followed :
                     (arrived_first job group signal one.class (number one.lanes) seen
                     (arrived one t.1) (λ k low on e. right k low e) (missed one t.1)) t.5),
               )
-
-  -- the gates that the stem makes active
-  pub unit_active : (d : List Statement) → IsWellFormed d → (tests : List Test) (group : ℕ)
-      → 128 * group + 512 ≤ length tests → (good : ℕ → List ℕ)
-      → AreRows d tests both_layout (group_in group) good → stem < length (names d)
-      → (gates : List ℕ) → HasActiveByFlip d tests (unit_span group) stem gates
-      → HasActiveByPack both_layout d tests (group_in group) good slots followed gates
-  unit_active d well tests group full good free within gates has k gate one lt own active =
-      let slot = slot_of both_layout k in
-      let j = lane_in both_layout k in
-      let number = 128 * group + k in
-      let below : slot < 4 = omega (arith, lt) in
-      let listed : number < length tests = omega (arith, full, lt) in
-      let bit = lane (slice_index_or (good slot) stem 0) j in
-      has gate (
-        number,
-        test_of tests group k,
-        bit,
-        record { from = omega arith; to = omega (arith, lt); listed = listed },
-        slice_get-get_or tests number [] listed,
-        subst (λ t. HasBit d t (line.Stem stem) bit) (lane_number tests group k)
-            (has_bit d well tests (group_in group slot) (good slot) (free slot below) stem within j
-            (in_group both_layout both_sized k)),
-        subst (λ t. IsActiveBy d t (flip stem bit) gate) (lane_number tests group k)
-            (subst (λ s. IsActiveBy d (lane_test tests both_layout (group_in group) k)
-            (flip s (lane (slice_index_or (good slot) s 0) j)) gate) (stem_in k lt) active),
-      )

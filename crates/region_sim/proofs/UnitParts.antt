@@ -148,21 +148,6 @@ pub record AreSlotsSoFar (stem : ℕ) (classes : List UnitClass) (n : ℕ) (slot
   pub only : (k : ℕ) (part : Followed) → k < 512 → IsIn both_layout slots followed k part
       → (one : UnitClass) × Contains classes one × (lane (number one.lanes) k ≡ true)
 
-pub slots_none : (stem : ℕ) (classes : List UnitClass) (slots : List Slot)
-    (followed : List Followed) → slots ≡ [] → AreSlotsSoFar stem classes 0 slots followed
-slots_none stem classes slots followed none = record {
-  many = ap length none;
-  stems = λ i s is. absurd (empty i s is);
-  within = λ i s is. absurd (empty i s is);
-  each = λ one k member low below. absurd (omega (arith, below));
-  only = λ k part low own. absurd (empty (slot_of both_layout k) own.slot own.stands);
-}
-  where
-    empty : (i : ℕ) (s : Slot) → slice_get slots i ≡ Some s → ⊥
-    empty i s is =
-        let lt = slice_get_within slots i s is in
-        let many = ap length none in omega (arith, lt, many)
-
 module _ (stem : ℕ) (classes : List UnitClass) (n : ℕ) (slots : List Slot)
     (followed after : List Followed) (h : AreSlotsSoFar stem classes n slots followed)
     (added : ArePartsAdded n classes followed after) (slot : Slot) (of : slot.stem ≡ stem)

@@ -1,6 +1,6 @@
 -- The start of a fault on wide words, lane by lane.
 use Rattle.std.proofs.Common.{◌≡◌, ◌≢◌, ◌<◌, ◌==◌, ◌&&◌, ℕ, refl, sym, ◌∙◌, ap, subst, Bool}
-use Rattle.std.proofs.Common.{true, ◌≤◌}
+use Rattle.std.proofs.Common.{true}
 use Rattle.std.proofs.Common.{false, not, List, [], ◌∷◌, suc, ◌+◌, map, length}
 use Rattle.std.proofs.Common.{arith}
 use Rattle.std.proofs.Common.{eq-eqb, eqb-true}
@@ -31,7 +31,6 @@ use Rattle.flat_circuit.specs.GateForms.{inverted_if}
 use Rattle.region_sim.specs.Pack.{AreRows}
 use Rattle.block_sim.specs.Flips.{start_of}
 use Rattle.region_sim.specs.Units.{HaveCome, CarryFlip, lane_test, turned_bits}
-use Rattle.block_sim.specs.Ways.{IsWay, IsWayOfLine}
 use Rattle.flat_circuit.specs.Words.{lane, lane_bits}
 use Rattle.flat_circuit.proofs.Public.{gate_within, unlike}
 use Rattle.flat_circuit.specs.SlotWords.{copied_bit}
@@ -317,16 +316,6 @@ start_within m c well f at s from = let n = carries m c f well at in go n.0 f.li
         (gate_within c gate pin n on)
     go n (line.Data cell) on e = let bad : None ≡ Some s = e in cc
     go n (line.Out output) on e = let bad : None ≡ Some s = e in cc
-
--- its way to the stem is no longer than that of the line
-pub way_of_start : (c : List Statement) (l : Line) (s way : ℕ) → start_of l ≡ Some s
-    → IsWayOfLine c l way → (more : ℕ) × IsWay c s more × (more ≤ way)
-way_of_start c (line.Stem x) s way e w =
-    let same : x ≡ s = cc in (way, subst (λ y. IsWay c y way) same w, omega arith)
-way_of_start c (line.Pin gate pin) s way e w =
-    let same : gate ≡ s = cc in (w.0, subst (λ y. IsWay c y w.0) same w.1, omega (arith, w.2))
-way_of_start c (line.Data cell) s way e w = let bad : None ≡ Some s = e in cc
-way_of_start c (line.Out output) s way e w = let bad : None ≡ Some s = e in cc
 
 -- If it complements the stem in no lane, the fault reaches the stem in none.
 pub come_to_dead : (c : List Statement) → IsWellFormed c → (tests : List Test) (l : Layout)

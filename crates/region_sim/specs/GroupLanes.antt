@@ -6,11 +6,11 @@ use Rattle.fault_model.specs.Detection.{DetectsAt}
 use Rattle.fault_model.specs.Fault.{Fault}
 use Rattle.flat_circuit.specs.declared.block_span.BlockSpan.{BlockSpan}
 use Rattle.flat_circuit.specs.declared.origin.ListedClass.{ListedClass}
-use Rattle.region_sim.specs.declared.simulation.Approach.{Approach}
-use Rattle.region_sim.specs.declared.simulation.Approach.TheVariants.{Known, Stem}
+use Rattle.region_sim.specs.declared.region.Approach.{Approach}
+use Rattle.region_sim.specs.declared.region.Approach.TheVariants.{Known, Stem}
 use Rattle.flat_circuit.specs.BlockSpans.{IsInSpan, group_of}
 use Rattle.block_sim.specs.Parts.{Parts}
-use Rattle.region_sim.specs.Simulation.{HasArrived}
+use Rattle.region_sim.specs.Arrivals.{HasArrived}
 use Rattle.flat_circuit.specs.Words.{lane}
 
 -- the lanes of a word that are 1 are the lanes whose test of the group detects the representative

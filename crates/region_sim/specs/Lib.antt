@@ -1,8 +1,7 @@
 pub mod Reached
-pub mod Simulation
+pub mod Arrivals
 pub mod Units
 pub mod UnitHits
-pub mod KnownWays
 pub mod KnownWords
 pub mod KnownWide
 pub mod Sensitized
@@ -10,3 +9,4 @@ pub mod OpenPlaces
 pub mod RegionHits
 pub mod Pack
 pub mod GroupLanes
+pub mod ClassOrder

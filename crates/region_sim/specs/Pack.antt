@@ -12,10 +12,9 @@ use Rattle.wide_words.specs.Lanes.{Layout, lane_in, slot_of, slots}
 use Rattle.region_sim.specs.declared.pack.Pack.{Pack}
 use Rattle.region_sim.specs.declared.pack.Slot.{Slot}
 use Rattle.block_sim.specs.declared.propagation.Followed.{Followed}
-use Rattle.block_sim.specs.ActiveGates.{IsActiveBy}
 use Rattle.flat_circuit.specs.Readers.{IsLive, IsObserved, Reads}
 use Rattle.flat_circuit.specs.GateForms.{inverted_if}
-use Rattle.block_sim.specs.Flips.{DetectsFlip, flip}
+use Rattle.block_sim.specs.Flips.{DetectsFlip}
 use Rattle.flat_circuit.specs.Words.{AreWords, lane, test_of}
 
 -- The bit of a signal in a lane of a wide word: its fault-free bit under the lane's test, inverted
@@ -173,14 +172,3 @@ pub record TellsPack (layout : Layout) (c : List Statement) (tests : List Test)
       → lane word j ≡ false)
       → ¬ DetectsFlip c (test_of tests (group (slot_of layout k)) (lane_in layout k)) (stem_at
       layout stems k)
-
--- the list names each gate that some lane in which a class came to a stem makes active
-abbrev pub HasActiveByPack : Layout → List Statement → List Test → (ℕ → ℕ) → (ℕ → List ℕ)
-    → List Slot → List Followed → List ℕ → Type 0
-HasActiveByPack layout c tests group good stems followed gates = (k gate : ℕ) (one : Followed)
-    → k < 512 → IsIn layout stems followed k one
-    → IsActiveBy c (test_of tests (group (slot_of layout k)) (lane_in layout k)) (flip (stem_at
-    layout stems k)
-    (lane (slice_index_or (good (slot_of layout k)) (stem_at layout stems k) 0) (lane_in layout k)))
-    gate
-    → Contains gates gate

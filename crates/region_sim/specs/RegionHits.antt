@@ -2,7 +2,7 @@
 -- classes.
 use Rattle.std.specs.Prelude.{◌≡◌, ◌≢◌, ◌⊎◌, ℕ, ◌+◌, ◌*◌, ◌<◌, ◌≤◌, List, [], ◌∷◌, ◌++◌, Contains}
 use Rattle.std.specs.Prelude.{Option, Some, None, true, false, bit_and, length, slice_get}
-use Rattle.std.specs.Prelude.{slice_range, slice_set, vec_capacity}
+use Rattle.std.specs.Prelude.{slice_set, vec_capacity}
 use Rattle.bench_net.specs.Statement.{Statement}
 use Rattle.bench_net.specs.Scan.{names}
 use Rattle.fault_model.specs.Reordered.{place}
@@ -19,7 +19,7 @@ use Rattle.flat_circuit.specs.Readers.{IsObserved}
 use Rattle.region_sim.specs.Pack.{IsPackClear, IsWithin}
 use Rattle.block_sim.specs.Parts.{Parts}
 use Rattle.region_sim.specs.Sensitized.{IsReady}
-use Rattle.region_sim.specs.Simulation.{AreFollowed, HasArrived}
+use Rattle.region_sim.specs.Arrivals.{AreFollowed, HasArrived}
 use Rattle.flat_circuit.specs.BlockSpans.{IsInSpan, group_of}
 use Rattle.region_sim.specs.Units.{HasUnitRoom}
 use Rattle.flat_circuit.specs.Words.{lane}
@@ -103,23 +103,10 @@ pub record IsEndOfRegion (rows : List ListedClass) (firsts : List (Option ℕ)) 
       → slice_get rows to ≡ Some row
       → IsOpenAt rows firsts to row × (row.stem ≢ first.stem)
 
--- the classes of rows whose first test isn't known
-abbrev pub open_classes : List ListedClass → List (Option ℕ) → List ℕ
-open_classes (row ∷ rows) (None ∷ firsts) = row.class ∷ open_classes rows firsts
-open_classes (row ∷ rows) (Some test ∷ firsts) = open_classes rows firsts
-open_classes rows firsts = []
-
--- those from one place up to another
-abbrev pub open_between : List ListedClass → List (Option ℕ) → ℕ → ℕ → List ℕ
-open_between rows firsts from to =
-    open_classes (slice_range rows from to) (slice_range firsts from to)
-
--- what contracts see of a simulation of regions: for how many signals it has room, the evaluations
--- that it has counted, what it found out last at each place of a list, and how many classes it can
--- follow at once
+-- what contracts see of a simulation of regions: for how many signals it has room, what it found
+-- out last at each place of a list, and how many classes it can follow at once
 pub record RegionsSimulated : Type 0 where
   pub signals : ℕ
-  pub evaluations : ℕ
   pub hits : List (Option ℕ)
   pub capacity : ℕ
 

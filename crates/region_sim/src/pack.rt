@@ -24,7 +24,7 @@ ghost use Rattle.block_sim.specs.Events.{AreScheduled};
 ghost use Rattle.flat_circuit.specs.Flat.{HasEnds};
 ghost use Rattle.flat_circuit.specs.GateForms.{inverted_if};
 ghost use Rattle.region_sim.specs.Pack.{AreGateRows, AreHitIn, AreKeptAfter, AreRows, AreSlots};
-ghost use Rattle.region_sim.specs.Pack.{AreStarted, HasActiveByPack, HasPackRoom, HaveCounts};
+ghost use Rattle.region_sim.specs.Pack.{AreStarted, HasPackRoom, HaveCounts};
 ghost use Rattle.region_sim.specs.Pack.{HaveHitsIn, HaveLane, IsDifference, IsEvaluated};
 ghost use Rattle.region_sim.specs.Pack.{IsPackClear, IsWithin, TellsPack, wide_bit};
 ghost use Rattle.flat_circuit.specs.SlotWords.{AreWithin};
@@ -33,7 +33,6 @@ ghost use Rattle.flat_circuit.specs.Words.{lane};
 use block_sim::flat::{FlatCircuit, FlatGate};
 use block_sim::propagation::{Followed, below_hits, schedule_fanout};
 use block_sim::wide_lanes::in_each_wide_lane;
-use block_sim::words::count_evaluation;
 use event_queue::Places;
 use std::alloc::{AllocError, Global};
 use wide_words::{Copies, Wide, WideOverlay};
@@ -435,7 +434,6 @@ pub fn propagate<C: Copies>(
     copies: C,
     followed: &[Followed],
     pack: &mut Pack,
-    evaluations: &mut u64,
 ) -> Wide
     requires circuit { IsCircuit circuit.now.arranged }
     requires words { HaveCounts circuit.now.arranged C.layout (C.rows copies) }
@@ -448,12 +446,6 @@ pub fn propagate<C: Copies>(
         → AreRows circuit.now.arranged tests C.layout group (C.rows copies)
         → TellsPack C.layout circuit.now.arranged tests group pack.old.slots.items followed.now
         (number result) }
-    ensures counted { (tests : List Test) (group : ℕ → ℕ) (gates : List ℕ)
-        → AreRows circuit.now.arranged tests C.layout group (C.rows copies)
-        → HasActiveByPack C.layout circuit.now.arranged tests group (C.rows copies)
-        pack.old.slots.items followed.now gates
-        → evaluations.new ≤ evaluations.old + length gates }
-    ensures grown { evaluations.old ≤ evaluations.new }
     ensures slots { pack.new.slots ≡ pack.old.slots }
     ensures room { (length pack.new.deltas ≡ length pack.old.deltas)
         × (length pack.new.waiting ≡ length pack.old.waiting) }
@@ -470,7 +462,6 @@ pub fn propagate<C: Copies>(
         seen: Wide::none(),
     };
     while let Some(gate) = next_gate(found.kept, from, waiting) {
-        count_evaluation(evaluations);
         let fresh = evaluate_waiting(circuit, copies, found.kept, gate, deltas, waiting);
         found = follow_on(copies, followed, stems, found, fresh);
         from = gate + 1;

@@ -16,13 +16,11 @@ ghost use Rattle.region_sim.specs.Reached.{IsReached};
 ghost use Rattle.flat_circuit.specs.BlockSpans.{AreInSpan, group_of};
 ghost use Rattle.flat_circuit.specs.declared.block_span.BlockSpan.{BlockSpan};
 ghost use Rattle.flat_circuit.specs.Stuck.{stuck_fault};
-ghost use Rattle.block_sim.specs.Ways.{HasActiveByFlip, IsWay, IsWayOfLine};
 ghost use Rattle.flat_circuit.specs.Words.{lane, test_of, AreWords, HasWords};
 
 use block_sim::block_view::BlockView;
 use block_sim::fault_site::gate_change;
 use block_sim::origin::Origin;
-use block_sim::propagation::{Extent, Followed, propagate};
 use block_sim::propagation_state::PropagationState;
 use block_sim::words::evaluate_gate;
 use fault_model::Line;
@@ -53,8 +51,6 @@ pub fn cross(view: BlockView<'_>, at: Arrival, gate: u32, changes: &mut Propagat
         → Decides (lane result k) ((lane view.entry.lanes k ≡ true)
         × Passes view.entry.circuit.now.arranged (test_of tests group k) at.signal gate) }
     ensures inside { (k : ℕ) → lane result k ≡ true → lane view.entry.lanes k ≡ true }
-    ensures counted { changes.new.evaluations ≤ changes.old.evaluations + 1 }
-    ensures grown { changes.old.evaluations ≤ changes.new.evaluations }
     ensures room { IsAsLarge changes.old changes.new }
     ensures clear { IsClear changes.new }
 {
@@ -69,54 +65,6 @@ pub fn cross(view: BlockView<'_>, at: Arrival, gate: u32, changes: &mut Propagat
         }
         None => unreachable!(),
     }
-}
-
-/// Follows a fault from a signal that it has reached to the stem of that signal, over gates that
-/// are the only readers of the signals before them. It stops early if the fault passes in no lane,
-/// as from a signal that isn't live.
-pub fn arrive(view: BlockView<'_>, from: Arrival, changes: &mut PropagationState) -> Arrival
-    requires view { HasWords view.circuit.now.arranged view.good.now }
-    requires room { HasRoomFor view.circuit.now.arranged changes.old }
-    requires clear { IsClear changes.old }
-    requires signal { from.signal < length (names view.circuit.now.arranged) }
-    ensures come { (tests : List Test) (group : ℕ) (f : Fault)
-        → AreWords view.entry.circuit.now.arranged tests group None view.entry.good.now
-        → HasCome view.entry.circuit.now.arranged tests group f view.entry.lanes from.signal
-        from.lanes
-        → HasCome view.entry.circuit.now.arranged tests group f view.entry.lanes result.signal
-        result.lanes }
-    ensures signal { result.signal < length (names view.entry.circuit.now.arranged) }
-    ensures stem { result.lanes ≢ 0
-        → IsStemOf view.entry.circuit.now.arranged result.signal from.signal }
-    ensures counted { (way : ℕ) → IsWay view.entry.circuit.now.arranged from.signal way
-        → changes.new.evaluations ≤ changes.old.evaluations + way }
-    ensures grown { changes.old.evaluations ≤ changes.new.evaluations }
-    ensures room { IsAsLarge changes.old changes.new }
-    ensures clear { IsClear changes.new }
-{
-    if !view.circuit.is_live(from.signal) {
-        return Arrival {
-            signal: from.signal,
-            lanes: 0,
-        };
-    }
-    let mut at = from;
-    for _step in 0..view.circuit.depth() {
-        if at.lanes == 0 {
-            break;
-        }
-        match view.circuit.lone_reader(at.signal) {
-            Some(gate) => {
-                let lanes = cross(view, at, gate, changes);
-                at = Arrival {
-                    signal: gate,
-                    lanes,
-                };
-            }
-            None => break,
-        }
-    }
-    at
 }
 
 /// The point up to which a fault is followed on a group before it shares its way with others.
@@ -149,13 +97,6 @@ pub fn set_out(view: BlockView<'_>, origin: Origin, changes: &mut PropagationSta
         → at.signal < length (names view.entry.circuit.now.arranged) }
     ensures from { (at : Arrival) → result ≡ Reach.Stem at
         → way_from view.entry.circuit.now.arranged origin.fault.line ≡ Some at.signal }
-    ensures seen { (word : ℕ) → result ≡ Reach.Observed word
-        → changes.new.evaluations ≡ changes.old.evaluations }
-    ensures left { (at : Arrival) (way : ℕ) → result ≡ Reach.Stem at
-        → IsWayOfLine view.entry.circuit.now.arranged origin.fault.line way
-        → (more : ℕ) × IsWay view.entry.circuit.now.arranged at.signal more
-        × (changes.new.evaluations + more ≤ changes.old.evaluations + way) }
-    ensures grown { changes.old.evaluations ≤ changes.new.evaluations }
     ensures room { IsAsLarge changes.old changes.new }
     ensures clear { IsClear changes.new }
 {
@@ -182,84 +123,11 @@ pub fn set_out(view: BlockView<'_>, origin: Origin, changes: &mut PropagationSta
     }
 }
 
-/// Follows a fault from its line to the stem of its region: a fault on a signal from that signal, a
-/// fault on a gate's pin from the gate's signal. A fault on an observer's line is detected if it
-/// complements that line.
-pub fn follow(view: BlockView<'_>, origin: Origin, changes: &mut PropagationState) -> Reach
-    requires view { HasWords view.circuit.now.arranged view.good.now }
-    requires words { (tests : List Test) × (group : ℕ)
-        × AreWords view.circuit.now.arranged tests group None view.good.now }
-    requires listed { Contains (faults origin.fault.model view.circuit.now.arranged)
-        (stuck_fault origin.fault) }
-    requires carried { Carries view.circuit.now.arranged origin.fault.line origin.carried }
-    requires room { HasRoomFor view.circuit.now.arranged changes.old }
-    requires clear { IsClear changes.old }
-    ensures reached { (tests : List Test) (group : ℕ)
-        → AreWords view.entry.circuit.now.arranged tests group None view.entry.good.now
-        → IsReached view.entry.circuit.now.arranged tests group (stuck_fault origin.fault)
-        view.entry.lanes result }
-    ensures signal { (at : Arrival) → result ≡ Reach.Stem at
-        → at.signal < length (names view.entry.circuit.now.arranged) }
-    ensures stem { (at : Arrival) → result ≡ Reach.Stem at → at.lanes ≢ 0
-        → IsStemOfLine view.entry.circuit.now.arranged at.signal origin.fault.line }
-    ensures counted { (way : ℕ) → IsWayOfLine view.entry.circuit.now.arranged origin.fault.line way
-        → changes.new.evaluations ≤ changes.old.evaluations + way }
-    ensures grown { changes.old.evaluations ≤ changes.new.evaluations }
-    ensures room { IsAsLarge changes.old changes.new }
-    ensures clear { IsClear changes.new }
-{
-    match set_out(view, origin, changes) {
-        Reach::Observed(word) => Reach::Observed(word),
-        Reach::Stem(from) => Reach::Stem(arrive(view, from, changes)),
-    }
-}
-
-/// Returns the lanes in which some of the followed classes reached a signal.
-fn all_lanes(followed: &[Followed]) -> u128
-    ensures all { (one : Followed) (k : ℕ) → Contains followed.now one → lane one.lanes k ≡ true
-        → lane result k ≡ true }
-    ensures only { (k : ℕ) → lane result k ≡ true
-        → (one : Followed) × Contains followed.now one × (lane one.lanes k ≡ true) }
-{
-    let mut lanes = 0;
-    for one in followed {
-        lanes |= one.lanes;
-    }
-    lanes
-}
-
-/// Complements a signal in the lanes in which some of the followed classes reached it, and returns
-/// lanes in which an observer shows that: for each class up to the least.
-pub fn flip(
-    view: BlockView<'_>,
-    followed: &[Followed],
-    signal: u32,
-    changes: &mut PropagationState,
-) -> u128
-    requires view { HasWords view.circuit.now.arranged view.good.now }
-    requires words { (tests : List Test) × (group : ℕ)
-        × AreWords view.circuit.now.arranged tests group None view.good.now }
-    requires room { HasRoomFor view.circuit.now.arranged changes.old }
-    requires clear { IsClear changes.old }
-    requires signal { signal < length (names view.circuit.now.arranged) }
-    ensures detection { (tests : List Test) (group : ℕ)
-        → AreWords view.entry.circuit.now.arranged tests group None view.entry.good.now
-        → (one : Followed) → Contains followed.now one
-        → TellsFirstFlips view.entry.circuit.now.arranged tests group one.lanes signal result }
-    ensures counted { (tests : List Test) (span : BlockSpan) (gates : List ℕ)
-        → AreWords view.entry.circuit.now.arranged tests (group_of span) None view.entry.good.now
-        → ((one : Followed) → Contains followed.now one → AreInSpan tests span one.lanes)
-        → HasActiveByFlip view.entry.circuit.now.arranged tests span signal gates
-        → changes.new.evaluations ≤ changes.old.evaluations + length gates }
-    ensures grown { changes.old.evaluations ≤ changes.new.evaluations }
-    ensures room { IsAsLarge changes.old changes.new }
-    ensures clear { IsClear changes.new }
-{
-    let lanes = all_lanes(followed);
-    let view = BlockView {
-        circuit: view.circuit,
-        good: view.good,
-        lanes,
-    };
-    propagate(view, Extent::FirstHits(followed), signal, lanes, changes)
+/// The result of following a class by itself on some blocks.
+#[derive(Clone, Copy)]
+pub enum Approach {
+    /// The first test that detects the class is known: the least lane that is 1.
+    Known(u128),
+    /// The class reached the stem of its region, in some lanes.
+    Stem(Arrival),
 }

@@ -16,10 +16,9 @@ ghost use Rattle.block_sim.specs.Flips.{DetectsFlip};
 ghost use Rattle.region_sim.specs.Sensitized.{HasBegun, IsSameRegion, IsViewOf};
 ghost use Rattle.flat_circuit.specs.Words.{lane, test_of, AreWords, HasWords};
 
-use crate::region::{Arrival, Reach};
+use crate::region::{Approach, Arrival, Reach};
 use crate::region_simulation::{row_at, view_of};
 use crate::sensitized::{Sensitized, follow_within};
-use crate::simulation::Approach;
 use block_sim::Job;
 use block_sim::block_span::BlockSpan;
 use block_sim::block_view::BlockView;

@@ -21,16 +21,12 @@ ghost use Rattle.region_sim.specs.RegionHits.{AreOpen, AreSlotsConcluded, HasAdd
 ghost use Rattle.region_sim.specs.RegionHits.{HaveFirsts, HaveFirstsBut, IsEndOfRegion};
 ghost use Rattle.region_sim.specs.RegionHits.{IsFollowedAt, IsFoundOrFollowed, IsHiddenStem};
 ghost use Rattle.region_sim.specs.RegionHits.{IsOpenAt, IsPackAsLarge, IsTestOf, ServesRegions};
-ghost use Rattle.region_sim.specs.RegionHits.{open_between};
 ghost use Rattle.region_sim.specs.Sensitized.{HasBegun, HasRoomForRegions, IsSameRegion, IsViewOf};
-ghost use Rattle.region_sim.specs.Simulation.{IsApproach};
-ghost use Rattle.region_sim.specs.KnownWays.{AreWays};
-ghost use Rattle.block_sim.specs.Ways.{HasActiveByFlip, IsWayOfClass};
+ghost use Rattle.region_sim.specs.Arrivals.{IsApproach};
 
 use crate::pack::{Pack, Slot, propagate};
-use crate::region::{Arrival, Reach};
+use crate::region::{Approach, Arrival, Reach};
 use crate::sensitized::{Sensitized, follow_within};
-use crate::simulation::Approach;
 use crate::unit_simulation::{Unit, simulate_unit};
 use block_sim::Job;
 use block_sim::block_span::{BlockSpan, is_unit};
@@ -67,7 +63,6 @@ impl Model for RegionSimulation {
 
     ghost view = { λ s. record {
       signals = length s.changes.overlay;
-      evaluations = s.changes.evaluations;
       hits = s.hits.items;
       capacity = vec_capacity s.followed;
     } };
@@ -80,7 +75,6 @@ impl RegionSimulation {
     /// ([`RegionSimulation::make_room`]). It takes a few words and numbers for each signal.
     pub fn new(alloc: Global, job: &Job) -> Result<RegionSimulation, AllocError>
         ensures serves { IfOk result (λ simulation. ServesRegions simulation job.now 0) }
-        ensures fresh { IfOk result (λ simulation. simulation.evaluations ≡ 0) }
         ensures none { IfOk result (λ simulation. simulation.hits ≡ []) }
     {
         let signals = job.circuit().signals();
@@ -109,20 +103,11 @@ impl RegionSimulation {
             → ServesRegions self.new job 0 }
         ensures none { OnOk result (self.new.hits
             ≡ self.old.hits ++ replicate (places - length self.old.hits) None) }
-        ensures same { self.new.evaluations ≡ self.old.evaluations }
     {
         let longest = self.hits.len().max(places);
         self.hits.resize(longest, None)?;
         self.followed.clear();
         self.followed.reserve(places)
-    }
-
-    /// Returns how often a gate was evaluated on a word since the simulation was made. It stays at
-    /// the greatest u64.
-    pub fn gate_evaluations(&self) -> u64
-        ensures { result ≡ self.now.evaluations }
-    {
-        self.changes.evaluations
     }
 
     /// Returns the last test, counted from 0, that it found for the class at a place of the list.
@@ -139,10 +124,6 @@ impl RegionSimulation {
     /// is known yet. `next` has for each place a later one, such that no place between the two has
     /// an open class. Returns the place after the last class that was simulated. It takes no
     /// memory.
-    ///
-    /// At most it evaluates the gates on the ways of the open classes to their stems, and once each
-    /// the gates that one of the complemented stems makes active: gates with a pin that then sees
-    /// another bit, under some test of these blocks.
     #[inline(never)]
     pub fn simulate_region(
         &mut self,
@@ -168,33 +149,13 @@ impl RegionSimulation {
         ensures known { (place test : ℕ) → slice_get firsts.now place ≡ Some (Some test)
             → slice_get self.new.hits place ≡ slice_get self.old.hits place }
         ensures serves { ServesRegions self.new job.now (length rows.now) }
-        ensures counted { (way : ℕ → ℕ) (gates : List ℕ) → AreWays job.now way
-            → ((place : ℕ) (row : ListedClass) → from ≤ place → place < result
-            → IsOpenAt rows.now firsts.now place row
-            → HasActiveByFlip job.now.circuit job.now.tests.tests
-            (unit_of (length job.now.tests.tests) block) row.stem gates)
-            → self.new.evaluations ≤ self.old.evaluations
-            + sum_by way (open_between rows.now firsts.now from result) + length gates }
-        ensures grown { self.old.evaluations ≤ self.new.evaluations }
     {
         if is_unit(job.tests(), block) {
             let unit = &mut self.unit;
             let pack = &mut self.pack;
-            let evaluations = &mut self.changes.evaluations;
             let hits = self.hits.as_mut_slice();
             let group = block / 2;
-            return simulate_unit(
-                job,
-                group,
-                rows,
-                next,
-                from,
-                firsts,
-                unit,
-                pack,
-                evaluations,
-                hits,
-            );
+            return simulate_unit(job, group, rows, next, from, firsts, unit, pack, hits);
         }
         let span = BlockSpan::from(job.tests(), block);
         let view = view_of(job, span);
@@ -211,8 +172,7 @@ impl RegionSimulation {
             job, view, span, rows, next, from, firsts, room, region, changes, followed, stems, hits,
         );
         let all = followed.as_slice();
-        let evaluations = &mut changes.evaluations;
-        flip_all(job, view, span, all, pack, evaluations, hits);
+        flip_all(job, view, span, all, pack, hits);
         end
     }
 }
@@ -270,10 +230,6 @@ fn gather_regions(
     ensures places { length hits.new ≡ length hits.old }
     ensures capacity { (vec_capacity followed.new ≡ vec_capacity followed.old)
         × (vec_capacity stems.new ≡ vec_capacity stems.old) }
-    ensures counted { (way : ℕ → ℕ) → AreWays job.now way
-        → changes.new.evaluations ≤ changes.old.evaluations
-        + sum_by way (open_between rows.now firsts.now from result) }
-    ensures grown { changes.old.evaluations ≤ changes.new.evaluations }
     ensures room { IsAsLarge changes.old changes.new }
     ensures regions { HasSameRoom region.old region.new }
     ensures clear { IsClear changes.new }
@@ -338,10 +294,6 @@ fn add_region(
     ensures places { length hits.new ≡ length hits.old }
     ensures capacity { (vec_capacity followed.new ≡ vec_capacity followed.old)
         × (vec_capacity stems.new ≡ vec_capacity stems.old) }
-    ensures counted { (way : ℕ → ℕ) (first : ℕ) → AreWays job.now way → first ≤ from
-        → changes.new.evaluations + sum_by way (open_between rows.now firsts.now first from)
-        ≤ changes.old.evaluations + sum_by way (open_between rows.now firsts.now first result) }
-    ensures grown { changes.old.evaluations ≤ changes.new.evaluations }
     ensures room { IsAsLarge changes.old changes.new }
     ensures regions { HasSameRoom region.old region.new }
     ensures clear { IsClear changes.new }
@@ -383,7 +335,6 @@ fn flip_all(
     span: BlockSpan,
     followed: &[Followed],
     pack: &mut Pack,
-    evaluations: &mut u64,
     hits: &mut [Option<u32>],
 )
     requires span { IsSpan (length job.now.tests.tests) span }
@@ -403,27 +354,21 @@ fn flip_all(
     ensures kept { (place : ℕ) → (IsFollowedAt followed.now place → ⊥)
         → slice_get hits.new place ≡ slice_get hits.old place }
     ensures places { length hits.new ≡ length hits.old }
-    ensures counted { (gates : List ℕ) → ((slot : Slot) → Contains pack.old.slots.items slot
-        → HasActiveByFlip view.entry.circuit.now.arranged job.now.tests.tests span slot.stem gates)
-        → ((one : Followed) → Contains followed.now one
-        → AreInSpan job.now.tests.tests span one.lanes)
-        → evaluations.new ≤ evaluations.old + length gates }
-    ensures grown { evaluations.old ≤ evaluations.new }
     ensures room { IsPackAsLarge pack.old pack.new }
     ensures clear { IsPackClear pack.new }
 {
     if span.first < span.last {
         let copies = Both { words: view.good };
-        flip_pack(job, view, span, copies, followed, pack, evaluations, hits);
+        flip_pack(job, view, span, copies, followed, pack, hits);
         return;
     }
     if span.first % 2 == 0 {
         let copies = Low { words: view.good };
-        flip_pack(job, view, span, copies, followed, pack, evaluations, hits);
+        flip_pack(job, view, span, copies, followed, pack, hits);
         return;
     }
     let copies = High { words: view.good };
-    flip_pack(job, view, span, copies, followed, pack, evaluations, hits);
+    flip_pack(job, view, span, copies, followed, pack, hits);
 }
 
 /// Complements the stems of a pack on copies of the tests of a span, and keeps the first tests of
@@ -436,7 +381,6 @@ fn flip_pack<C: Copies>(
     copies: C,
     followed: &[Followed],
     pack: &mut Pack,
-    evaluations: &mut u64,
     hits: &mut [Option<u32>],
 )
     requires span { IsSpan (length job.now.tests.tests) span }
@@ -455,16 +399,10 @@ fn flip_pack<C: Copies>(
     ensures kept { (place : ℕ) → (IsFollowedAt followed.now place → ⊥)
         → slice_get hits.new place ≡ slice_get hits.old place }
     ensures places { length hits.new ≡ length hits.old }
-    ensures counted { (gates : List ℕ) → ((slot : Slot) → Contains pack.old.slots.items slot
-        → HasActiveByFlip view.entry.circuit.now.arranged job.now.tests.tests span slot.stem gates)
-        → ((one : Followed) → Contains followed.now one
-        → AreInSpan job.now.tests.tests span one.lanes)
-        → evaluations.new ≤ evaluations.old + length gates }
-    ensures grown { evaluations.old ≤ evaluations.new }
     ensures room { IsPackAsLarge pack.old pack.new }
     ensures clear { IsPackClear pack.new }
 {
-    let seen = propagate(view.circuit, copies, followed, pack, evaluations);
+    let seen = propagate(view.circuit, copies, followed, pack);
     let stems = pack.slots.as_slice();
     conclude_slots(span, copies, seen, followed, stems, hits);
 }
@@ -573,10 +511,6 @@ fn follow_region(
     ensures same { IsSameRegion region.old region.new }
     ensures places { length hits.new ≡ length hits.old }
     ensures capacity { vec_capacity followed.new ≡ vec_capacity followed.old }
-    ensures counted { (way : ℕ → ℕ) (first : ℕ) → AreWays job.now way → first ≤ from
-        → changes.new.evaluations + sum_by way (open_between rows.now firsts.now first from)
-        ≤ changes.old.evaluations + sum_by way (open_between rows.now firsts.now first result) }
-    ensures grown { changes.old.evaluations ≤ changes.new.evaluations }
     ensures room { IsAsLarge changes.old changes.new }
     ensures clear { IsClear changes.new }
 {
@@ -635,11 +569,8 @@ fn follow_row(
         ⊎ (IsObserved view.entry.circuit.now.arranged region.old.stem → ⊥) }
     ensures len { vec_len followed.new ≤ vec_len followed.old + 1 }
     ensures capacity { vec_capacity followed.new ≡ vec_capacity followed.old }
-    ensures counted { (way : ℕ → ℕ) → AreWays job.now way
-        → changes.new.evaluations ≤ changes.old.evaluations + way row.class }
     ensures begun { HasBegun job.now view.entry row.stem region.new }
     ensures same { IsSameRegion region.old region.new }
-    ensures grown { changes.old.evaluations ≤ changes.new.evaluations }
     ensures room { IsAsLarge changes.old changes.new }
     ensures clear { IsClear changes.new }
 {
@@ -673,11 +604,8 @@ fn follow_listed(
     ensures stem { (at : Arrival) → result ≡ Approach.Stem at → at.signal ≡ row.stem }
     ensures hidden { (at : Arrival) → result ≡ Approach.Stem at
         → IsObserved view.entry.circuit.now.arranged region.old.stem → ⊥ }
-    ensures counted { (way : ℕ) → IsWayOfClass job.now.list.model job.now.circuit row.class way
-        → changes.new.evaluations ≤ changes.old.evaluations + way }
     ensures begun { HasBegun job.now view.entry row.stem region.new }
     ensures same { IsSameRegion region.old region.new }
-    ensures grown { changes.old.evaluations ≤ changes.new.evaluations }
     ensures room { IsAsLarge changes.old changes.new }
     ensures clear { IsClear changes.new }
 {

@@ -13,7 +13,6 @@ ghost use Rattle.flat_circuit.specs.Regions.{IsStem, IsStemOf, IsStemOfLine, lon
 ghost use Rattle.region_sim.specs.Sensitized.{AreKnownFlips, AreSensitized, CarriesFlip};
 ghost use Rattle.region_sim.specs.Sensitized.{HasRoomForRegions, IsPathTo, IsSameRegion, on_from};
 ghost use Rattle.flat_circuit.specs.Stuck.{stuck_fault};
-ghost use Rattle.block_sim.specs.Ways.{IsWay, IsWayOfLine};
 ghost use Rattle.flat_circuit.specs.Words.{lane, AreWords, HasWords};
 
 use crate::known_words::KnownWords;
@@ -91,9 +90,6 @@ impl Sensitized {
         ensures sensitized { AreSensitized view.entry.circuit.now.arranged view.entry.good.now
             self.new }
         ensures same { IsSameRegion self.old self.new }
-        ensures counted { (way : ℕ) → IsWay view.entry.circuit.now.arranged signal way
-            → changes.new.evaluations ≤ changes.old.evaluations + way }
-        ensures grown { changes.old.evaluations ≤ changes.new.evaluations }
         ensures room { IsAsLarge changes.old changes.new }
         ensures clear { IsClear changes.new }
     {
@@ -121,8 +117,6 @@ fn climb(circuit: &FlatCircuit, signal: u32, known: &KnownWords, path: &mut Vec<
     ensures first { on_from path.new.items result.signal ≡ signal }
     ensures known { slice_index_or known.now result.signal None ≡ Some result.lanes }
     ensures within { result.signal < length (names circuit.now.arranged) }
-    ensures short { (way : ℕ) → IsWay circuit.now.arranged signal way
-        → vec_len path.new ≤ way }
     ensures capacity { vec_capacity path.new ≡ vec_capacity path.old }
 {
     let _signals = circuit.signals();
@@ -169,8 +163,6 @@ fn descend(
         → AreKnownFlips view.entry.circuit.now.arranged view.entry.good.now mask stem known.new }
     ensures signals { length known.new ≡ length known.old }
     ensures capacity { vec_capacity path.new ≡ vec_capacity path.old }
-    ensures counted { changes.new.evaluations ≤ changes.old.evaluations + vec_len path.old }
-    ensures grown { changes.old.evaluations ≤ changes.new.evaluations }
     ensures room { IsAsLarge changes.old changes.new }
     ensures clear { IsClear changes.new }
 {
@@ -199,8 +191,6 @@ fn lanes_before(
         → AreWords view.entry.circuit.now.arranged tests group None view.entry.good.now
         → CarriesFlip view.entry.circuit.now.arranged tests group mask gate.signal stem gate.lanes
         → CarriesFlip view.entry.circuit.now.arranged tests group mask signal stem result }
-    ensures counted { changes.new.evaluations ≤ changes.old.evaluations + 1 }
-    ensures grown { changes.old.evaluations ≤ changes.new.evaluations }
     ensures room { IsAsLarge changes.old changes.new }
     ensures clear { IsClear changes.new }
 {
@@ -248,9 +238,6 @@ pub fn follow_within(
     ensures sensitized { AreSensitized view.entry.circuit.now.arranged view.entry.good.now
         region.new }
     ensures same { IsSameRegion region.old region.new }
-    ensures counted { (way : ℕ) → IsWayOfLine view.entry.circuit.now.arranged origin.fault.line way
-        → changes.new.evaluations ≤ changes.old.evaluations + way }
-    ensures grown { changes.old.evaluations ≤ changes.new.evaluations }
     ensures room { IsAsLarge changes.old changes.new }
     ensures clear { IsClear changes.new }
 {

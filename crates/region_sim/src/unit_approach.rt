@@ -13,7 +13,6 @@ ghost use Rattle.flat_circuit.specs.Origins.{IsStuckOf};
 ghost use Rattle.block_sim.specs.Listed.{IsListed};
 ghost use Rattle.region_sim.specs.Units.{IsSameUnitRegion, IsUnitApproach, IsUnitRegion};
 ghost use Rattle.region_sim.specs.Units.{IsUnitViewOf, unit_rows};
-ghost use Rattle.block_sim.specs.Ways.{IsWayOfClass};
 ghost use Rattle.flat_circuit.specs.Words.{lane};
 
 use crate::unit_region::UnitRegion;
@@ -86,7 +85,6 @@ pub fn approach(
     group: u32,
     row: ListedClass,
     region: &mut UnitRegion,
-    evaluations: &mut u64,
 ) -> UnitApproach
     requires low { group < 2 ^ 20 }
     requires view { IsUnitViewOf job.now group view }
@@ -101,20 +99,10 @@ pub fn approach(
     ensures region { IsUnitRegion view.entry.circuit.now.arranged both_layout
         (unit_rows view.entry) region.new }
     ensures same { IsSameUnitRegion region.old region.new }
-    ensures counted { (way : ℕ) → IsWayOfClass job.now.list.model job.now.circuit row.class way
-        → evaluations.new ≤ evaluations.old + way }
-    ensures grown { evaluations.old ≤ evaluations.new }
 {
     let launch = launch_in_unit(job, group, row.representative);
     let origin = origin_of(view.circuit, row.representative);
-    match follow_to_stem(
-        view.circuit,
-        view.words,
-        origin,
-        launch,
-        region,
-        evaluations,
-    ) {
+    match follow_to_stem(view.circuit, view.words, origin, launch, region) {
         WideReach::Observed(word) => UnitApproach::Known(word),
         WideReach::Stem(at) => {
             let lanes = launch.and(at.lanes);

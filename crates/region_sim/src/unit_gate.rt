@@ -16,7 +16,6 @@ ghost use Rattle.flat_circuit.specs.Words.{lane};
 
 use block_sim::flat::{FlatCircuit, FlatGate};
 use block_sim::wide_lanes::in_each_wide_lane;
-use block_sim::words::count_evaluation;
 use wide_words::{Copies, Wide};
 
 /// The pins of a gate that are complemented: those that read a signal, or one.
@@ -114,7 +113,6 @@ pub fn pass<C: Copies>(
     gate: u32,
     turned: Turned,
     lanes: Wide,
-    evaluations: &mut u64,
 ) -> Wide
     requires circuit { IsCircuit circuit.now.arranged }
     requires view { HaveCounts circuit.now.arranged C.layout (C.rows copies) }
@@ -127,10 +125,7 @@ pub fn pass<C: Copies>(
         → inverted_if (lane (number result) k) (copied_bit C.layout (C.rows copies) k gate)
         ≡ value kind
         (turned_bits C.layout (C.rows copies) turned (number lanes) pins k) }
-    ensures grown { evaluations.old ≤ evaluations.new }
-    ensures counted { evaluations.new ≤ evaluations.old + 1 }
 {
-    count_evaluation(evaluations);
     match circuit.gate_of(gate) {
         Some(driver) => {
             let word = gate_turned(driver, copies, turned, lanes);

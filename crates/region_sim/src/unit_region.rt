@@ -15,7 +15,6 @@ ghost use Rattle.flat_circuit.specs.Regions.{IsStemOf, lone_reader};
 ghost use Rattle.region_sim.specs.Sensitized.{IsPathTo, on_from};
 ghost use Rattle.region_sim.specs.Units.{AreKnownInUnit, CarryFlip, HasUnitRoom, IsSameUnitRegion};
 ghost use Rattle.region_sim.specs.Units.{IsUnitRegion};
-ghost use Rattle.block_sim.specs.Ways.{IsWay};
 
 use crate::known_wide::KnownWide;
 use crate::unit_gate::{Turned, pass};
@@ -74,13 +73,7 @@ impl UnitRegion {
     /// Returns the lanes of a signal of the region. It evaluates the gates on its way to the stem,
     /// up to the first signal whose lanes are known.
     #[inline(always)]
-    pub fn lanes_of<C: Copies>(
-        &mut self,
-        circuit: &FlatCircuit,
-        copies: C,
-        signal: u32,
-        evaluations: &mut u64,
-    ) -> Wide
+    pub fn lanes_of<C: Copies>(&mut self, circuit: &FlatCircuit, copies: C, signal: u32) -> Wide
         requires circuit { IsCircuit circuit.now.arranged }
         requires view { HaveCounts circuit.now.arranged C.layout (C.rows copies) }
         requires region { IsUnitRegion circuit.now.arranged C.layout (C.rows copies) self.old }
@@ -92,9 +85,6 @@ impl UnitRegion {
             (number result) }
         ensures region { IsUnitRegion circuit.now.arranged C.layout (C.rows copies) self.new }
         ensures same { IsSameUnitRegion self.old self.new }
-        ensures counted { (way : ℕ) → IsWay circuit.now.arranged signal way
-            → evaluations.new ≤ evaluations.old + way }
-        ensures grown { evaluations.old ≤ evaluations.new }
     {
         match self.known.of(signal) {
             Some(lanes) => lanes,
@@ -102,7 +92,7 @@ impl UnitRegion {
                 let known = &mut self.known;
                 let path = &mut self.path;
                 let at = climb(circuit, signal, known, path);
-                descend(circuit, copies, at, known, path, evaluations)
+                descend(circuit, copies, at, known, path)
             }
         }
     }
@@ -120,8 +110,6 @@ fn climb(circuit: &FlatCircuit, signal: u32, known: &KnownWide, path: &mut Vec<u
     ensures first { on_from path.new.items result.signal ≡ signal }
     ensures known { slice_index_or known.now result.signal None ≡ Some result.lanes }
     ensures within { result.signal < length (names circuit.now.arranged) }
-    ensures short { (way : ℕ) → IsWay circuit.now.arranged signal way
-        → vec_len path.new ≤ way }
     ensures capacity { vec_capacity path.new ≡ vec_capacity path.old }
 {
     let _signals = circuit.signals();
@@ -149,7 +137,6 @@ fn descend<C: Copies>(
     from: WideArrival,
     known: &mut KnownWide,
     path: &mut Vec<u32>,
-    evaluations: &mut u64,
 ) -> Wide
     requires circuit { IsCircuit circuit.now.arranged }
     requires view { HaveCounts circuit.now.arranged C.layout (C.rows copies) }
@@ -168,12 +155,10 @@ fn descend<C: Copies>(
         → AreKnownInUnit circuit.now.arranged C.layout (C.rows copies) stem known.new }
     ensures signals { length known.new ≡ length known.old }
     ensures capacity { vec_capacity path.new ≡ vec_capacity path.old }
-    ensures counted { evaluations.new ≤ evaluations.old + vec_len path.old }
-    ensures grown { evaluations.old ≤ evaluations.new }
 {
     let mut at = from;
     while let Some(signal) = path.pop() {
-        let lanes = lanes_before(circuit, copies, at, signal, evaluations);
+        let lanes = lanes_before(circuit, copies, at, signal);
         known.keep(signal, lanes);
         at = WideArrival { signal, lanes };
     }
@@ -182,34 +167,19 @@ fn descend<C: Copies>(
 
 /// Returns the lanes of a signal, from the lanes of the only gate that reads it.
 #[inline(always)]
-fn lanes_before<C: Copies>(
-    circuit: &FlatCircuit,
-    copies: C,
-    gate: WideArrival,
-    signal: u32,
-    evaluations: &mut u64,
-) -> Wide
+fn lanes_before<C: Copies>(circuit: &FlatCircuit, copies: C, gate: WideArrival, signal: u32) -> Wide
     requires circuit { IsCircuit circuit.now.arranged }
     requires view { HaveCounts circuit.now.arranged C.layout (C.rows copies) }
     requires read { lone_reader circuit.now.arranged signal ≡ Some gate.signal }
-    ensures carries { (tests : List Test) (group : ℕ → ℕ) (stem : ℕ)
+    ensures { (tests : List Test) (group : ℕ → ℕ) (stem : ℕ)
         → AreRows circuit.now.arranged tests C.layout group (C.rows copies)
         → CarryFlip circuit.now.arranged tests C.layout group gate.signal stem
         (number gate.lanes)
         → CarryFlip circuit.now.arranged tests C.layout group signal stem (number result) }
-    ensures counted { evaluations.new ≤ evaluations.old + 1 }
-    ensures grown { evaluations.old ≤ evaluations.new }
 {
     if gate.lanes.is_none() {
         return Wide::none();
     }
     let turned = Turned::Signal(signal);
-    pass(
-        circuit,
-        copies,
-        gate.signal,
-        turned,
-        gate.lanes,
-        evaluations,
-    )
+    pass(circuit, copies, gate.signal, turned, gate.lanes)
 }

@@ -13,14 +13,11 @@ ghost use Rattle.region_sim.specs.OpenPlaces.{AreNextOpen};
 ghost use Rattle.block_sim.specs.Listed.{IsListed};
 ghost use Rattle.region_sim.specs.Pack.{IsPackClear};
 ghost use Rattle.region_sim.specs.RegionHits.{HaveFirsts, HaveStem, IsOpenAt, IsPackAsLarge};
-ghost use Rattle.region_sim.specs.RegionHits.{open_between};
 ghost use Rattle.region_sim.specs.UnitHits.{AreClassesAt, AreClassesOpen, ArePartsAdded, AreParted};
 ghost use Rattle.region_sim.specs.UnitHits.{AreUnitConcluded, HaveArrivedInUnit, HaveFirstsBeside};
 ghost use Rattle.region_sim.specs.UnitHits.{IsClassAt, IsFoundOrCame, IsUnitAsLarge, IsUnitPack};
 ghost use Rattle.region_sim.specs.Units.{HasUnitRoom, IsSameUnitRegion, IsTestInUnit, IsUnitRegion};
 ghost use Rattle.region_sim.specs.Units.{IsUnitViewOf, unit_rows, unit_span};
-ghost use Rattle.region_sim.specs.KnownWays.{AreWays};
-ghost use Rattle.block_sim.specs.Ways.{HasActiveByFlip};
 
 use crate::pack::{Pack, Slot, propagate};
 use crate::region_simulation::{first_at, keep, next_open, row_at};
@@ -84,7 +81,6 @@ pub fn simulate_unit(
     firsts: &[Option<u32>],
     unit: &mut Unit,
     pack: &mut Pack,
-    evaluations: &mut u64,
     hits: &mut [Option<u32>],
 ) -> usize
     requires low { group < 2 ^ 20 }
@@ -106,13 +102,6 @@ pub fn simulate_unit(
     ensures known { (place test : ℕ) → slice_get firsts.now place ≡ Some (Some test)
         → slice_get hits.new place ≡ slice_get hits.old place }
     ensures places { length hits.new ≡ length hits.old }
-    ensures counted { (way : ℕ → ℕ) (gates : List ℕ) → AreWays job.now way
-        → ((place : ℕ) (row : ListedClass) → from ≤ place → place < result
-        → IsOpenAt rows.now firsts.now place row
-        → HasActiveByFlip job.now.circuit job.now.tests.tests (unit_span group) row.stem gates)
-        → evaluations.new ≤ evaluations.old
-        + sum_by way (open_between rows.now firsts.now from result) + length gates }
-    ensures grown { evaluations.old ≤ evaluations.new }
     ensures unit { IsUnitAsLarge unit.old unit.new }
     ensures room { IsPackAsLarge pack.old pack.new }
     ensures clear { IsPackClear pack.new }
@@ -129,34 +118,14 @@ pub fn simulate_unit(
     classes.clear();
     region.begin(view.circuit, stem);
     let end = follow_unit(
-        job,
-        view,
-        group,
-        rows,
-        next,
-        from,
-        firsts,
-        region,
-        classes,
-        evaluations,
-        hits,
+        job, view, group, rows, next, from, firsts, region, classes, hits,
     );
     let came = classes.as_slice();
     if came.is_empty() {
         return end;
     }
     let followed = &mut unit.followed;
-    flip_unit(
-        job,
-        view,
-        group,
-        stem,
-        came,
-        followed,
-        pack,
-        evaluations,
-        hits,
-    );
+    flip_unit(job, view, group, stem, came, followed, pack, hits);
     end
 }
 
@@ -171,7 +140,6 @@ fn flip_unit(
     came: &[UnitClass],
     followed: &mut Vec<Followed>,
     pack: &mut Pack,
-    evaluations: &mut u64,
     hits: &mut [Option<u32>],
 )
     requires low { group < 2 ^ 20 }
@@ -192,11 +160,6 @@ fn flip_unit(
     ensures kept { (place : ℕ) → (IsClassAt came.now place → ⊥)
         → slice_get hits.new place ≡ slice_get hits.old place }
     ensures places { length hits.new ≡ length hits.old }
-    ensures counted { (gates : List ℕ)
-        → HasActiveByFlip view.entry.circuit.now.arranged job.now.tests.tests (unit_span group) stem
-        gates
-        → evaluations.new ≤ evaluations.old + length gates }
-    ensures grown { evaluations.old ≤ evaluations.new }
     ensures capacity { vec_capacity followed.new ≡ vec_capacity followed.old }
     ensures room { IsPackAsLarge pack.old pack.new }
     ensures clear { IsPackClear pack.new }
@@ -205,13 +168,7 @@ fn flip_unit(
     followed.clear();
     slots.clear();
     give_slots(view.words, stem, came, followed, slots);
-    let seen = propagate(
-        view.circuit,
-        view.words,
-        followed.as_slice(),
-        pack,
-        evaluations,
-    );
+    let seen = propagate(view.circuit, view.words, followed.as_slice(), pack);
     conclude_unit(group, seen, came, hits);
 }
 
@@ -227,7 +184,6 @@ fn follow_unit(
     firsts: &[Option<u32>],
     region: &mut UnitRegion,
     classes: &mut Vec<UnitClass>,
-    evaluations: &mut u64,
     hits: &mut [Option<u32>],
 ) -> usize
     requires low { group < 2 ^ 20 }
@@ -264,10 +220,6 @@ fn follow_unit(
         → slice_get hits.new place ≡ slice_get hits.old place }
     ensures places { length hits.new ≡ length hits.old }
     ensures capacity { vec_capacity classes.new ≡ vec_capacity classes.old }
-    ensures counted { (way : ℕ → ℕ) → AreWays job.now way
-        → evaluations.new ≤ evaluations.old
-        + sum_by way (open_between rows.now firsts.now from result) }
-    ensures grown { evaluations.old ≤ evaluations.new }
     ensures same { IsSameUnitRegion region.old region.new }
 {
     let stem = row_at(rows, from).stem;
@@ -285,17 +237,7 @@ fn follow_unit(
         if row.stem != stem || count >= MOST {
             return place;
         }
-        follow_row_in_unit(
-            job,
-            view,
-            group,
-            row,
-            place,
-            region,
-            classes,
-            evaluations,
-            hits,
-        );
+        follow_row_in_unit(job, view, group, row, place, region, classes, hits);
         place = next_open(next, place);
     }
     place
@@ -311,7 +253,6 @@ fn follow_row_in_unit(
     place: usize,
     region: &mut UnitRegion,
     classes: &mut Vec<UnitClass>,
-    evaluations: &mut u64,
     hits: &mut [Option<u32>],
 )
     requires low { group < 2 ^ 20 }
@@ -329,9 +270,6 @@ fn follow_row_in_unit(
     ensures hidden { (classes.new.items ≡ classes.old.items)
         ⊎ (IsObserved view.entry.circuit.now.arranged region.old.stem → ⊥) }
     ensures capacity { vec_capacity classes.new ≡ vec_capacity classes.old }
-    ensures counted { (way : ℕ → ℕ) → AreWays job.now way
-        → evaluations.new ≤ evaluations.old + way row.class }
-    ensures grown { evaluations.old ≤ evaluations.new }
     ensures region { IsUnitRegion view.entry.circuit.now.arranged both_layout
         (unit_rows view.entry) region.new }
     ensures same { IsSameUnitRegion region.old region.new }
@@ -340,7 +278,7 @@ fn follow_row_in_unit(
         keep(hits, place, None);
         return;
     }
-    match approach(job, view, group, row, region, evaluations) {
+    match approach(job, view, group, row, region) {
         UnitApproach::Known(lanes) => keep(hits, place, test_in_unit(group, lanes)),
         UnitApproach::AtStem(lanes) => classes.push_reserved(UnitClass {
             class: row.class,

@@ -14,7 +14,6 @@ ghost use Rattle.flat_circuit.specs.Regions.{IsStemOfLine};
 ghost use Rattle.block_sim.specs.Flips.{start_of};
 ghost use Rattle.flat_circuit.specs.Stuck.{stuck_fault};
 ghost use Rattle.region_sim.specs.Units.{IsSameUnitRegion, IsUnitRegion, IsWideReached};
-ghost use Rattle.block_sim.specs.Ways.{IsWay, IsWayOfLine};
 
 use crate::unit_gate::{Turned, pass};
 use crate::unit_region::{UnitRegion, WideArrival};
@@ -37,13 +36,7 @@ pub enum WideReach {
 /// that signal, a fault on a gate's pin to the gate's signal. A fault on an observer's line is
 /// detected if it complements that line.
 #[inline(always)]
-pub fn start<C: Copies>(
-    circuit: &FlatCircuit,
-    copies: C,
-    origin: Origin,
-    lanes: Wide,
-    evaluations: &mut u64,
-) -> WideReach
+pub fn start<C: Copies>(circuit: &FlatCircuit, copies: C, origin: Origin, lanes: Wide) -> WideReach
     requires circuit { IsCircuit circuit.now.arranged }
     requires view { HaveCounts circuit.now.arranged C.layout (C.rows copies) }
     requires listed { Contains (faults origin.fault.model circuit.now.arranged)
@@ -57,13 +50,6 @@ pub fn start<C: Copies>(
         → at.signal < length (names circuit.now.arranged) }
     ensures from { (at : WideArrival) → result ≡ WideReach.Stem at
         → start_of origin.fault.line ≡ Some at.signal }
-    ensures seen { (word : Wide) → result ≡ WideReach.Observed word
-        → evaluations.new ≡ evaluations.old }
-    ensures left { (at : WideArrival) (way : ℕ) → result ≡ WideReach.Stem at
-        → IsWayOfLine circuit.now.arranged origin.fault.line way
-        → (more : ℕ) × IsWay circuit.now.arranged at.signal more
-        × (evaluations.new + more ≤ evaluations.old + way) }
-    ensures grown { evaluations.old ≤ evaluations.new }
 {
     let stuck = in_each_wide_lane(origin.fault.at_one);
     let excited = copies.of(origin.carried).xor(stuck).and(lanes);
@@ -74,7 +60,7 @@ pub fn start<C: Copies>(
         }),
         Line::Pin { gate, pin } => {
             let turned = Turned::Pin(pin);
-            let lanes = pass(circuit, copies, gate, turned, excited, evaluations);
+            let lanes = pass(circuit, copies, gate, turned, excited);
             WideReach::Stem(WideArrival {
                 signal: gate,
                 lanes,
@@ -107,7 +93,6 @@ pub fn follow_to_stem<C: Copies>(
     origin: Origin,
     lanes: Wide,
     region: &mut UnitRegion,
-    evaluations: &mut u64,
 ) -> WideReach
     requires circuit { IsCircuit circuit.now.arranged }
     requires view { HaveCounts circuit.now.arranged C.layout (C.rows copies) }
@@ -124,18 +109,15 @@ pub fn follow_to_stem<C: Copies>(
         → at.signal ≡ region.old.stem }
     ensures region { IsUnitRegion circuit.now.arranged C.layout (C.rows copies) region.new }
     ensures same { IsSameUnitRegion region.old region.new }
-    ensures counted { (way : ℕ) → IsWayOfLine circuit.now.arranged origin.fault.line way
-        → evaluations.new ≤ evaluations.old + way }
-    ensures grown { evaluations.old ≤ evaluations.new }
 {
     let signal = region.stem;
     match first_signal(origin.fault.line) {
         Some(first) => {
-            let at = region.lanes_of(circuit, copies, first, evaluations);
+            let at = region.lanes_of(circuit, copies, first);
             if at.is_none() {
                 return WideReach::Stem(WideArrival { signal, lanes: at });
             }
-            match start(circuit, copies, origin, lanes, evaluations) {
+            match start(circuit, copies, origin, lanes) {
                 WideReach::Observed(word) => WideReach::Observed(word),
                 WideReach::Stem(from) => {
                     let lanes = from.lanes.and(at);
@@ -143,6 +125,6 @@ pub fn follow_to_stem<C: Copies>(
                 }
             }
         }
-        None => start(circuit, copies, origin, lanes, evaluations),
+        None => start(circuit, copies, origin, lanes),
     }
 }

@@ -5,6 +5,7 @@ ghost use Rattle.patterns.specs.Tests.{TestList};
 ghost use Rattle.block_sim.specs.Parts.{BelongTogether, with_tests};
 ghost use Rattle.job_loading.specs.Splits.{HasSomePart};
 ghost use Rattle.region_runs.specs.Refused.{ArePartsWithin, IsPartsFault};
+ghost use Rattle.workers.specs.declared.RunFault.{RunFault};
 ghost use Rattle.report.specs.EndToEnd.{IsJobReportFault, IsReportOf, IsReportOfJob};
 ghost use Rattle.report.specs.EndToEnd.{IsWatchedFault, IsWithin, WritesOneOf};
 
@@ -60,8 +61,9 @@ pub fn simulate_text_watched<R: Threads + Wait, G: Watch + Sync, W: Out>(
 ///
 /// It is the second half of [`simulate_text_watched`], for a job that stands: such as that of a
 /// test file that was read piece by piece ([`job_loading::split_run_in_pieces`]). If there is more
-/// than one worker, a thread frees the run's tests while others write, and the run has none then.
-/// It fails as [`job_loading::RunJob::run`] does, or for the output.
+/// than one worker, a thread may free the run's tests while others write, and the run has none
+/// then. It fails as [`job_loading::RunJob::run`] does, and then the run is as it was, or for the
+/// output.
 pub fn write_report_of_run<R: Threads + Wait, G: Watch + Sync, W: Out>(
     rt: &R,
     alloc: Global,
@@ -82,6 +84,8 @@ pub fn write_report_of_run<R: Threads + Wait, G: Watch + Sync, W: Out>(
     ensures workers { OnOk result ((0 < workers) × (workers ≤ 64)) }
     ensures within { OnOk result (ArePartsWithin run.old.parts parts) }
     ensures kept { (some : TestList) × (run.new.parts ≡ with_tests run.old.parts some) }
+    ensures unchanged { (fault : RunFault) → result ≡ Err (SimFault.Run fault)
+        → run.new ≡ run.old }
 {
     let verdicts = run_apart_watched(rt, alloc, run, parts, workers, gate)?;
     let freeing = free_tests_in_thread(rt, alloc, run, workers);

@@ -1,9 +1,9 @@
 -- The meaning of a closed ledger for the run.
 use Rattle.std.proofs.Common.{◌≡◌, ◌<◌, ◌≤◌, ◌+◌, ◌⊎◌, inl, inr, ℕ, zero, suc, List, [], ◌∷◌, map}
-use Rattle.std.proofs.Common.{length, All, Option, None, get_or, refl, sym, ap, ◌∙◌, subst, arith}
-use Rattle.std.specs.Prelude.{count_by, slice_get}
+use Rattle.std.proofs.Common.{length, All, Option, None, refl, sym, ap, ◌∙◌, subst, arith}
+use Rattle.std.specs.Prelude.{count_by}
 use Rattle.std.proofs.lemmas.Bool.{cases_lt}
-use Rattle.std.proofs.lemmas.Option.{get_or_from_slice_get, slice_get_within}
+use Rattle.std.proofs.lemmas.Option.{get_or_from_slice_get}
 use Rattle.patterns.specs.Tests.{blocks}
 use Rattle.patterns.specs.Least.{from_up}
 use Rattle.block_sim.specs.Parts.{Parts, BelongTogether}
@@ -20,32 +20,23 @@ use Rattle.fault_ledger.specs.Settled.{status, status_from, finish, finish_from}
 use Rattle.fault_ledger.specs.Seats.{ClosedFace, Closes, Place, Sitter, HoldsAll, closed_face}
 use Rattle.fault_ledger.proofs.Public.{held_goes_on, claims_past, legal_claims, ClearBelow}
 use Rattle.fault_ledger.proofs.Public.{skipped_not_first}
-use Rattle.workers.specs.ClassSelection.{AreChosenOf, ClassSelection, every, chosen_of}
-use Rattle.workers.specs.Settling.{AreSettled, IsShapeOf, IsShapeOver, shape_over}
+use Rattle.workers.specs.Settling.{AreSettled, IsShapeOf, shape_for}
 use Rattle.fault_ledger.specs.Settled.{is_skipped}
 use Rattle.workers.specs.Work.{AllReportTruly, AreBack, HasRested, HasRun, IsOfHistory, IsStopped}
 use Rattle.workers.specs.Stops.{Stops}
-use Rattle.workers.specs.Work.{ReportsTruly, Returns, WaitsFor, stops_over}
+use Rattle.workers.specs.Work.{ReportsTruly, Returns, WaitsFor}
 use Rattle.workers.proofs.SettledLedgers.{none_open, all_settled, settled_goes_on, settled_finished}
 use Rattle.workers.proofs.SettledLedgers.{finished_settled}
-use Rattle.workers.specs.Schedule.{IsTableOf}
-use Rattle.workers.specs.Verdict.{AreClassFirsts, AreFirsts, VerdictList, settled_at, verdicts}
-use Rattle.workers.proofs.TrueOutcomes.{first_over, table_over}
-use Rattle.patterns.specs.Least.{Table, below}
-use Rattle.patterns.proofs.Public.{get_or-below, length-map-below}
-use Rattle.block_sim.specs.First.{IsFirst}
-use Rattle.block_sim.proofs.Public.{true_table}
-use Rattle.fault_model.specs.Collapse.{IsClassOf}
-use Rattle.fault_ledger.specs.Answer.{IsTrueTo}
-use Rattle.list_lemmas.proofs.Places.{from_mapped, within_place}
-use Rattle.workers.proofs.TrueReports.{truly_goes_on, all_true, firsts_truly, true_to}
+use Rattle.workers.specs.Verdict.{AreFirsts, VerdictList, verdicts}
+use Rattle.list_lemmas.proofs.Places.{within_place}
+use Rattle.workers.proofs.TrueReports.{truly_goes_on, all_true, firsts_truly}
 
-module _ (job : Parts) (over : ClassSelection) (p : Place) (P : Type 0) (S : Stops)
+module _ (job : Parts) (p : Place) (P : Type 0) (S : Stops)
     (seats : List Sitter)
-    (h : History) (back : AreBack job over p P S seats) (holds : HoldsAll h seats) where
+    (h : History) (back : AreBack job p P S seats) (holds : HoldsAll h seats) where
   -- the seat of a worker
   seat_of : (w : ℕ) → w < p.shape.workers → (a : Sitter) × ContinuesWithout w h a.seen
-      × Returns job over p w P S a
+      × Returns job p w P S a
   seat_of w lt =
       let low : w < length seats = omega (arith, lt, back.count) in
       let x = within_place seats w low in
@@ -55,9 +46,9 @@ module _ (job : Parts) (over : ClassSelection) (p : Place) (P : Type 0) (S : Sto
       (get_or_from_slice_get seats w x.0 x.0 x.1) (holds w x.0 low) in
       (x.0, subst (λ v. ContinuesWithout v h x.0.seen) r.worker_is c, r)
 
-  pub each_truly : (w : ℕ) → w < p.shape.workers → ReportsTruly job over p.shape w h []
+  pub each_truly : (w : ℕ) → w < p.shape.workers → ReportsTruly job p.shape w h []
   each_truly w lt = let x = seat_of w lt in
-      truly_goes_on job over p.shape w h x.0.seen x.1 x.2.truly
+      truly_goes_on job p.shape w h x.0.seen x.1 x.2.truly
 
   free : P → (w : ℕ) → w < p.shape.workers → held_by w h ≡ None
   free sure w lt =
@@ -70,7 +61,7 @@ module _ (job : Parts) (over : ClassSelection) (p : Place) (P : Type 0) (S : Sto
       → AreSettled p.shape h p.shape.classes
   rested_settled sure some l = go (x.2.rested sure).over
     where
-      x : (a : Sitter) × ContinuesWithout 0 h a.seen × Returns job over p 0 P S a
+      x : (a : Sitter) × ContinuesWithout 0 h a.seen × Returns job p 0 P S a
       x = seat_of 0 some
 
       s : Shape
@@ -94,15 +85,15 @@ module _ (job : Parts) (over : ClassSelection) (p : Place) (P : Type 0) (S : Sto
   -- if a class waits, each worker was stopped, or all pieces are claimed
   pub each_ended : IsLegal p.shape h → (class block : ℕ)
       → finish p.shape h ≡ finish_is.Waiting class block → (w : ℕ) → w < p.shape.workers
-      → IsStopped p.shape (stops_over over S) w h ⊎ (claims h ≡ piece_count p.shape)
+      → IsStopped p.shape S w h ⊎ (claims h ≡ piece_count p.shape)
   each_ended l class block waits w lt = go x.2.ended
     where
-      x : (a : Sitter) × ContinuesWithout w h a.seen × Returns job over p w P S a
+      x : (a : Sitter) × ContinuesWithout w h a.seen × Returns job p w P S a
       x = seat_of w lt
 
       past : (claims x.0.seen ≡ piece_count x.0.place.shape)
           ⊎ AreSettled x.0.place.shape x.0.seen x.0.place.shape.classes
-          → IsStopped p.shape (stops_over over S) w h ⊎ (claims h ≡ piece_count p.shape)
+          → IsStopped p.shape S w h ⊎ (claims h ≡ piece_count p.shape)
       past (inl all) =
           let same : claims x.0.seen ≡ piece_count p.shape = all
           ∙ ap (λ (q : Place). piece_count q.shape) x.2.place_is in
@@ -117,8 +108,8 @@ module _ (job : Parts) (over : ClassSelection) (p : Place) (P : Type 0) (S : Sto
           let bad = sym waits ∙ settled_finished p.shape h all in
           absurd (cc)
 
-      go : HasRested x.0 ⊎ IsStopped p.shape (stops_over over S) w x.0.seen
-          → IsStopped p.shape (stops_over over S) w h ⊎ (claims h ≡ piece_count p.shape)
+      go : HasRested x.0 ⊎ IsStopped p.shape S w x.0.seen
+          → IsStopped p.shape S w h ⊎ (claims h ≡ piece_count p.shape)
       go (inl r) = past r.over
       go (inr s) = inl (s.0, held_goes_on w h x.0.seen x.1 ∙ s.1, s.2)
 
@@ -177,9 +168,9 @@ waiting_range s h c b l e =
           (λ k m. absurd (omega (arith, m))) r.1,
     )
 
-module _ (job : Parts) (over : ClassSelection) (workers : ℕ) (p : Place) (P : Type 0) (S : Stops)
-    (seats : List Sitter) (closed : ClosedFace) (is : p.shape ≡ shape_over job over workers)
-    (some : 0 < workers) (back : AreBack job over p P S seats)
+module _ (job : Parts) (workers : ℕ) (p : Place) (P : Type 0) (S : Stops)
+    (seats : List Sitter) (closed : ClosedFace) (is : p.shape ≡ shape_for job workers)
+    (some : 0 < workers) (back : AreBack job p P S seats)
     (closes : Closes p.shape seats closed) where
   same_shape : closed.shape ≡ p.shape
   same_shape = ap (λ (x : ClosedFace). x.shape) closes.3
@@ -193,14 +184,14 @@ module _ (job : Parts) (over : ClassSelection) (workers : ℕ) (p : Place) (P : 
   among = subst (λ (s : Shape). 0 < s.workers) (sym is) some
 
   each_worker : (R : Shape → ℕ → Type 0) → ((w : ℕ) → w < p.shape.workers → R p.shape w) → (w : ℕ)
-      → w < workers → R (shape_over job over workers) w
+      → w < workers → R (shape_for job workers) w
   each_worker R each = subst (λ (s : Shape). (w : ℕ) → w < s.workers → R s w) is each
 
   -- the class and block that an unfinished run names, and that its gate stopped a worker
   pub closed_waiting : (class block : ℕ) → ((h : History) → IsLegal closed.shape h
       → closed ≡ closed_face closed.shape h → finish_is.Waiting class block ≡ finish closed.shape h)
-      → (class < over.count) × (block < blocks (length job.tests.tests)) × (¬ P)
-      × WaitsFor job over workers S (over.class_at class) block
+      → (class < length job.classes.representative) × (block < blocks (length job.tests.tests))
+      × (¬ P) × WaitsFor job workers S class block
   closed_waiting class block answers =
       let fin = asked (finish_is.Waiting class block) finish answers in
       let r = waiting_range p.shape closes.0 class block closes.1 (sym fin) in (
@@ -208,27 +199,25 @@ module _ (job : Parts) (over : ClassSelection) (workers : ℕ) (p : Place) (P : 
         subst (λ (s : Shape). block < block_count s) is r.1,
         λ x.
             let done = settled_finished p.shape closes.0
-            (rested_settled job over p P S seats closes.0 back closes.2 x among closes.1) in
+            (rested_settled job p P S seats closes.0 back closes.2 x among closes.1) in
             let bad = fin ∙ done in
             absurd (cc),
         record {
           history = closes.0;
           legal = subst (λ s. IsLegal s closes.0) is closes.1;
-          truly = each_worker (λ s w. ReportsTruly job over s w closes.0 [])
-              (each_truly job over p P S seats closes.0 back closes.2);
-          ended = each_worker (λ s w. IsStopped s (stops_over over S) w closes.0
+          truly = each_worker (λ s w. ReportsTruly job s w closes.0 [])
+              (each_truly job p P S seats closes.0 back closes.2);
+          ended = each_worker (λ s w. IsStopped s S w closes.0
               ⊎ (claims closes.0 ≡ piece_count s))
-              (each_ended job over p P S seats closes.0 back closes.2 closes.1 class block
+              (each_ended job p P S seats closes.0 back closes.2 closes.1 class block
               (sym fin));
-          number = class;
-          class_is = refl;
           waiting = subst (λ s. finish s closes.0 ≡ finish_is.Waiting class block) is (sym fin);
         },
       )
 
   -- a finished run leaves a finished history
   pub closed_run : ((h : History) → IsLegal closed.shape h → closed ≡ closed_face closed.shape h
-      → finish_is.Finished ≡ finish closed.shape h) → HasRun job over workers closed
+      → finish_is.Finished ≡ finish closed.shape h) → HasRun job workers closed
   closed_run answers =
       let fin = asked finish_is.Finished finish answers in
       record {
@@ -237,12 +226,12 @@ module _ (job : Parts) (over : ClassSelection) (workers : ℕ) (p : Place) (P : 
         legal = subst (λ s. IsLegal s closes.0) (sym same_shape) closes.1;
         shows = subst (λ s. closed ≡ closed_face s closes.0) (sym same_shape) closes.3;
         finished = subst (λ s. finish s closes.0 ≡ finish_is.Finished) (sym same_shape) (sym fin);
-        truly = subst (λ s. AllReportTruly job over s closes.0) (sym same_shape)
-            (each_truly job over p P S seats closes.0 back closes.2);
+        truly = subst (λ s. AllReportTruly job s closes.0) (sym same_shape)
+            (each_truly job p P S seats closes.0 back closes.2);
       }
 
 module _ (job : Parts) (workers : ℕ) (closed : ClosedFace)
-    (run : HasRun job (every job.classes) workers closed) where
+    (run : HasRun job workers closed) where
   is_shape : IsShapeOf job closed.shape
   is_shape = subst (λ s. IsShapeOf job s) (sym run.shape) (record { classes = refl; tests = refl })
 
@@ -259,7 +248,7 @@ module _ (job : Parts) (workers : ℕ) (closed : ClosedFace)
       subst (AreFirsts job.list.model job.circuit job.tests.tests)
       (sym (told run.history run.legal run.shows))
       (firsts_truly job closed.shape run.history b is_shape run.legal
-      (all_true job (every job.classes) closed.shape run.history run.legal run.truly)
+      (all_true job closed.shape run.history run.legal run.truly)
       run_settled)
 
   -- the closed ledger's history is one of the job's ledger
@@ -272,68 +261,17 @@ module _ (job : Parts) (workers : ℕ) (closed : ClosedFace)
     history = run.history;
     legal = subst (λ s. IsLegal s run.history) run.shape run.legal;
     finished = subst (λ s. finish s run.history ≡ finish_is.Finished) run.shape run.finished;
-    truly = subst (λ s. AllReportTruly job (every job.classes) s run.history) run.shape run.truly;
+    truly = subst (λ s. AllReportTruly job s run.history) run.shape run.truly;
     firsts = told run.history run.legal run.shows
         ∙ ap (λ s. verdicts s run.history job.classes.class_of) run.shape;
     skipped = counted run.history run.shows
         ∙ ap (λ s. count_by is_skipped (states_of s run.history)) run.shape;
   }
 
--- a run over the classes of a list gives the first test of each
-pub run_class_firsts : (job : Parts) (classes : List ℕ) (workers : ℕ) (closed : ClosedFace)
-    (firsts : List (Option ℕ)) → BelongTogether job → AreChosenOf job (chosen_of classes)
-    → HasRun job (chosen_of classes) workers closed
-    → ((h : History) → IsLegal closed.shape h → closed ≡ closed_face closed.shape h
-    → firsts ≡ map (λ k. settled_at (status closed.shape h k)) (below closed.shape.classes))
-    → AreClassFirsts job.list.model job.circuit job.tests.tests classes firsts
-run_class_firsts job classes workers closed firsts b among run told = record {
-  count = ap (λ (l : List (Option ℕ)). length l) say ∙ length-map-below g s.classes ∙ is.classes;
-  first = λ k class f first e of at.
-      let lt : k < s.classes = omega (arith, slice_get_within classes k class e, is.classes) in
-      let x = from_mapped g (below s.classes) k first (ap (λ (l : List (Option ℕ)). slice_get l k)
-      (sym say) ∙ at) in
-      let same : x.0 ≡ k = sym (get_or_from_slice_get (below s.classes) k x.0 0 x.1)
-      ∙ get_or-below s.classes k 0 lt in
-      let here : first ≡ g k = sym x.2 ∙ ap g same in
-      let own = settled k lt in
-      let in_job : get_or classes k 0 ≡ class = get_or_from_slice_get classes k class 0 e in
-      subst (IsFirst job.circuit job.tests.tests f) (sym (here ∙ ap settled_at own.1))
-      (first_over job (chosen_of classes) s t.0 h b is t.1 to k own.0 f lt own.1
-      (subst (λ n. IsClassOf job.list.model job.circuit f n) (sym in_job) of));
-}
-  where
-    s : Shape
-    s = closed.shape
-
-    h : History
-    h = run.history
-
-    g : ℕ → Option ℕ
-    g k = settled_at (status closed.shape run.history k)
-
-    t : (table : Table) × IsTableOf job table
-    t = true_table job.list.model job.circuit job.tests.tests b.circuit.well_formed
-
-    is : IsShapeOver job (chosen_of classes) s
-    is = subst (λ x. IsShapeOver job (chosen_of classes) x) (sym run.shape) (record {
-      classes = refl;
-      tests = refl;
-    })
-
-    settled : AreSettled s h s.classes
-    settled = finished_settled s h run.finished
-
-    to : IsTrueTo s (table_over (chosen_of classes) t.0) h
-    to = true_to job (chosen_of classes) s t.0 h b among is t.1 run.legal
-        (all_true job (chosen_of classes) s h run.legal run.truly)
-
-    say : firsts ≡ map g (below s.classes)
-    say = told h run.legal run.shows
-
 -- every seat came back to its ledger
-pub back_placed : (job : Parts) (over : ClassSelection) (p : Place) (P : Type 0) (S : Stops)
-    (seats : List Sitter) → AreBack job over p P S seats → All (λ seat. seat.place ≡ p) seats
-back_placed job over p P S seats back k d lt =
+pub back_placed : (job : Parts) (p : Place) (P : Type 0) (S : Stops)
+    (seats : List Sitter) → AreBack job p P S seats → All (λ seat. seat.place ≡ p) seats
+back_placed job p P S seats back k d lt =
     let x = within_place seats k lt in
     ap (λ (a : Sitter). a.place) (get_or_from_slice_get seats k x.0 d x.1)
     ∙ (back.each k x.0 x.1).place_is

@@ -6,4 +6,5 @@ mod SeatCalls
 mod TrueReports
 mod ThreadHandles
 mod ClosedLedgers
+mod SweptBlocks
 pub mod Public

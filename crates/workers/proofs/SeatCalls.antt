@@ -25,11 +25,10 @@ use Rattle.fault_ledger.proofs.Public.{sitter_sees}
 use Rattle.std.proofs.Math.Nat.{mod-lt}
 use Rattle.fault_ledger.specs.declared.Status.{Status}
 use Rattle.fault_ledger.specs.declared.Status.TheVariants as status_is
-use Rattle.workers.specs.ClassSelection.{ClassSelection}
-use Rattle.workers.specs.Settling.{AreSettled, IsShapeOver}
+use Rattle.workers.specs.Settling.{AreSettled, IsShapeOf}
 use Rattle.workers.specs.Stops.{Stops}
 use Rattle.workers.specs.Work.{EachReport, GivesTrue, IsStopped, ReportsTruly, WasNoDrop}
-use Rattle.workers.specs.Work.{WorksOver}
+use Rattle.workers.specs.Work.{Works}
 use Rattle.workers.proofs.TrueOutcomes.{true_fits}
 use Rattle.workers.proofs.SettledLedgers.{settled_past}
 
@@ -44,10 +43,10 @@ reports_none H w (Event.Report u o ∷ newer) earlier n = (
 )
 reports_none H w (Event.Drop u ∷ newer) earlier n = reports_none H w newer earlier n.1
 
-pub truly_none : (job : Parts) (over : ClassSelection) (s : Shape) (w : ℕ) (newer earlier : History)
-    → NoneOf w newer → ReportsTruly job over s w newer earlier
-truly_none job over s w newer earlier n =
-    reports_none (λ o h. GivesTrue job over s (held_by w h) o × WasNoDrop s w h) w newer earlier n
+pub truly_none : (job : Parts) (s : Shape) (w : ℕ) (newer earlier : History)
+    → NoneOf w newer → ReportsTruly job s w newer earlier
+truly_none job s w newer earlier n =
+    reports_none (λ o h. GivesTrue job s (held_by w h) o × WasNoDrop s w h) w newer earlier n
 
 -- newer events on top of newer events
 pub reports_append : (H : Outcome → History → Type 0) (w : ℕ) (later newer earlier : History)
@@ -63,12 +62,12 @@ reports_append H w (Event.Report v o ∷ later) newer earlier t u = (
 reports_append H w (Event.Drop v ∷ later) newer earlier t u =
     reports_append H w later newer earlier t u
 
-pub truly_append : (job : Parts) (over : ClassSelection) (s : Shape) (w : ℕ)
+pub truly_append : (job : Parts) (s : Shape) (w : ℕ)
     (later newer earlier : History)
-    → ReportsTruly job over s w newer earlier → ReportsTruly job over s w later (newer ++ earlier)
-    → ReportsTruly job over s w (later ++ newer) earlier
-truly_append job over s w later newer earlier t u =
-    reports_append (λ o h. GivesTrue job over s (held_by w h) o × WasNoDrop s w h) w later newer
+    → ReportsTruly job s w newer earlier → ReportsTruly job s w later (newer ++ earlier)
+    → ReportsTruly job s w (later ++ newer) earlier
+truly_append job s w later newer earlier t u =
+    reports_append (λ o h. GivesTrue job s (held_by w h) o × WasNoDrop s w h) w later newer
     earlier t u
 
 -- no event is the worker's in two histories of which none is in either
@@ -92,9 +91,9 @@ no_drop_later : (s : Shape) (w : ℕ) (later earlier : History) → ContinuesWit
 no_drop_later s w later earlier c n = (n.0, without_twice w later earlier n.0 c n.1, n.2)
 
 -- a seat that does nothing
-pub works_same : (job : Parts) (over : ClassSelection) (a : Sitter) → IsSitter a
-    → WorksOver job over a a
-works_same job over a i = record {
+pub works_same : (job : Parts) (a : Sitter) → IsSitter a
+    → Works job a a
+works_same job a i = record {
   place = refl;
   worker = refl;
   newer = [];
@@ -104,46 +103,46 @@ works_same job over a i = record {
 }
 
 -- work after work
-pub works_twice : (job : Parts) (over : ClassSelection) (a b d : Sitter) → WorksOver job over a b
-    → WorksOver job over b d → WorksOver job over a d
-works_twice job over a b d x y = record {
+pub works_twice : (job : Parts) (a b d : Sitter) → Works job a b
+    → Works job b d → Works job a d
+works_twice job a b d x y = record {
   place = y.place ∙ x.place;
   worker = y.worker ∙ x.worker;
   newer = y.newer ++ x.newer;
   begins = y.begins ∙ ap (λ h. y.newer ++ h) x.begins ∙ sym (append_assoc y.newer x.newer a.seen);
   legal = subst (λ p. IsLegal p.shape d.seen) x.place y.legal;
-  truly = truly_append job over a.place.shape a.worker y.newer x.newer a.seen x.truly
-      (subst (λ h. ReportsTruly job over a.place.shape a.worker y.newer h) x.begins
-      (subst (λ w. ReportsTruly job over a.place.shape w y.newer b.seen) x.worker
-      (subst (λ p. ReportsTruly job over p.shape b.worker y.newer b.seen) x.place y.truly)));
+  truly = truly_append job a.place.shape a.worker y.newer x.newer a.seen x.truly
+      (subst (λ h. ReportsTruly job a.place.shape a.worker y.newer h) x.begins
+      (subst (λ w. ReportsTruly job a.place.shape w y.newer b.seen) x.worker
+      (subst (λ p. ReportsTruly job p.shape b.worker y.newer b.seen) x.place y.truly)));
 }
 
 -- looks
-pub sees_works : (job : Parts) (over : ClassSelection) (a b : Sitter) (ended : Bool)
+pub sees_works : (job : Parts) (a b : Sitter) (ended : Bool)
     → Sees a ended b
-    → WorksOver job over a b
-sees_works job over a b ended s = record {
+    → Works job a b
+sees_works job a b ended s = record {
   place = ap (λ (x : Sitter). x.place) s.seat;
   worker = ap (λ (x : Sitter). x.worker) s.seat;
   newer = s.newer.0;
   begins = s.newer.1;
   legal = s.legal;
-  truly = truly_none job over a.place.shape a.worker s.newer.0 a.seen s.newer.2;
+  truly = truly_none job a.place.shape a.worker s.newer.0 a.seen s.newer.2;
 }
 
 -- an event
-pub makes_works : (job : Parts) (over : ClassSelection) (a b : Sitter) (e : Event) (r : Reply)
-    (m : Makes a e r b) → ReportsTruly job over a.place.shape a.worker (e ∷ []) m.before
-    → WorksOver job over a b
-makes_works job over a b e r m t = record {
+pub makes_works : (job : Parts) (a b : Sitter) (e : Event) (r : Reply)
+    (m : Makes a e r b) → ReportsTruly job a.place.shape a.worker (e ∷ []) m.before
+    → Works job a b
+makes_works job a b e r m t = record {
   place = ap (λ (x : Sitter). x.place) m.seat;
   worker = ap (λ (x : Sitter). x.worker) m.seat;
   newer = e ∷ m.newer.0;
   begins = ap (λ (x : Sitter). x.seen) m.seat ∙ ap (λ h. e ∷ h) m.newer.1;
   legal = subst (IsLegal a.place.shape) (sym (ap (λ (x : Sitter). x.seen) m.seat)) m.legal;
-  truly = truly_append job over a.place.shape a.worker (e ∷ []) m.newer.0 a.seen
-      (truly_none job over a.place.shape a.worker m.newer.0 a.seen m.newer.2)
-      (subst (λ h. ReportsTruly job over a.place.shape a.worker (e ∷ []) h) m.newer.1 t);
+  truly = truly_append job a.place.shape a.worker (e ∷ []) m.newer.0 a.seen
+      (truly_none job a.place.shape a.worker m.newer.0 a.seen m.newer.2)
+      (subst (λ h. ReportsTruly job a.place.shape a.worker (e ∷ []) h) m.newer.1 t);
 }
 
 -- the piece of a seat after a claim, and that it was given one piece more
@@ -178,26 +177,26 @@ given a b class block m =
     )
 
 -- a drop that was made
-pub dropped : (job : Parts) (over : ClassSelection) (a b : Sitter) (r : Reply)
-    → Makes a (Event.Drop a.worker) r b → WorksOver job over a b × (b.exhausted ≡ a.exhausted)
+pub dropped : (job : Parts) (a b : Sitter) (r : Reply)
+    → Makes a (Event.Drop a.worker) r b → Works job a b × (b.exhausted ≡ a.exhausted)
     × (held_by b.worker b.seen ≡ None)
-dropped job over a b r m = (
-  makes_works job over a b (Event.Drop a.worker) r m tt,
+dropped job a b r m = (
+  makes_works job a b (Event.Drop a.worker) r m tt,
   ap (λ (x : Sitter). x.exhausted) m.seat,
   ap (λ (x : Sitter). held_by x.worker x.seen) m.seat
       ∙ ap (λ t. cond t None (held_by a.worker m.before)) (eq-eqb a.worker a.worker refl),
 )
 
 -- a report of the true outcome that was made, of a piece that could not be dropped
-pub reported : (job : Parts) (over : ClassSelection) (a b : Sitter) (o : Outcome) (r : Reply)
+pub reported : (job : Parts) (a b : Sitter) (o : Outcome) (r : Reply)
     → Makes a (Event.Report a.worker o) r b
-    → GivesTrue job over a.place.shape (held_by a.worker a.seen) o
-    → WasNoDrop a.place.shape a.worker a.seen → WorksOver job over a b × (b.exhausted ≡ a.exhausted)
+    → GivesTrue job a.place.shape (held_by a.worker a.seen) o
+    → WasNoDrop a.place.shape a.worker a.seen → Works job a b × (b.exhausted ≡ a.exhausted)
     × (held_by b.worker b.seen ≡ None)
-reported job over a b o r m t n = (
-  makes_works job over a b (Event.Report a.worker o) r m (
+reported job a b o r m t n = (
+  makes_works job a b (Event.Report a.worker o) r m (
     (λ e. (
-      subst (λ x. GivesTrue job over a.place.shape x o)
+      subst (λ x. GivesTrue job a.place.shape x o)
           (sym (held_goes_on a.worker m.before a.seen m.newer)) t,
       no_drop_later a.place.shape a.worker m.before a.seen m.newer n,
     )),
@@ -243,27 +242,27 @@ holds_none a b i e s = go (nat_lt (claims a.seen) (piece_count a.place.shape)) (
     go false q = absurd (cc)
 
 -- a property of a class and a block is a property of their piece
-pub true_of_piece : (job : Parts) (over : ClassSelection) (s : Shape) (class block : ℕ)
+pub true_of_piece : (job : Parts) (s : Shape) (class block : ℕ)
     (o : Outcome)
     (x : Option ℕ) → class < s.classes → x ≡ Some (piece_at s class block)
-    → IsTrueOutcome job.list.model job.circuit job.tests.tests (over.class_at class) block o
-    → GivesTrue job over s x o
-true_of_piece job over s class block o x lt e t =
-    subst (λ y. GivesTrue job over s y o) (sym e)
-    (subst (λ k. IsTrueOutcome job.list.model job.circuit job.tests.tests (over.class_at k)
+    → IsTrueOutcome job.list.model job.circuit job.tests.tests class block o
+    → GivesTrue job s x o
+true_of_piece job s class block o x lt e t =
+    subst (λ y. GivesTrue job s y o) (sym e)
+    (subst (λ k. IsTrueOutcome job.list.model job.circuit job.tests.tests k
     (block_of s (piece_at s class block)) o) (sym (class_of-at s class block lt))
-    (subst (λ k. IsTrueOutcome job.list.model job.circuit job.tests.tests (over.class_at class) k o)
+    (subst (λ k. IsTrueOutcome job.list.model job.circuit job.tests.tests class k o)
     (sym (block_of-at s class block lt)) t))
 
 -- a true outcome of the piece that a seat holds is accepted
-pub report_taken : (job : Parts) (over : ClassSelection) (a b : Sitter) (class block : ℕ)
+pub report_taken : (job : Parts) (a b : Sitter) (class block : ℕ)
     (o : Outcome)
-    (r : _) → IsSitter a → IsShapeOver job over a.place.shape → class < a.place.shape.classes
+    (r : _) → IsSitter a → IsShapeOf job a.place.shape → class < a.place.shape.classes
     → held_by a.worker a.seen ≡ Some (piece_at a.place.shape class block)
-    → IsTrueOutcome job.list.model job.circuit job.tests.tests (over.class_at class) block o
+    → IsTrueOutcome job.list.model job.circuit job.tests.tests class block o
     → Stays a (call.Report a.worker o) (Refused r) b → ⊥
-report_taken job over a b class block o r i is lt e t s =
-    let f = true_fits job a.place.shape (over.class_at class) block o is.tests t in
+report_taken job a b class block o r i is lt e t s =
+    let f = true_fits job a.place.shape class block o is.tests t in
     let g : fits_size (size_of a.place.shape.tests
     (block_of a.place.shape (piece_at a.place.shape class block))) o ≡ true =
     subst (λ n. fits_size (size_of a.place.shape.tests n) o ≡ true)
@@ -272,12 +271,12 @@ report_taken job over a b class block o r i is lt e t s =
     (piece_at a.place.shape class block) o i.among e g in
     absurd (cc)
 
-module _ (job : Parts) (over : ClassSelection) (a b : Sitter) (p : Place) (class block : ℕ)
-    (at : a.place ≡ p) (i : IsSitter a) (is : IsShapeOver job over p.shape)
+module _ (job : Parts) (a b : Sitter) (p : Place) (class block : ℕ)
+    (at : a.place ≡ p) (i : IsSitter a) (is : IsShapeOf job p.shape)
     (lt : class < p.shape.classes)
     (holding : held_by a.worker a.seen ≡ Some (piece_at p.shape class block)) where
-  own : IsShapeOver job over a.place.shape
-  own = subst (λ (q : Place). IsShapeOver job over q.shape) (sym at) is
+  own : IsShapeOf job a.place.shape
+  own = subst (λ (q : Place). IsShapeOf job q.shape) (sym at) is
 
   own_class : class < a.place.shape.classes
   own_class = subst (λ (q : Place). class < q.shape.classes) (sym at) lt
@@ -288,7 +287,7 @@ module _ (job : Parts) (over : ClassSelection) (a b : Sitter) (p : Place) (class
 
   -- a report of the true outcome after it
   module _ (d : Sitter) (o : Outcome) (found : FindsNoHit a b)
-      (true : IsTrueOutcome job.list.model job.circuit job.tests.tests (over.class_at class) block
+      (true : IsTrueOutcome job.list.model job.circuit job.tests.tests class block
       o) where
     sees : Sees a a.exhausted b
     sees = found.sees
@@ -311,49 +310,49 @@ module _ (job : Parts) (over : ClassSelection) (a b : Sitter) (p : Place) (class
           found.replied,
         )
 
-    pub then_reported : (r : Reply) → Makes b (Event.Report b.worker o) r d → WorksOver job over a d
+    pub then_reported : (r : Reply) → Makes b (Event.Report b.worker o) r d → Works job a d
     then_reported r m =
-        works_twice job over a b d (sees_works job over a b a.exhausted sees)
-        (reported job over b d o r m (true_of_piece job over b.place.shape class block o
+        works_twice job a b d (sees_works job a b a.exhausted sees)
+        (reported job b d o r m (true_of_piece job b.place.shape class block o
         (held_by b.worker b.seen) own_class_b still true) no_drop).0
 
     pub then_taken : (r : Refusal) → Stays b (call.Report b.worker o) (Refused r) d → ⊥
     then_taken r s =
-        report_taken job over b d class block o r (sitter_sees a b i sees)
-        (subst (λ (q : Place). IsShapeOver job over q.shape) (sym here) own) own_class_b still
+        report_taken job b d class block o r (sitter_sees a b i sees)
+        (subst (λ (q : Place). IsShapeOf job q.shape) (sym here) own) own_class_b still
         true s
 
 -- the work after a claim that got Exhausted
-pub exhausted : (job : Parts) (over : ClassSelection) (a b : Sitter) (r : Reply) → IsSitter a
+pub exhausted : (job : Parts) (a b : Sitter) (r : Reply) → IsSitter a
     → (a.exhausted ≡ false → Sees a true b) → (a.exhausted ≡ true
     → Stays a (call.Claim a.worker) r b)
-    → WorksOver job over a b
-exhausted job over a b r i sees stays = go a.exhausted refl
+    → Works job a b
+exhausted job a b r i sees stays = go a.exhausted refl
   where
-    go : (t : Bool) → a.exhausted ≡ t → WorksOver job over a b
-    go false e = sees_works job over a b true (sees e)
-    go true e = subst (WorksOver job over a) (sym (stays e).seat) (works_same job over a i)
+    go : (t : Bool) → a.exhausted ≡ t → Works job a b
+    go false e = sees_works job a b true (sees e)
+    go true e = subst (Works job a) (sym (stays e).seat) (works_same job a i)
 
 -- a claim of a piece
-pub claimed : (job : Parts) (over : ClassSelection) (a b : Sitter) (r : Reply)
-    → Makes a (Event.Claim a.worker) r b → WorksOver job over a b
-claimed job over a b r m = makes_works job over a b (Event.Claim a.worker) r m tt
+pub claimed : (job : Parts) (a b : Sitter) (r : Reply)
+    → Makes a (Event.Claim a.worker) r b → Works job a b
+claimed job a b r m = makes_works job a b (Event.Claim a.worker) r m tt
 
-works_claims : (job : Parts) (over : ClassSelection) (a b : Sitter) → WorksOver job over a b
+works_claims : (job : Parts) (a b : Sitter) → Works job a b
     → claims a.seen ≤ claims b.seen
-works_claims job over a b x = subst (λ h. claims a.seen ≤ claims h) (sym x.begins)
+works_claims job a b x = subst (λ h. claims a.seen ≤ claims h) (sym x.begins)
     (claims_past x.newer a.seen)
 
 -- a piece that was claimed leaves fewer
-pub fewer : (job : Parts) (over : ClassSelection) (a b d : Sitter) (p : Place) (class block : ℕ)
+pub fewer : (job : Parts) (a b d : Sitter) (p : Place) (class block : ℕ)
     → a.place ≡ p → Makes a (Event.Claim a.worker) (Claimed (claim_is.Piece class block)) b
-    → WorksOver job over b d
+    → Works job b d
     → piece_count p.shape - claims d.seen < piece_count p.shape - claims a.seen
-fewer job over a b d p class block at m x =
+fewer job a b d p class block at m x =
     let g = given a b class block m in
     let few : claims b.seen ≤ piece_count p.shape =
     subst (λ (q : Place). claims b.seen ≤ piece_count q.shape) at g.4 in
-    let more = works_claims job over b d x in
+    let more = works_claims job b d x in
     let grew = g.3 in
     omega arith
 
@@ -385,9 +384,9 @@ stopped_holding stops a b class block m s =
     )
 
 -- settled classes stay settled
-pub settled_works : (job : Parts) (over : ClassSelection) (s : Shape) (n : ℕ) (a b : Sitter)
-    → WorksOver job over a b → AreSettled s a.seen n → AreSettled s b.seen n
-settled_works job over s n a b x t = subst (λ h. AreSettled s h n) (sym x.begins)
+pub settled_works : (job : Parts) (s : Shape) (n : ℕ) (a b : Sitter)
+    → Works job a b → AreSettled s a.seen n → AreSettled s b.seen n
+settled_works job s n a b x t = subst (λ h. AreSettled s h n) (sym x.begins)
     (settled_past s n x.newer a.seen t)
 
 pub settled_sees : (s : Shape) (n : ℕ) (a b : Sitter) (ended : Bool) → Sees a ended b

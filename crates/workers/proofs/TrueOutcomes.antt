@@ -20,8 +20,7 @@ use Rattle.fault_ledger.specs.Answer.{IsTrueTo, fits_size}
 use Rattle.fault_ledger.specs.Settled.{status, IsSettledAt}
 use Rattle.fault_ledger.proofs.Public.{settles_at_least}
 use Rattle.workers.specs.Schedule.{IsTableOf}
-use Rattle.workers.specs.ClassSelection.{ClassSelection, every}
-use Rattle.workers.specs.Settling.{AreSettled, IsShapeOf, IsShapeOver}
+use Rattle.workers.specs.Settling.{AreSettled, IsShapeOf}
 use Rattle.workers.specs.Verdict.{AreFirsts, settled_at, verdicts}
 
 -- there are as many classes as representatives
@@ -43,25 +42,21 @@ true_fits job s class block (outcome.Hit k) is t =
     ap (λ n. size_of n block) is in
     lt-ltb k (size_of s.tests block) (subst (λ n. k < n) (sym e) t.2.0)
 
--- the table of chosen classes, by the ledger's numbers
-abbrev pub table_over : ClassSelection → Table → Table
-table_over over table k block = table (over.class_at k) block
-
--- if a history is true to the true table of chosen classes, a settled class has its first test
-pub first_over : (job : Parts) (over : ClassSelection) (s : Shape) (table : Table) (h : History)
-    → BelongTogether job → IsShapeOver job over s → IsTableOf job table
-    → IsTrueTo s (table_over over table) h
+-- if a history is true to the true table, a settled class has its first test
+pub first_settled : (job : Parts) (s : Shape) (table : Table) (h : History)
+    → BelongTogether job → IsShapeOf job s → IsTableOf job table
+    → IsTrueTo s table h
     → (k : ℕ) (at : Option ℕ) (f : Fault) → k < s.classes → IsSettledAt s h k at
-    → IsClassOf job.list.model job.circuit f (over.class_at k)
+    → IsClassOf job.list.model job.circuit f k
     → IsFirst job.circuit job.tests.tests f at
-first_over job over s table h b is each to k at f lt own of =
-    let least_is : at ≡ least (table_over over table) (block_count s) k =
-    settles_at_least s (table_over over table) h to k at lt own in
+first_settled job s table h b is each to k at f lt own of =
+    let least_is : at ≡ least table (block_count s) k =
+    settles_at_least s table h to k at lt own in
     let number : block_count s ≡ blocks (length job.tests.tests) = ap blocks is.tests in
     subst (IsFirst job.circuit job.tests.tests f)
-    (sym (least_is ∙ ap (λ n. least (table_over over table) n k) number))
+    (sym (least_is ∙ ap (λ n. least table n k) number))
     (least_is_first job.list.model job.circuit job.tests.tests table b.circuit.well_formed
-    b.circuit.arities each f (over.class_at k) of)
+    b.circuit.arities each f k of)
 
 -- the verdicts of a history that is true to a true table and settles all classes are first tests
 pub firsts_of : (job : Parts) (s : Shape) (table : Table) (h : History) → BelongTogether job
@@ -79,7 +74,7 @@ firsts_of job s table h b is each to settled = record {
       (slice_get_within (representatives job.list.model job.circuit) k of.0 of.3) in
       let own = settled k lt in
       subst (IsFirst job.circuit job.tests.tests f) (sym (sym x.2 ∙ ap settled_at own.1))
-      (first_over job (every job.classes) s table h b is each to k own.0 f lt own.1 of);
+      (first_settled job s table h b is each to k own.0 f lt own.1 of);
 }
 
 -- the class of a fault is one of the ledger's

@@ -1,12 +1,11 @@
 -- The errors of a run.
-use Rattle.std.specs.Prelude.{◌≡◌, ◌<◌, ◌≤◌, ◌*◌, ℕ, nat_le, List, All, Some, length, position}
+use Rattle.std.specs.Prelude.{◌≡◌, ◌<◌, ◌≤◌, ℕ, nat_le, List, All, Some, length, position}
 use Rattle.patterns.specs.Tests.{blocks, max_pieces}
-use Rattle.block_sim.specs.Parts.{Parts}
+use Rattle.block_sim.specs.Parts.{Parts, piece_count}
 use Rattle.workers.specs.declared.RunFault.{RunFault}
 use Rattle.workers.specs.declared.RunFault.TheVariants.{NoWorkers, TooManyWorkers, NoSuchMove}
 use Rattle.workers.specs.declared.RunFault.TheVariants.{TooManyPieces, Memory, Threads}
 use Rattle.workers.specs.declared.RunFault.TheVariants.{Unfinished}
-use Rattle.workers.specs.ClassSelection.{ClassSelection, every}
 use Rattle.workers.specs.Stops.{Stops}
 use Rattle.workers.specs.Work.{WaitsFor}
 
@@ -28,21 +27,16 @@ IsScheduleFault pieces workers moves Memory =
     (0 < workers) × (workers ≤ 64) × All (λ worker. worker < workers) moves
 IsScheduleFault pieces workers moves fault = IsWorkersFault workers fault
 
--- The error of a run in threads over chosen classes: for its number of workers, then for their
--- pieces, and then for memory or a thread. A run whose gate always lets pass finishes. Else the
--- error names the class and the block of the job for which the run waits.
-abbrev pub IsRunFaultOver : Parts → ClassSelection → ℕ → Type 0 → Stops → RunFault → Type 0
-IsRunFaultOver job chosen workers passing stops TooManyPieces = (0 < workers) × (workers ≤ 64)
-    × (max_pieces < chosen.count * blocks (length job.tests.tests))
-IsRunFaultOver job chosen workers passing stops Memory = (0 < workers) × (workers ≤ 64)
-IsRunFaultOver job chosen workers passing stops Threads = (0 < workers) × (workers ≤ 64)
-IsRunFaultOver job chosen workers passing stops (Unfinished class block) =
+-- The error of a run in threads: for its number of workers, then for its pieces, and then for
+-- memory or a thread. A run whose gate always lets pass finishes. Else the error names the class
+-- and the block for which the run waits.
+abbrev pub IsRunFault : Parts → ℕ → Type 0 → Stops → RunFault → Type 0
+IsRunFault job workers passing stops TooManyPieces =
+    (0 < workers) × (workers ≤ 64) × (max_pieces < piece_count job)
+IsRunFault job workers passing stops Memory = (0 < workers) × (workers ≤ 64)
+IsRunFault job workers passing stops Threads = (0 < workers) × (workers ≤ 64)
+IsRunFault job workers passing stops (Unfinished class block) =
     (0 < workers) × (workers ≤ 64)
     × (class < length job.classes.representative) × (block < blocks (length job.tests.tests))
-    × (¬ passing) × WaitsFor job chosen workers stops class block
-IsRunFaultOver job chosen workers passing stops fault = IsWorkersFault workers fault
-
--- the error if all classes are chosen
-abbrev pub IsRunFault : Parts → ℕ → Type 0 → Stops → RunFault → Type 0
-IsRunFault job workers passing stops fault =
-    IsRunFaultOver job (every job.classes) workers passing stops fault
+    × (¬ passing) × WaitsFor job workers stops class block
+IsRunFault job workers passing stops fault = IsWorkersFault workers fault

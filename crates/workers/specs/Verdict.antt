@@ -1,11 +1,12 @@
 -- The verdicts of a run.
-use Rattle.std.specs.Prelude.{◌≡◌, ◌+◌, ◌-◌, ◌/◌, ℕ, List, map, length, is_some, count_by}
+use Rattle.std.specs.Prelude.{◌≡◌, ◌<◌, ◌+◌, ◌-◌, ◌/◌, ℕ, List, map, length, is_some, count_by}
 use Rattle.std.specs.Prelude.{slice_get, Option, Some, None}
 use Rattle.std.specs.List.{sum_by}
 use Rattle.bench_net.specs.Statement.{Statement}
 use Rattle.fault_model.specs.declared.Model.{Model}
 use Rattle.fault_model.specs.Fault.{Fault, faults}
 use Rattle.fault_model.specs.Collapse.{IsClassOf}
+use Rattle.fault_model.specs.Detection.{DetectsAt}
 use Rattle.fault_model.specs.Solution.{Test}
 use Rattle.patterns.specs.Tests.{blocks}
 use Rattle.block_sim.specs.First.{IsFirst}
@@ -30,6 +31,12 @@ settled_at (Waiting block) = None
 -- the verdict of each fault after a finished history: its class's verdict
 abbrev pub verdicts : Shape → History → List ℕ → List (Option ℕ)
 verdicts shape h class_of = map (λ class. settled_at (status shape h class)) class_of
+
+-- the first of the tests below this number that detects the fault, or none if none of them does
+abbrev pub IsFirstBelow : List Statement → List Test → ℕ → Fault → Option ℕ → Type 0
+IsFirstBelow c tests end f (Some t) = (t < end) × DetectsAt c tests f t
+    × ((earlier : ℕ) → earlier < t → ¬ DetectsAt c tests f earlier)
+IsFirstBelow c tests end f None = (t : ℕ) → t < end → ¬ DetectsAt c tests f t
 
 -- for each class of a list the first test that detects its faults, or none if no test does
 pub record AreClassFirsts (m : Model) (c : List Statement) (tests : List Test) (classes : List ℕ)

@@ -17,17 +17,16 @@ use Rattle.fault_ledger.specs.Settled.{finish, is_skipped}
 use Rattle.fault_ledger.specs.Seats.{ClosedFace, Place, Sitter, closed_face}
 use Rattle.workers.specs.declared.piece_worker.End.{End}
 use Rattle.workers.specs.declared.piece_worker.End.TheVariants.{Exhausted, AllSettled, Stopped}
-use Rattle.workers.specs.ClassSelection.{ClassSelection, every}
-use Rattle.workers.specs.Settling.{AreSettled, shape_for, shape_over}
+use Rattle.workers.specs.Settling.{AreSettled, shape_for}
 use Rattle.workers.specs.Stops.{Stops}
 use Rattle.workers.specs.Verdict.{VerdictList, verdicts}
 
--- the outcome is the true one of the piece that is held, in a ledger of chosen classes
-abbrev pub GivesTrue : Parts → ClassSelection → Shape → Option ℕ → Outcome → Type 0
-GivesTrue job chosen shape None o = ⊥
-GivesTrue job chosen shape (Some piece) o =
+-- the outcome is the true one of the piece that is held
+abbrev pub GivesTrue : Parts → Shape → Option ℕ → Outcome → Type 0
+GivesTrue job shape None o = ⊥
+GivesTrue job shape (Some piece) o =
     IsTrueOutcome job.list.model job.circuit job.tests.tests
-    (chosen.class_at (class_of shape piece)) (block_of shape piece) o
+    (class_of shape piece) (block_of shape piece) o
 
 -- the worker's drop of the piece that it holds failed because no earlier block was a hit, at a time
 -- since its last event
@@ -45,31 +44,20 @@ EachReport Holds w (_ ∷ newer) earlier = EachReport Holds w newer earlier
 
 -- Each report of the worker among the newer events gives the true outcome of the piece that it
 -- held, which the worker could not drop.
-abbrev pub ReportsTruly : Parts → ClassSelection → Shape → ℕ → History → History → Type 0
-ReportsTruly job chosen shape w newer earlier =
-    EachReport (λ o h. GivesTrue job chosen shape (held_by w h) o × WasNoDrop shape w h) w newer
+abbrev pub ReportsTruly : Parts → Shape → ℕ → History → History → Type 0
+ReportsTruly job shape w newer earlier =
+    EachReport (λ o h. GivesTrue job shape (held_by w h) o × WasNoDrop shape w h) w newer
     earlier
 
 -- The history of a seat after its worker's work is legal and begins with its earlier one, and each
 -- new report of the worker in it is true, of a piece that could not be dropped.
-pub record WorksOver (job : Parts) (chosen : ClassSelection) (old new : Sitter) : Type 0 where
+pub record Works (job : Parts) (old new : Sitter) : Type 0 where
   pub place : new.place ≡ old.place
   pub worker : new.worker ≡ old.worker
   pub newer : History
   pub begins : new.seen ≡ newer ++ old.seen
   pub legal : IsLegal old.place.shape new.seen
-  pub truly : ReportsTruly job chosen old.place.shape old.worker newer old.seen
-
--- the same at a ledger of all classes
-abbrev pub Works : Parts → Sitter → Sitter → Type 0
-Works job old new = WorksOver job (every job.classes) old new
-
--- the stops of a gate, by the ledger's numbers of chosen classes
-abbrev pub stops_over : ClassSelection → Stops → Stops
-stops_over chosen stops = record {
-  may = λ worker class block. stops.may worker (chosen.class_at class) block;
-  must = λ worker class block. stops.must worker (chosen.class_at class) block;
-}
+  pub truly : ReportsTruly job old.place.shape old.worker newer old.seen
 
 -- a worker that its gate stopped holds the piece at which it was stopped
 abbrev pub IsStopped : Shape → Stops → ℕ → History → Type 0
@@ -96,38 +84,38 @@ pub record HasRested (seat : Sitter) : Type 0 where
 -- The seat of a worker of a new ledger at the end: it came back, its history is legal, and each
 -- report of the worker is true, of a piece that could not be dropped. The worker has rested or was
 -- stopped; if its gate always lets pass, it has rested.
-pub record Returns (job : Parts) (chosen : ClassSelection) (place : Place) (w : ℕ)
+pub record Returns (job : Parts) (place : Place) (w : ℕ)
     (passing : Type 0)
     (stops : Stops) (seat : Sitter) : Type 0 where
   pub place_is : seat.place ≡ place
   pub worker_is : seat.worker ≡ w
   pub legal : IsLegal place.shape seat.seen
-  pub truly : ReportsTruly job chosen place.shape w seat.seen []
+  pub truly : ReportsTruly job place.shape w seat.seen []
   pub rested : passing → HasRested seat
-  pub ended : HasRested seat ⊎ IsStopped place.shape (stops_over chosen stops) w seat.seen
+  pub ended : HasRested seat ⊎ IsStopped place.shape stops w seat.seen
 
 -- all seats came back: one of each worker, by number
-pub record AreBack (job : Parts) (chosen : ClassSelection) (place : Place) (passing : Type 0)
+pub record AreBack (job : Parts) (place : Place) (passing : Type 0)
     (stops : Stops) (seats : List Sitter) : Type 0 where
   pub count : length seats ≡ place.shape.workers
   pub each : (w : ℕ) (seat : Sitter) → slice_get seats w ≡ Some seat
-      → Returns job chosen place w passing stops seat
+      → Returns job place w passing stops seat
 
 -- each worker's reports in a history are true, of pieces that it could not drop
-abbrev pub AllReportTruly : Parts → ClassSelection → Shape → History → Type 0
-AllReportTruly job chosen shape h =
-    (w : ℕ) → w < shape.workers → ReportsTruly job chosen shape w h []
+abbrev pub AllReportTruly : Parts → Shape → History → Type 0
+AllReportTruly job shape h =
+    (w : ℕ) → w < shape.workers → ReportsTruly job shape w h []
 
--- The end of a run over chosen classes: the closed ledger shows a legal and finished history of a
--- ledger of these classes, in which each report is true, of a piece that could not be dropped.
-pub record HasRun (job : Parts) (chosen : ClassSelection) (workers : ℕ) (closed : ClosedFace) : Type
+-- The end of a run: the closed ledger shows a legal and finished history of the job's ledger, in
+-- which each report is true, of a piece that could not be dropped.
+pub record HasRun (job : Parts) (workers : ℕ) (closed : ClosedFace) : Type
     0 where
-  pub shape : closed.shape ≡ shape_over job chosen workers
+  pub shape : closed.shape ≡ shape_for job workers
   pub history : History
   pub legal : IsLegal closed.shape history
   pub shows : closed ≡ closed_face closed.shape history
   pub finished : finish closed.shape history ≡ Finished
-  pub truly : AllReportTruly job chosen closed.shape history
+  pub truly : AllReportTruly job closed.shape history
 
 -- The verdicts and the number of skipped pieces follow from some legal and finished history of the
 -- job's ledger. Each report in it is true, of a piece that could not be dropped.
@@ -135,21 +123,19 @@ pub record IsOfHistory (job : Parts) (workers : ℕ) (v : VerdictList) : Type 0 
   pub history : History
   pub legal : IsLegal (shape_for job workers) history
   pub finished : finish (shape_for job workers) history ≡ Finished
-  pub truly : AllReportTruly job (every job.classes) (shape_for job workers) history
+  pub truly : AllReportTruly job (shape_for job workers) history
   pub firsts : v.firsts ≡ verdicts (shape_for job workers) history job.classes.class_of
   pub skipped : v.skipped ≡ count_by is_skipped (states_of (shape_for job workers) history)
 
--- A run over chosen classes that its gate stopped waits for this class and block of the job, by
--- some legal history of a ledger of these classes. Its reports are true, of pieces that could not
--- be dropped. At its end each worker was stopped, or all pieces are claimed.
-pub record WaitsFor (job : Parts) (chosen : ClassSelection) (workers : ℕ) (stops : Stops)
+-- A run that its gate stopped waits for this class and block, by some legal history of the job's
+-- ledger. Its reports are true, of pieces that could not be dropped. At its end each worker was
+-- stopped, or all pieces are claimed.
+pub record WaitsFor (job : Parts) (workers : ℕ) (stops : Stops)
     (class block : ℕ) : Type 0 where
   pub history : History
-  pub legal : IsLegal (shape_over job chosen workers) history
-  pub truly : AllReportTruly job chosen (shape_over job chosen workers) history
+  pub legal : IsLegal (shape_for job workers) history
+  pub truly : AllReportTruly job (shape_for job workers) history
   pub ended : (w : ℕ) → w < workers
-      → IsStopped (shape_over job chosen workers) (stops_over chosen stops) w history
-      ⊎ (claims history ≡ piece_count (shape_over job chosen workers))
-  pub number : ℕ
-  pub class_is : class ≡ chosen.class_at number
-  pub waiting : finish (shape_over job chosen workers) history ≡ Waiting number block
+      → IsStopped (shape_for job workers) stops w history
+      ⊎ (claims history ≡ piece_count (shape_for job workers))
+  pub waiting : finish (shape_for job workers) history ≡ Waiting class block

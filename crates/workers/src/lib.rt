@@ -7,18 +7,15 @@
 //! depends neither on the workers' choices nor on their order.
 //!
 //! [`run_schedule`] is a run of one thread, which makes the moves of all workers in the caller's
-//! order. [`run`] has a thread for each worker, and [`work`] is the work of one. [`run_classes`]
-//! runs some classes. The crate `region_runs` runs regions of classes, each by one worker, with the
-//! same verdicts.
+//! order. [`run`] has a thread for each worker, and [`work`] is the work of one. The crate
+//! `region_runs` runs regions of classes, each by one worker, with the same verdicts.
 #![tactic(auto)]
 
 mod claim_backoff;
-mod class_list_run;
-mod class_selection;
-mod piece_simulator;
 mod piece_threads;
 mod piece_worker;
 mod schedule;
+mod swept;
 mod verdicts;
 
 ghost use Rattle.std.specs.Prelude.{◌≡◌, ◌<◌, ◌≤◌, ◌*◌, IfErr, OnOk, length};
@@ -27,8 +24,6 @@ ghost use Rattle.block_sim.specs.Parts.{piece_count};
 ghost use Rattle.workers.specs.Refused.{IsWorkersFault};
 
 use block_sim::Job;
-pub use class_list_run::run_classes;
-pub use class_selection::count_in;
 pub use fault_ledger::MAX_WORKERS;
 use patterns::MAX_PIECES;
 pub use piece_threads::run;

@@ -1,23 +1,19 @@
 //! A run of workers in threads of their own.
 
 ghost use Rattle.std.specs.Prelude.{◌≡◌, ◌⊎◌, ◌<◌, ◌≤◌, ◌*◌, All, length, map, IfOk, IfErr, OnOk};
-ghost use Rattle.patterns.specs.Tests.{blocks, max_pieces};
-ghost use Rattle.block_sim.specs.Parts.{BelongTogether, piece_count};
-ghost use Rattle.region_sim.specs.Simulation.{Serves};
-ghost use Rattle.fault_ledger.specs.Seats.{newcomer, newcomers};
-ghost use Rattle.workers.specs.ClassSelection.{AreChosenOf};
-ghost use Rattle.workers.specs.Refused.{IsRunFault, IsRunFaultOver};
-ghost use Rattle.workers.specs.Settling.{IsShapeOver, shape_over};
+ghost use Rattle.patterns.specs.Tests.{max_pieces};
+ghost use Rattle.block_sim.specs.Parts.{BelongTogether, HasRoom, piece_count};
+ghost use Rattle.fault_ledger.specs.Seats.{Closes, newcomer, newcomers};
+ghost use Rattle.workers.specs.Refused.{IsRunFault};
+ghost use Rattle.workers.specs.Settling.{IsShapeOf, shape_for};
 ghost use Rattle.workers.specs.Verdict.{AreFirsts};
 ghost use Rattle.workers.specs.Work.{AreBack, HasRun, IsOfHistory, Returns};
 
-use crate::class_selection::ClassSelection;
-use crate::piece_worker::{Gate, work_over};
+use crate::piece_worker::{Gate, work};
 use crate::verdicts::verdicts_of;
 use crate::{RunFault, Verdicts, check_job, check_workers};
-use block_sim::Job;
-use fault_ledger::{Closed, Finish, Seat, SharedLedger};
-use region_sim::Simulation;
+use block_sim::{Job, Workspace};
+use fault_ledger::{Closed, Finish, LedgerFault, Seat, SharedLedger};
 use std::alloc::{AllocError, Global};
 use std::snapshot::Snapshot;
 use std::sync::Wait;
@@ -28,67 +24,57 @@ use std::thread::{Promise, Threads};
 #[derive(Drop)]
 struct Worker {
     seat: Seat,
-    simulation: Simulation,
+    workspace: Workspace,
 }
 
 /// The data that the thread of a worker borrows. The seat that it returns is its worker's, and has
 /// reported the truth.
 #[derive(Drop)]
-struct Kept<G, C> {
+struct Kept<G> {
     job: Snapshot<Job>,
-    chosen: Snapshot<C>,
     ledger: Snapshot<SharedLedger>,
     gate: Snapshot<G>,
     worker: u32,
 }
 
-impl<G: Gate, C: ClassSelection> Promise<Seat> for Kept<G, C> {
+impl<G: Gate> Promise<Seat> for Kept<G> {
     ghost use Rattle.workers.specs.Work.{Returns};
 
     ghost kept_by = { λ p r.
-        Returns p.job.value (C.chosen p.chosen.value) p.ledger.value p.worker
+        Returns p.job.value p.ledger.value p.worker
         (G.passing p.gate.value) (G.stops p.gate.value) r };
 }
 
 /// Does the work of one thread.
-fn serve<G: Gate, C: ClassSelection>(
-    job: &Job,
-    chosen: &C,
-    ledger: &SharedLedger,
-    gate: &G,
-    worker: Worker,
-) -> Seat
-    requires chosen { AreChosenOf job.now (C.chosen chosen.now) }
-    requires shape { IsShapeOver job.now (C.chosen chosen.now) ledger.now.shape }
+fn serve<G: Gate>(job: &Job, ledger: &SharedLedger, gate: &G, worker: Worker) -> Seat
+    requires shape { IsShapeOf job.now ledger.now.shape }
     requires new { worker.seat ≡ newcomer ledger.now worker.seat.worker }
-    requires fits { Serves worker.simulation job.now }
-    ensures { Returns job.now (C.chosen chosen.now) ledger.now worker.seat.worker
+    requires fits { HasRoom worker.workspace job.now }
+    ensures { Returns job.now ledger.now worker.seat.worker
         (G.passing gate.now) (G.stops gate.now) result }
 {
     let Worker {
         mut seat,
-        mut simulation,
+        mut workspace,
     } = worker;
-    work_over(job, chosen, ledger, &mut simulation, &mut seat, gate);
+    work(job, ledger, &mut workspace, &mut seat, gate);
     seat
 }
 
 /// Lets each worker work in a thread of its own, and returns the seats.
-fn in_threads<G: Gate + Sync, C: ClassSelection + Sync, R: Threads + Wait>(
+fn in_threads<G: Gate + Sync, R: Threads + Wait>(
     rt: &R,
     alloc: Global,
     job: &Job,
-    chosen: &C,
     ledger: &SharedLedger,
     gate: &G,
     workers: Vec<Worker>,
 ) -> Result<Vec<Seat>, RunFault>
-    requires chosen { AreChosenOf job.now (C.chosen chosen.now) }
-    requires shape { IsShapeOver job.now (C.chosen chosen.now) ledger.now.shape }
+    requires shape { IsShapeOf job.now ledger.now.shape }
     requires new { map (λ w. w.seat) workers.items ≡ newcomers ledger.now }
-    requires fits { All (λ w. Serves w.simulation job.now) workers.items }
+    requires fits { All (λ w. HasRoom w.workspace job.now) workers.items }
     ensures back { IfOk result (λ seats.
-        AreBack job.now (C.chosen chosen.now) ledger.now (G.passing gate.now) (G.stops gate.now)
+        AreBack job.now ledger.now (G.passing gate.now) (G.stops gate.now)
         seats.items) }
     ensures refused { IfErr result (λ fault.
         (fault ≡ RunFault.Memory) ⊎ (fault ≡ RunFault.Threads)) }
@@ -97,12 +83,11 @@ fn in_threads<G: Gate + Sync, C: ClassSelection + Sync, R: Threads + Wait>(
         thread::scope_env(),
         rt,
         |scope| -> Result<Vec<Seat>, RunFault>
-            requires chosen { AreChosenOf job.now (C.chosen chosen.now) }
-            requires shape { IsShapeOver job.now (C.chosen chosen.now) ledger.now.shape }
+            requires shape { IsShapeOf job.now ledger.now.shape }
             requires new { map (λ w. w.seat) workers.items ≡ newcomers ledger.now }
-            requires fits { All (λ w. Serves w.simulation job.now) workers.items }
+            requires fits { All (λ w. HasRoom w.workspace job.now) workers.items }
             ensures back { IfOk result (λ seats.
-                AreBack job.entry.now (C.chosen chosen.entry.now) ledger.entry.now
+                AreBack job.entry.now ledger.entry.now
                 (G.passing gate.entry.now) (G.stops gate.entry.now) seats.items) }
             ensures refused { IfErr result (λ fault.
                 (fault ≡ RunFault.Memory) ⊎ (fault ≡ RunFault.Threads)) }
@@ -112,15 +97,12 @@ fn in_threads<G: Gate + Sync, C: ClassSelection + Sync, R: Threads + Wait>(
             for worker in workers {
                 let kept = Kept {
                     job: Snapshot::of(job),
-                    chosen: Snapshot::of(chosen),
                     ledger: Snapshot::of(ledger),
                     gate: Snapshot::of(gate),
                     worker: worker.seat.worker(),
                 };
-                let Ok(handle) = scope.spawn_with(
-                    kept,
-                    move || serve(job, chosen, ledger, gate, worker),
-                ) else {
+                let Ok(handle) = scope.spawn_with(kept, move || serve(job, ledger, gate, worker))
+                else {
                     break;
                 };
                 handles.push(handle)?;
@@ -138,37 +120,49 @@ fn in_threads<G: Gate + Sync, C: ClassSelection + Sync, R: Threads + Wait>(
 /// Makes a worker for each seat, with room of its own.
 fn workers_of(alloc: Global, job: &Job, seats: Vec<Seat>) -> Result<Vec<Worker>, AllocError>
     ensures seats { IfOk result (λ workers. map (λ w. w.seat) workers.items ≡ seats.items) }
-    ensures fits { IfOk result (λ workers. All (λ w. Serves w.simulation job.now) workers.items) }
+    ensures fits { IfOk result (λ workers. All (λ w. HasRoom w.workspace job.now) workers.items) }
 {
     let mut workers = Vec::with_capacity(alloc, seats.len())?;
     for seat in seats {
-        let simulation = Simulation::new(alloc, job)?;
-        workers.push(Worker { seat, simulation })?;
+        let workspace = Workspace::new(alloc, job)?;
+        workers.push(Worker { seat, workspace })?;
     }
     Ok(workers)
 }
 
-/// Makes a shared ledger of chosen classes of a job, and the seats of its workers. They have no
-/// more pieces than a ledger takes, so only memory can make it fail.
-fn share_ledger<C: ClassSelection>(
+/// Makes a shared ledger of the classes of a job, and the seats of its workers. They have no more
+/// pieces than a ledger takes, so only memory can make it fail.
+fn share_ledger(
     alloc: Global,
     job: &Job,
-    chosen: &C,
     workers: u32,
 ) -> Result<(SharedLedger, Vec<Seat>), RunFault>
     requires workers { (0 < workers) × (workers ≤ 64) }
-    requires chosen { AreChosenOf job.now (C.chosen chosen.now) }
-    requires few { (C.chosen chosen.now).count * blocks (length job.now.tests.tests)
-        ≤ max_pieces }
+    requires few { piece_count job.now ≤ max_pieces }
     ensures ledger { IfOk result (λ made.
-        made.0.shape ≡ shape_over job.now (C.chosen chosen.now) workers) }
+        made.0.shape ≡ shape_for job.now workers) }
     ensures seats { IfOk result (λ made. made.1.items ≡ newcomers made.0) }
     ensures refused { IfErr result (λ fault. fault ≡ RunFault.Memory) }
     ensures together { BelongTogether job.now }
 {
-    match SharedLedger::new(alloc, chosen.count(), job.tests().count(), workers) {
+    match SharedLedger::new(alloc, job.classes().count(), job.tests().count(), workers) {
         Ok(made) => Ok(made),
-        Err(_) => Err(RunFault::Memory),
+        Err(LedgerFault::Memory) => Err(RunFault::Memory),
+        Err(_) => unreachable!(),
+    }
+}
+
+/// Closes a ledger, which fails only for memory.
+fn close_ledger(alloc: Global, ledger: SharedLedger, seats: Vec<Seat>) -> Result<Closed, RunFault>
+    requires some { 0 < length seats.items }
+    requires places { All (λ seat. seat.place ≡ ledger) seats.items }
+    ensures closed { IfOk result (λ closed. Closes ledger.shape seats.items closed) }
+    ensures refused { IfErr result (λ fault. fault ≡ RunFault.Memory) }
+{
+    match ledger.close(alloc, seats) {
+        Ok(closed) => Ok(closed),
+        Err(LedgerFault::Memory) => Err(RunFault::Memory),
+        Err(_) => unreachable!(),
     }
 }
 
@@ -177,7 +171,7 @@ fn share_ledger<C: ClassSelection>(
 /// earlier block of its class detects, else it simulates the piece and reports. The verdicts are
 /// the first tests, in whatever order the workers run.
 ///
-/// The ledger, a simulation for each worker and the room of the verdicts are there before the first
+/// The ledger, a workspace for each worker and the room of the verdicts are there before the first
 /// claim, and the workers take no memory. They rest between pieces as [`crate::work`] does.
 ///
 /// # Errors
@@ -206,36 +200,30 @@ pub fn run<G: Gate + Sync, R: Threads + Wait>(
     check_workers(workers)?;
     check_job(job)?;
     let firsts = Vec::with_capacity(alloc, job.faults().count() as usize)?;
-    let closed = run_over(rt, alloc, job, job.classes(), workers, gate)?;
+    let closed = run_over(rt, alloc, job, workers, gate)?;
     let verdicts = verdicts_of(job, &closed, u64::from(closed.skipped()), firsts)?;
     Ok(verdicts)
 }
 
-/// Runs chosen classes as [`run`] runs all.
-pub(crate) fn run_over<G: Gate + Sync, C: ClassSelection + Sync, R: Threads + Wait>(
+/// Runs all classes, and returns the closed ledger.
+fn run_over<G: Gate + Sync, R: Threads + Wait>(
     rt: &R,
     alloc: Global,
     job: &Job,
-    chosen: &C,
     workers: u32,
     gate: &G,
 ) -> Result<Closed, RunFault>
     requires workers { (0 < workers) × (workers ≤ 64) }
-    requires chosen { AreChosenOf job.now (C.chosen chosen.now) }
-    requires few { (C.chosen chosen.now).count * blocks (length job.now.tests.tests)
-        ≤ max_pieces }
-    ensures run { IfOk result (HasRun job.now (C.chosen chosen.now) workers) }
-    ensures refused { IfErr result (IsRunFaultOver job.now (C.chosen chosen.now) workers
+    requires few { piece_count job.now ≤ max_pieces }
+    ensures run { IfOk result (HasRun job.now workers) }
+    ensures refused { IfErr result (IsRunFault job.now workers
         (G.passing gate.now) (G.stops gate.now)) }
 {
-    let (ledger, seats) = share_ledger(alloc, job, chosen, workers)?;
+    let (ledger, seats) = share_ledger(alloc, job, workers)?;
     let crew = workers_of(alloc, job, seats)?;
-    let seats = in_threads(rt, alloc, job, chosen, &ledger, gate, crew)?;
-    let Ok(closed) = ledger.close(alloc, seats) else {
-        return Err(RunFault::Memory);
-    };
+    let seats = in_threads(rt, alloc, job, &ledger, gate, crew)?;
+    let closed = close_ledger(alloc, ledger, seats)?;
     if let Finish::Waiting { class, block } = closed.finished() {
-        let class = chosen.class_at(class);
         return Err(RunFault::Unfinished { class, block });
     }
     Ok(closed)

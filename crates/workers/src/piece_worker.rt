@@ -6,14 +6,11 @@ ghost use Rattle.fault_ledger.specs.Seats.{FindsNoHit, IsSitter, Makes, Sees};
 ghost use Rattle.fault_ledger.specs.declared.Event.{Event};
 ghost use Rattle.fault_ledger.specs.declared.Reply.TheVariants.{Done};
 ghost use Rattle.block_sim.specs.Parts.{HasRoom};
-ghost use Rattle.workers.specs.ClassSelection.{AreChosenOf};
-ghost use Rattle.workers.specs.Settling.{AreSettled, IsShapeOf, IsShapeOver};
-ghost use Rattle.workers.specs.Work.{EndsAs, Works, WorksOver, stops_over};
+ghost use Rattle.workers.specs.Settling.{AreSettled, IsShapeOf};
+ghost use Rattle.workers.specs.Work.{EndsAs, Works};
 
 use crate::claim_backoff::Backoff;
-use crate::class_selection::ClassSelection;
-use crate::piece_simulator::Simulator;
-use block_sim::{Job, Workspace};
+use block_sim::{Job, Workspace, first_hit};
 use fault_ledger::{Claim, Seat, SharedLedger, Status};
 
 /// The end of a worker's work.
@@ -95,32 +92,31 @@ fn drop_held(ledger: &SharedLedger, seat: &mut Seat) -> bool
 }
 
 /// Drops the piece that the seat holds, or simulates it and reports.
-fn finish_piece<C: ClassSelection, K: Simulator>(
+fn finish_piece(
     job: &Job,
-    classes: &C,
     ledger: &SharedLedger,
-    simulator: &mut K,
+    workspace: &mut Workspace,
     seat: &mut Seat,
     class: u32,
     block: u32,
 ) -> bool
-    requires chosen { AreChosenOf job.now (C.chosen classes.now) }
-    requires shape { IsShapeOver job.now (C.chosen classes.now) ledger.now.shape }
+    requires shape { IsShapeOf job.now ledger.now.shape }
     requires place { seat.old.place ≡ ledger.now }
     requires piece { held_by seat.old.worker seat.old.seen
         ≡ Some (piece_at ledger.now.shape class block) }
     requires sitter { IsSitter seat.old }
     requires range { (class < ledger.now.shape.classes) × (block < block_count ledger.now.shape) }
-    requires serves { K.serves simulator.old job.now }
-    ensures works { WorksOver job.now (C.chosen classes.now) seat.old seat.new }
+    requires fits { HasRoom workspace.old job.now }
+    ensures works { Works job.now seat.old seat.new }
     ensures exhausted { seat.new.exhausted ≡ seat.old.exhausted }
     ensures free { held_by seat.new.worker seat.new.seen ≡ None }
-    ensures serves { K.serves simulator.new job.now }
+    ensures fits { HasRoom workspace.new job.now }
 {
+    let _parts = job.classes();
     if drop_held(ledger, seat) {
         return false;
     }
-    let outcome = simulator.outcome_of(job, classes.class_at(class), block);
+    let outcome = first_hit(job, workspace, class, block);
     let Ok(()) = ledger.report(seat, outcome) else {
         unreachable!()
     };
@@ -169,42 +165,20 @@ pub fn work<G: Gate>(
     ensures passing { G.passing gate.now → (result ≡ End.Exhausted) ⊎ (result ≡ End.AllSettled) }
     ensures fits { HasRoom workspace.new job.now }
 {
-    work_over(job, job.classes(), ledger, workspace, seat, gate)
-}
-
-/// Works as [`work`] does at a ledger of chosen classes.
-pub(crate) fn work_over<G: Gate, C: ClassSelection, K: Simulator>(
-    job: &Job,
-    chosen: &C,
-    ledger: &SharedLedger,
-    simulator: &mut K,
-    seat: &mut Seat,
-    gate: &G,
-) -> End
-    requires chosen { AreChosenOf job.now (C.chosen chosen.now) }
-    requires shape { IsShapeOver job.now (C.chosen chosen.now) ledger.now.shape }
-    requires place { seat.old.place ≡ ledger.now }
-    requires free { held_by seat.old.worker seat.old.seen ≡ None }
-    requires serves { K.serves simulator.old job.now }
-    ensures works { WorksOver job.now (C.chosen chosen.now) seat.old seat.new }
-    ensures ends { EndsAs (stops_over (C.chosen chosen.now) (G.stops gate.now)) seat.new result }
-    ensures passing { G.passing gate.now → (result ≡ End.Exhausted) ⊎ (result ≡ End.AllSettled) }
-    ensures serves { K.serves simulator.new job.now }
-{
     let _sitter = seat.worker();
-    let classes = chosen.count();
+    let classes = job.classes().count();
     let mut lowest = 0;
-    let mut backoff = Backoff::of(seat.worker(), classes, simulator.evaluations());
+    let mut backoff = Backoff::of(seat.worker(), classes, workspace.gate_evaluations());
     'claims: loop {
         let worker = seat.worker();
         match ledger.claim(seat) {
             Ok(Claim::Piece { class, block }) => {
-                if !gate.pass(worker, chosen.class_at(class), block) {
+                if !gate.pass(worker, class, block) {
                     return End::Stopped;
                 }
                 let _sitter = seat.worker();
-                let reported = finish_piece(job, chosen, ledger, simulator, seat, class, block);
-                backoff.after_piece(class, block, simulator.evaluations());
+                let reported = finish_piece(job, ledger, workspace, seat, class, block);
+                backoff.after_piece(class, block, workspace.gate_evaluations());
                 if reported {
                     let _sitter = seat.worker();
                     lowest = lowest_waiting(ledger, seat, classes, lowest);

@@ -6,7 +6,6 @@ ghost use Rattle.std.specs.Option.{option_map_or};
 ghost use Rattle.patterns.specs.Least.{Table, below};
 ghost use Rattle.patterns.specs.Tests.{max_pieces};
 ghost use Rattle.block_sim.specs.Parts.{piece_count as job_pieces};
-ghost use Rattle.region_sim.specs.Simulation.{Serves};
 ghost use Rattle.fault_ledger.specs.declared.Shape.{Shape};
 ghost use Rattle.fault_ledger.specs.Answer.{IsLegal};
 ghost use Rattle.fault_ledger.specs.Face.{HasHistory, face};
@@ -14,29 +13,30 @@ ghost use Rattle.fault_ledger.specs.History.{History, claims, held_by, piece_cou
 ghost use Rattle.workers.specs.Refused.{IsScheduleFault};
 ghost use Rattle.workers.specs.Schedule.{IsScheduled, IsTableOf, drops, move, after_moves, turns};
 ghost use Rattle.workers.specs.Settling.{AreSettled, IsShapeOf, shape_for};
+ghost use Rattle.workers.specs.Swept.{IsSweptOf};
 ghost use Rattle.workers.specs.Verdict.{AreFirsts};
 
+use crate::swept::Swept;
 use crate::verdicts::verdicts_of;
 use crate::{RunFault, Verdicts, check_job, check_workers};
 use block_sim::Job;
-use fault_ledger::{Claim, Event, Ledger};
-use region_sim::Simulation;
+use fault_ledger::{Claim, Event, Ledger, LedgerFault};
 use std::alloc::{AllocError, Global};
 
 /// Makes a move of a worker: it claims if it holds nothing, else it drops its piece if it can, else
 /// it simulates the piece and reports. Returns the event of the ledger, or none if there is nothing
 /// left to claim.
-fn step(job: &Job, ledger: &mut Ledger, simulation: &mut Simulation, worker: u32) -> Option<Event>
+fn step(job: &Job, ledger: &mut Ledger, swept: &mut Swept, worker: u32) -> Option<Event>
     requires shape { IsShapeOf job.now ledger.old.shape }
     requires worker { worker < ledger.old.shape.workers }
-    requires serves { Serves simulation.old job.now }
+    requires serves { IsSweptOf job.now swept.old }
     ensures shape { ledger.new.shape ≡ ledger.old.shape }
     ensures moved { (table : Table) (h : History) → IsTableOf job.now table
         → IsLegal ledger.old.shape h → ledger.old ≡ face ledger.old.shape h
         → let later : History = move table ledger.old.shape h worker in
         (ledger.new ≡ face ledger.old.shape later)
         × (later ≡ option_map_or (λ event. event ∷ h) result h) }
-    ensures serves { Serves simulation.new job.now }
+    ensures serves { IsSweptOf job.now swept.new }
 {
     let _parts = job.classes();
     let Some((class, block)) = ledger.held(worker) else {
@@ -49,7 +49,7 @@ fn step(job: &Job, ledger: &mut Ledger, simulation: &mut Simulation, worker: u32
     match ledger.drop_piece(worker) {
         Ok(()) => Some(Event::Drop(worker)),
         Err(_) => {
-            let outcome = simulation.outcome(job, class, block);
+            let outcome = swept.outcome(job, class, block);
             let Ok(()) = ledger.report(worker, outcome) else {
                 unreachable!()
             };
@@ -68,12 +68,12 @@ struct Played {
 }
 
 /// Makes the moves of these workers, in order.
-fn play(job: &Job, ledger: &mut Ledger, simulation: &mut Simulation, moves: &[u32]) -> Played
+fn play(job: &Job, ledger: &mut Ledger, swept: &mut Swept, moves: &[u32]) -> Played
     requires shape { IsShapeOf job.now ledger.old.shape }
     requires few { job_pieces job.now ≤ max_pieces }
     requires history { HasHistory ledger.old }
     requires workers { All (λ worker. worker < ledger.old.shape.workers) moves.now }
-    requires serves { Serves simulation.old job.now }
+    requires serves { IsSweptOf job.now swept.old }
     ensures shape { ledger.new.shape ≡ ledger.old.shape }
     ensures moved { (table : Table) (h : History) → IsTableOf job.now table
         → IsLegal ledger.old.shape h → ledger.old ≡ face ledger.old.shape h
@@ -83,13 +83,13 @@ fn play(job: &Job, ledger: &mut Ledger, simulation: &mut Simulation, moves: &[u3
         × (result.changed ≡ true → length h < length later)
         × (result.changed ≡ false → (later ≡ h)
         × All (λ w. (claims h ≡ piece_count ledger.old.shape) × (held_by w h ≡ None)) moves.now) }
-    ensures serves { Serves simulation.new job.now }
+    ensures serves { IsSweptOf job.now swept.new }
 {
     let _parts = job.classes();
     let mut skipped = 0;
     let mut changed = false;
     for worker in moves {
-        if let Some(event) = step(job, ledger, simulation, *worker) {
+        if let Some(event) = step(job, ledger, swept, *worker) {
             changed = true;
             if let Event::Drop(_) = event {
                 skipped += 1;
@@ -101,13 +101,13 @@ fn play(job: &Job, ledger: &mut Ledger, simulation: &mut Simulation, moves: &[u3
 
 /// Makes the moves of all workers in turn, until none has anything left to do. Returns the number
 /// of pieces that were dropped.
-fn take_turns(job: &Job, ledger: &mut Ledger, simulation: &mut Simulation, everyone: &[u32]) -> u32
+fn take_turns(job: &Job, ledger: &mut Ledger, swept: &mut Swept, everyone: &[u32]) -> u32
     requires shape { IsShapeOf job.now ledger.old.shape }
     requires few { job_pieces job.now ≤ max_pieces }
     requires history { HasHistory ledger.old }
     requires everyone { everyone.now ≡ below ledger.old.shape.workers }
     requires some { 0 < ledger.old.shape.workers }
-    requires serves { Serves simulation.old job.now }
+    requires serves { IsSweptOf job.now swept.old }
     ensures shape { ledger.new.shape ≡ ledger.old.shape }
     ensures moved { (table : Table) (h : History) → IsTableOf job.now table
         → IsLegal ledger.old.shape h → ledger.old ≡ face ledger.old.shape h
@@ -120,7 +120,7 @@ fn take_turns(job: &Job, ledger: &mut Ledger, simulation: &mut Simulation, every
     let _parts = job.classes();
     let mut skipped = 0;
     'turns: loop {
-        let turn = play(job, ledger, simulation, everyone);
+        let turn = play(job, ledger, swept, everyone);
         skipped += turn.skipped;
         if !turn.changed {
             return skipped;
@@ -146,7 +146,8 @@ fn check_moves(workers: u32, moves: &[u32]) -> Result<(), RunFault>
 /// workers move in turn until nothing is left to claim. The verdicts are the first tests for every
 /// list of moves.
 ///
-/// Beside the ledger, a simulation and the verdicts it takes a word for each worker.
+/// Beside the ledger, the first tests so far and the verdicts it takes a word for each worker. All
+/// classes are simulated together on a block when the first piece of the block is due.
 ///
 /// # Errors
 ///
@@ -173,10 +174,10 @@ pub fn run_schedule(
     check_job(job)?;
     let everyone = workers_in_order(alloc, workers)?;
     let mut ledger = open_ledger(alloc, job, workers)?;
-    let mut simulation = Simulation::new(alloc, job)?;
+    let mut swept = Swept::new(alloc, job)?;
     let firsts = Vec::with_capacity(alloc, job.faults().count() as usize)?;
-    let played = play(job, &mut ledger, &mut simulation, moves);
-    let dropped = take_turns(job, &mut ledger, &mut simulation, everyone.as_slice());
+    let played = play(job, &mut ledger, &mut swept, moves);
+    let dropped = take_turns(job, &mut ledger, &mut swept, everyone.as_slice());
     let skipped = played.skipped + dropped;
     let verdicts = verdicts_of(job, &ledger, u64::from(skipped), firsts)?;
     Ok(verdicts)
@@ -203,6 +204,7 @@ fn open_ledger(alloc: Global, job: &Job, workers: u32) -> Result<Ledger, RunFaul
 {
     match Ledger::new(alloc, job.classes().count(), job.tests().count(), workers) {
         Ok(ledger) => Ok(ledger),
-        Err(_) => Err(RunFault::Memory),
+        Err(LedgerFault::Memory) => Err(RunFault::Memory),
+        Err(_) => unreachable!(),
     }
 }

@@ -15,14 +15,11 @@ use worked_circuits::C17;
 const TEST: &[u8] = b"11111\n";
 
 /// The files `bench`, which is C17, `tests`, which has one test, and the part files `first` and
-/// `second`, each read into new memory. `long` has the same test, says that it has 4 MiB, and can
-/// only be read piece by piece.
+/// `second`, each read into new memory.
 #[derive(Clone, Copy)]
 pub(crate) struct Files;
 
 impl Source for Files {
-    type File = &'static [u8];
-
     fn read(&mut self, alloc: Global, path: &str) -> Result<Vec<u8>, SourceFault> {
         let text = match path {
             "bench" => C17,
@@ -32,10 +29,6 @@ impl Source for Files {
             _ => return Err(SourceFault::Unreadable),
         };
         Vec::from_slice(alloc, text).map_err(|_| SourceFault::Memory)
-    }
-
-    fn open(&self, path: &str) -> Option<(&'static [u8], u64)> {
-        (path == "long").then_some((TEST, 1 << 22))
     }
 }
 

@@ -111,6 +111,18 @@ fn are_left_open<R: Threads + Wait + Clock + Sync>(
     true
 }
 
+/// Returns whether two workers run a job to these verdicts after gates stopped runs of it at a
+/// piece.
+fn runs_again<R: Threads + Wait + Clock + Sync>(
+    rt: &R,
+    alloc: Global,
+    job: &Job,
+    firsts: &[Option<u32>],
+) -> Result<bool, RunFault> {
+    let are_stopped = are_left_open(rt, alloc, job, &SHUT_PIECES);
+    Ok(are_stopped && is_run_openly(rt, alloc, job, 2, firsts, None)?)
+}
+
 /// Returns whether a run of one worker ends after the pieces of the first block.
 fn ends_after_two<R: Threads + Wait + Clock + Sync>(
     rt: &R,
@@ -220,6 +232,8 @@ pub(crate) enum Running {
     AreRefused,
     IsFirstLeftOpen,
     AreLeftOpen(Stops),
+    /// Do two workers find these first tests once gates have stopped runs of the same job?
+    RunsAgain(Firsts),
     EndsAfterTwo,
     IsShared,
 }
@@ -244,6 +258,7 @@ pub(crate) fn is_so<R: Threads + Wait + Clock + Sync>(
         Running::AreRefused => are_refused(rt, alloc, job),
         Running::IsFirstLeftOpen => stops_at(rt, alloc, job, 1, &Shut, (0, 0)),
         Running::AreLeftOpen(stops) => are_left_open(rt, alloc, job, stops),
+        Running::RunsAgain(firsts) => runs_again(rt, alloc, job, firsts) == Ok(true),
         Running::EndsAfterTwo => ends_after_two(rt, alloc, job) == Ok(true),
         Running::IsShared => is_shared(rt, alloc, job) == Ok(true),
     }
@@ -266,7 +281,7 @@ const TWO_BLOCKS: JobText = JobText {
 /// The first tests of the faults of that buffer.
 const BUFFER_FIRSTS: [Option<u32>; 4] = [Some(64), Some(0), Some(64), Some(0)];
 
-static CASES: [Case<Gated>; 18] = [
+static CASES: [Case<Gated>; 19] = [
     Case {
         name: "c17_by_one_worker",
         job: C17,
@@ -301,6 +316,11 @@ static CASES: [Case<Gated>; 18] = [
         name: "one_of_two_workers_leaves_its_piece_open",
         job: TWO_BLOCKS,
         question: Gated::Running(Running::AreLeftOpen(&SHUT_PIECES)),
+    },
+    Case {
+        name: "a_job_runs_again_after_a_gate_stopped_it",
+        job: TWO_BLOCKS,
+        question: Gated::Running(Running::RunsAgain(&BUFFER_FIRSTS)),
     },
     Case {
         name: "the_lowest_open_block_of_the_lowest_class_is_named",

@@ -7,14 +7,14 @@ use Rattle.fault_model.specs.Collapse.{Collapsed}
 use Rattle.fault_model.specs.Fault.{FaultList}
 use Rattle.patterns.specs.Making.{IsMadeOf}
 use Rattle.patterns.specs.Tests.{TestList}
+use Rattle.region_sim.proofs.Public.{all_within}
 use Rattle.workers.specs.Verdict.{AreClassFirsts}
-use Rattle.generator.specs.Generated.{DetectsEarly, IsSearchFault}
+use Rattle.generator.specs.Generated.{DetectsEarly}
 use Rattle.generator.specs.Keeping.{AreLeft, HasFirst}
 use Rattle.generator.specs.RandomTests.{IsRound, after_words, next_words, numbers}
 use Rattle.generator.specs.RandomTests.{seeded}
 use Rattle.generator.proofs.LeftClasses.{left_within}
 use Rattle.generator.proofs.RandomWords.{round_more, seeded_is}
-use Rattle.generator.proofs.Refusals.{round_refused}
 use Rattle.generator.proofs.Searches.{enough_rounds, search_over, searching_along, searching_more}
 use Rattle.generator.proofs.Searches.{searching_none}
 use Rattle.generator.proofs.search.search.Goals.{then-len, else-len}
@@ -29,14 +29,14 @@ loop-round-init g c =
       list = refl;
       classes = refl;
       few = c.in_ok-left.ensures.few;
-      within = c.in_ok-left.ensures.within;
+      within = all_within job c.in_ok-left.left.items c.in_ok-left.ensures;
       width = refl;
       kept = omega (arith, none);
       quiet = omega arith;
       rest = ap numbers (c.seed_from_u64-rng.ensures ∙ sym (seeded_is c.args.settings.seed));
       searching = searching_none job.list.model job.circuit c.args.settings.seed
           c.min-blocks.result (length job.classes.representative) c.in_ok-left.left.items
-          c.new-kept.result.tests none c.in_ok-left.ensures.each;
+          c.new-kept.result.tests none (λ class lt. c.in_ok-left.ensures.all class lt tt);
     }
 
 pub returns-then-is_empty-clause-early : goal.returns-then-is_empty-clause-early
@@ -67,21 +67,6 @@ returns-clause-early g c =
     c.loop-round._round c.loop-round.quiet
     (omega (arith, c.min-blocks.ensures, c.room_of-room.ensures.some))
     (omega (arith, c.loop-round-test.false)) c.loop-round.invariant.searching
-
-pub returns-in_err-firsts-clause-refused : goal.returns-in_err-firsts-clause-refused
-returns-in_err-firsts-clause-refused g c =
-    let was = c.loop-round.invariant in
-    let job = c.take_random_tests.new.job in
-    let number =
-    ap (λ (x : Collapsed). length x.representative) c.take_random_tests.ensures.classes in
-    let same = ap (λ (l : List ℕ). length l) c.deref.ensures.value in
-    let less : length c.deref.result.now ≤ length job.classes.representative =
-    omega (arith, number, same, was.few) in
-    let known : IsSearchFault c.args.settings.workers c.in_err-firsts.field-0.0 =
-    round_refused job c.deref.result.now c.args.settings.workers c.in_err-firsts.field-0.0 less
-    c.in_ok-take_random_tests.ensures.few c.in_err-firsts.ensures.refused in
-    let result = c.from_residual-in_err-firsts.ensures in
-    search rules
 
 pub loop-round-preserved : goal.loop-round-preserved
 loop-round-preserved g c =

@@ -17,6 +17,9 @@ loop-class-init c = record {
       let none : None ≡ Some row = ap (λ l. slice_get l i) (sym c.new-rows.ensures.items) ∙ e in
       absurd (cc);
   whole = λ place class lt at own. absurd (omega (arith, lt));
+  own = λ i row e.
+      let none : None ≡ Some row = ap (λ l. slice_get l i) (sym c.new-rows.ensures.items) ∙ e in
+      absurd (cc);
 }
 
 pub loop-class-preserved-then-owners-class : goal.loop-class-preserved-then-owners-class
@@ -32,6 +35,7 @@ loop-class-preserved-then-owners-class c =
       whole = row_skipped owners classes c.args.owner at x here c.loop-class.rows.items
           (λ e. (let same = get_or_from_slice_get owners x c.args.owner 0 e in
           omega (arith, same, c.if-owners-class.true))) before.whole;
+      own = before.own;
     }
 
 pub loop-class-preserved : goal.loop-class-preserved
@@ -53,6 +57,14 @@ loop-class-preserved c =
           subst (λ l. IsOpen l class) (sym items)
           (row_more owners classes c.args.owner at x here was row c.listed.ensures.class
           before.whole place class lt is own);
+      own = λ i r e.
+          let within = c.requires.classes.within at 0 c.loop-class-test.true in
+          let its : slice_get owners x ≡ Some c.args.owner =
+          slice_get-get_or owners x 0 (omega (arith, within, c.requires.owners))
+          ∙ ap Some (omega (arith, c.if-owners-class.false)) in
+          push_each (λ _ (y : ListedClass). slice_get owners y.class ≡ Some c.args.owner) was row
+          before.own (subst (λ n. slice_get owners n ≡ Some c.args.owner)
+          (sym c.listed.ensures.class) its) i r (subst (λ l. slice_get l i ≡ Some r) items e);
     }
 
 pub returns-clause-listed : goal.returns-clause-listed

@@ -4,7 +4,7 @@ use Rattle.region_runs.specs.StretchRuns.{AreFoundUpTo}
 use Rattle.region_sim.specs.OpenPlaces.{AreNextOpen}
 use Rattle.workers.specs.Stops.{no_stop}
 use Rattle.workers.specs.Verdict.{AreClassFirsts}
-use Rattle.region_runs.specs.BlockSweeps.{classes_of}
+use Rattle.region_sim.specs.ClassOrder.{classes_of}
 use Rattle.region_runs.proofs.RunsOfParts.{not_stopped_found}
 use Rattle.region_runs.proofs.ClaimedStretches.{none_found}
 use Rattle.region_runs.proofs.list_runner.run_alone.Goals as goal

@@ -7,7 +7,7 @@ use Rattle.region_runs.proofs.StretchRuns.{found_block, found_clear, found_hit}
 use Rattle.region_runs.proofs.StretchRuns.{undetected_here}
 use Rattle.region_runs.proofs.PassedPieces.{passed_block, passed_gate}
 use Rattle.region_sim.specs.OpenPlaces.{AreNextOpen, AreSettled}
-use Rattle.region_runs.specs.BlockSweeps.{classes_of}
+use Rattle.region_sim.specs.ClassOrder.{classes_of}
 use Rattle.region_runs.proofs.OpenClasses.{ahead_over, behind_over, found_up_to, left_out}
 use Rattle.region_runs.proofs.OpenClasses.{open_more}
 use Rattle.region_runs.proofs.OpenClasses.{passed_up_to, settled_more, settled_over}

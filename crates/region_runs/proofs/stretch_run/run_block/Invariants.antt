@@ -2,7 +2,8 @@ use Rattle.std.proofs.Common.{◌+◌, ◌-◌, ◌≤◌, length}
 use Rattle.region_sim.specs.RegionHits.{ServesRegions}
 use Rattle.region_runs.specs.StretchRuns.{AreFoundUpTo, ArePassed}
 use Rattle.region_sim.specs.OpenPlaces.{AreNextOpen, AreSettled}
-use Rattle.region_runs.specs.BlockSweeps.{HaveFirstsFrom, HaveFirstsAfter, IsWhole, classes_of}
+use Rattle.region_sim.specs.ClassOrder.{classes_of}
+use Rattle.region_runs.specs.BlockSweeps.{HaveFirstsFrom, HaveFirstsAfter, IsWhole}
 use Rattle.region_runs.proofs.stretch_run.run_block.Given as goal
 
 abbrev pub invariant-loop-place : goal.invariant-loop-place

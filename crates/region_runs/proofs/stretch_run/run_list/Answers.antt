@@ -2,7 +2,8 @@ use Rattle.std.proofs.Common.{◌≡◌, ◌++◌, ◌∙◌, All, ap, arith, le
 use Rattle.patterns.specs.Tests.{TestList, blocks}
 use Rattle.region_sim.specs.OpenPlaces.{AreNextOpen}
 use Rattle.block_sim.specs.Listed.{IsListed}
-use Rattle.region_runs.specs.BlockSweeps.{AreDeadFrom, classes_of}
+use Rattle.region_sim.specs.ClassOrder.{classes_of}
+use Rattle.region_runs.specs.BlockSweeps.{AreDeadFrom}
 use Rattle.region_runs.specs.StretchRuns.{AreFoundUpTo, HasEnded}
 use Rattle.region_runs.proofs.DeadClasses.{has_ended, live_next, live_none}
 use Rattle.region_runs.proofs.stretch_run.run_list.Goals as goal

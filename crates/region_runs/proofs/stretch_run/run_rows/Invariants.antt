@@ -4,7 +4,8 @@ use Rattle.flat_circuit.specs.declared.origin.ListedClass.{ListedClass}
 use Rattle.region_sim.specs.RegionHits.{HasFirst, IsOpenAt, ServesRegions}
 use Rattle.region_runs.specs.StretchRuns.{AreFoundUpTo, ArePassed}
 use Rattle.region_sim.specs.OpenPlaces.{AreNextOpen}
-use Rattle.region_runs.specs.BlockSweeps.{between, classes_of}
+use Rattle.region_sim.specs.ClassOrder.{classes_of}
+use Rattle.region_runs.specs.BlockSweeps.{between}
 use Rattle.region_runs.proofs.stretch_run.run_rows.Given as goal
 
 abbrev pub invariant-loop-block : goal.invariant-loop-block

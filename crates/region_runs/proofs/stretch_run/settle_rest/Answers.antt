@@ -5,7 +5,8 @@ use Rattle.std.proofs.lemmas.Option.{slice_get_within}
 use Rattle.flat_circuit.specs.declared.origin.ListedClass.{ListedClass}
 use Rattle.region_sim.specs.OpenPlaces.{AreSettled}
 use Rattle.block_sim.specs.First.{IsFirstOn}
-use Rattle.region_runs.specs.BlockSweeps.{between, classes_of}
+use Rattle.region_sim.specs.ClassOrder.{classes_of}
+use Rattle.region_runs.specs.BlockSweeps.{between}
 use Rattle.region_runs.proofs.BlockSweeps.{class_there, row_listed}
 use Rattle.region_runs.proofs.OpenClasses.{open_still, settled_over, settled_still}
 use Rattle.region_runs.proofs.StretchRuns.{done_high, undetected}

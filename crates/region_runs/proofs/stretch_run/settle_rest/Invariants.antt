@@ -1,6 +1,6 @@
 use Rattle.std.proofs.Common.{◌-◌, ◌≤◌, length}
 use Rattle.region_sim.specs.OpenPlaces.{AreNextOpen}
-use Rattle.region_runs.specs.BlockSweeps.{classes_of}
+use Rattle.region_sim.specs.ClassOrder.{classes_of}
 use Rattle.region_runs.proofs.SweepRests.{IsRestDone}
 use Rattle.region_runs.proofs.stretch_run.settle_rest.Given as goal
 

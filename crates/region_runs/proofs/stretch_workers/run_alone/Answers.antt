@@ -2,7 +2,7 @@ use Rattle.std.proofs.Common.{◌≡◌, ◌∙◌, ◌<◌, All, ap, arith, len
 use Rattle.block_sim.specs.Listed.{IsListed}
 use Rattle.region_runs.specs.StretchRuns.{AreFoundUpTo}
 use Rattle.region_sim.specs.OpenPlaces.{AreNextOpen}
-use Rattle.region_runs.specs.BlockSweeps.{classes_of}
+use Rattle.region_sim.specs.ClassOrder.{classes_of}
 use Rattle.region_runs.proofs.PartsOfClasses.{stretch_within}
 use Rattle.region_runs.proofs.ClaimedStretches.{none_found}
 use Rattle.region_runs.proofs.stretch_workers.run_alone.Goals as goal

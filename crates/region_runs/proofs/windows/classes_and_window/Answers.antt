@@ -1,7 +1,7 @@
 use Rattle.std.proofs.Common.{◌<◌, ◌∙◌, ◌^◌, List, ap, length, subst, sym, ℕ}
 use Rattle.std.specs.Prelude.{IfOk}
 use Rattle.counting_sort.specs.SortedPlaces.{AreSortedPlaces}
-use Rattle.region_runs.proofs.ClassOrders.{all_in_order}
+use Rattle.region_sim.proofs.Public.{all_in_order}
 use Rattle.region_runs.proofs.windows.classes_and_window.Goals as goal
 
 pub returns-clause-classes : goal.returns-clause-classes

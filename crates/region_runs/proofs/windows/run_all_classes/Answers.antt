@@ -4,7 +4,7 @@ use Rattle.patterns.specs.Tests.{blocks}
 use Rattle.block_sim.specs.Parts.{Parts, with_tests}
 use Rattle.workers.specs.Verdict.{AreClassFirsts}
 use Rattle.region_runs.specs.WindowLedgers.{AreOfWindows}
-use Rattle.region_runs.proofs.PartsOfClasses.{all_within}
+use Rattle.region_sim.proofs.Public.{all_within}
 use Rattle.region_runs.proofs.windows.run_all_classes.Goals as goal
 
 pub returns-in_err-all-clause-kept : goal.returns-in_err-all-clause-kept

@@ -9,7 +9,8 @@ use Rattle.region_runs.specs.declared.parts.PartVerdict.{PartVerdict}
 use Rattle.region_runs.specs.declared.parts.PartVerdict.TheVariants.{OtherPart}
 use Rattle.region_runs.specs.Part.{first_in}
 use Rattle.region_runs.specs.WindowLedgers.{AreOfWindows}
-use Rattle.region_runs.proofs.PartsOfClasses.{all_firsts, all_hits, all_within, verdict_there}
+use Rattle.region_sim.proofs.Public.{all_within}
+use Rattle.region_runs.proofs.PartsOfClasses.{all_firsts, all_hits, verdict_there}
 use Rattle.region_runs.proofs.PartsOfClasses.{verdicts_under}
 use Rattle.region_runs.proofs.WindowSteps.{all_with, together_with}
 use Rattle.region_runs.proofs.windows.run_in_windows.Goals as goal

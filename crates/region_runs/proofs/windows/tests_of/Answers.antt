@@ -1,7 +1,6 @@
-use Rattle.std.proofs.Common.{◌≡◌, ◌-◌, ◌∙◌, ap, arith, min, refl, subst, ◌*◌}
-use Rattle.patterns.specs.Making.{IsMadeOf}
+use Rattle.std.proofs.Common.{◌≡◌, ◌-◌, ◌∙◌, ap, arith, min, refl, rules, subst, sym, ◌*◌, ⊎_elim}
 use Rattle.region_runs.specs.Windows.{AreWordsFrom}
-use Rattle.region_runs.proofs.WindowWords.{begins_before, window_cut, words_none}
+use Rattle.region_runs.proofs.WindowWords.{begins_before, words_none}
 use Rattle.region_runs.proofs.windows.tests_of.Goals as goal
 
 pub loop-block-init : goal.loop-block-init
@@ -23,27 +22,18 @@ loop-block-preserved c =
           (c.in_ok-words-2.ensures from (block - from) was.words (omega (arith, was.order)));
     }
 
-pub returns-in-Ok-clause-tests : goal.returns-in-Ok-clause-tests
-returns-in-Ok-clause-tests c =
+pub made_of-requires-clause-words : goal.made_of-requires-clause-words
+made_of-requires-clause-words c =
     let was = c.loop-block.invariant in
     let window = c.args.window in
-    let tests = c.args.tests.now in
-    let on = c.requires.window.1 in
-    let low = begins_before _ _ window on in
-    let made : IsMadeOf c.width-2.result (c.min.result - 64 * window.from) c.as_slice.result.now
-    c.in-Ok.some = c.in-Ok.ensures.tests in
+    let low = begins_before _ _ window c.requires.window.1 in
     let last : c.loop-block.block ≡ window.end = omega (
       arith,
       c.loop-block-test.false,
       c.loop-block.auto.block-end,
       low.0,
     ) in
-    let words = subst (λ n. AreWordsFrom tests window.from (n - window.from)
+    let own = subst (λ n. AreWordsFrom c.args.tests.now window.from (n - window.from)
     c.loop-block.words.items) last was.words in
-    window_cut tests c.in-Ok.some window.from window.end (c.min.result - 64 * window.from)
-    c.min.result c.loop-block.words.items c.requires.list c.in-Ok.ensures.list words
-    (subst (λ w. IsMadeOf w (c.min.result - 64 * window.from) c.loop-block.words.items c.in-Ok.some)
-    c.width-2.ensures.width
-    (subst (λ l. IsMadeOf c.width-2.result (c.min.result - 64 * window.from) l c.in-Ok.some)
-    c.as_slice.ensures.value made))
-    (c.min.ensures ∙ ap (λ n. min n (64 * window.end)) c.count.ensures) refl low.0 on.within
+    subst (AreWordsFrom c.args.tests.now window.from (window.end - window.from))
+    (sym c.as_slice.ensures.value) own

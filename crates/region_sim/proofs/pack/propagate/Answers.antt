@@ -7,14 +7,12 @@ use Rattle.std.proofs.lemmas.List.{length-set}
 use Rattle.bench_net.specs.Scan.{names, signal}
 use Rattle.wide_words.specs.Wide.{number}
 use Rattle.flat_circuit.specs.Readers.{IsObserved, Reads}
-use Rattle.region_sim.specs.Pack.{AreHitIn, AreSlots, HasActiveByPack, TellsPack}
-use Rattle.block_sim.specs.Propagation.{is_pending}
+use Rattle.region_sim.specs.Pack.{AreHitIn, AreSlots, TellsPack}
 use Rattle.flat_circuit.specs.Words.{lane}
 use Rattle.flat_circuit.proofs.Public.{lane_zero, reader_within}
-use Rattle.block_sim.proofs.Public.{count_at_most}
 use Rattle.block_sim.proofs.Public.{gate_named_of_signal_equations as gate_named}
-use Rattle.region_sim.proofs.OneLane.{bit_cases, self}
-use Rattle.region_sim.proofs.PackRuns.{gate_rows, goes_on, listed, more_hits, one_less, or_on}
+use Rattle.region_sim.proofs.OneLane.{bit_cases}
+use Rattle.region_sim.proofs.PackRuns.{gate_rows, goes_on, more_hits, or_on}
 use Rattle.region_sim.proofs.PackRuns.{stays_inside, told}
 use Rattle.region_sim.proofs.PackStarts.{started, stem_low}
 use Rattle.region_sim.proofs.PackSteps.{stepped}
@@ -33,7 +31,6 @@ loop-gate-init g c =
       deltas = refl;
       waiting = refl;
       within = c.begin_stems-begun.ensures.within;
-      grown = omega arith;
       inside = λ s k lt on. h.kept k lt
           ∙ (ap (λ x. differs_in c.begin_stems-begun.new.deltas x k) (sym (h.only s k lt on)) ∙ on);
       narrow = λ k lt on. on;
@@ -47,9 +44,6 @@ loop-gate-init g c =
           c.begin_stems-begun.result.from
           h (each (λ slot. ¬ IsObserved circuit slot.stem) c.as_slice-stems.result.now slots.hidden)
           (λ k lt. ap (λ w. lane w k) c.none.ensures ∙ lane_zero k);
-      counted = λ tests group gates free active. let few = count_at_most
-          (is_pending self c.begin_stems-begun.new.waiting c.begin_stems-begun.result.from) gates in
-          omega (arith, few);
     }
 
 pub next_gate-requires-clause-within : goal.next_gate-requires-clause-within
@@ -161,8 +155,6 @@ loop-gate-preserved g c =
       deltas = ap length fresh.evaluated.2 ∙ (length-set c.loop-gate.deltas gate _ ∙ last.deltas);
       waiting = (let a = c.evaluate_waiting-fresh.ensures.gates in a ∙ (taken ∙ last.waiting));
       within = omega (arith, lt);
-      grown = (let a = c.count_evaluation.ensures.grown in let b =
-          last.grown in omega (arith, a, b));
       inside = stays_inside g.C.Copies.layout circuit (g.C.Copies.rows c.args.copies) (number
           c.loop-gate.found.kept)
           gate by.0 by.3 c.loop-gate.deltas c.next_gate.new.waiting
@@ -189,31 +181,6 @@ loop-gate-preserved g c =
           (number c.follow_on-found.result.kept) (number c.follow_on-found.result.seen)
           (last.state tests group well rising free) c.in-Some.ensures.least waits
           c.in-Some.ensures.some.1 ev on.seen on.narrow;
-      counted = λ tests group gates free active.
-          let well = c.requires.circuit.well_formed in
-          let rising = c.signals-signals.ensures.rising in
-          let le = last.counted tests group gates free active in
-          let there = listed g.C.Copies.layout g.C.Copies.sized circuit well rising tests group
-          (g.C.Copies.rows c.args.copies) free c.as_slice-stems.result.now c.loop-gate.deltas
-          c.loop-gate.waiting
-          c.loop-gate.from gate (number c.loop-gate.found.kept) (number c.loop-gate.found.seen)
-          c.next_gate.new.waiting c.evaluate_waiting-fresh.new.deltas
-          c.evaluate_waiting-fresh.new.waiting (number c.evaluate_waiting-fresh.result)
-          (number c.follow_on-found.result.kept) (number c.follow_on-found.result.seen)
-          (last.state tests group well rising free) c.in-Some.ensures.least waits
-          c.in-Some.ensures.some.1 ev on.seen on.narrow c.args.followed.now
-          (lane (number c.begin_stems-begun.result.kept)) gates last.inside
-          c.begin_stems-begun.ensures.started.lanes active in
-          let less = one_less g.C.Copies.layout g.C.Copies.sized circuit well rising tests group
-          (g.C.Copies.rows c.args.copies) free c.as_slice-stems.result.now c.loop-gate.deltas
-          c.loop-gate.waiting
-          c.loop-gate.from gate (number c.loop-gate.found.kept) (number c.loop-gate.found.seen)
-          c.next_gate.new.waiting c.evaluate_waiting-fresh.new.deltas
-          c.evaluate_waiting-fresh.new.waiting (number c.evaluate_waiting-fresh.result)
-          (number c.follow_on-found.result.kept) (number c.follow_on-found.result.seen)
-          (last.state tests group well rising free) c.in-Some.ensures.least waits
-          c.in-Some.ensures.some.1 ev on.seen on.narrow gates there in
-          let one = c.count_evaluation.ensures.few in omega (arith, le, less, one);
     }
 
 pub clear-requires-clause-within : goal.clear-requires-clause-within
@@ -250,17 +217,6 @@ returns-clause-detected g c = λ tests group free.
     (subst (λ xs. All (λ slot. slot.stem < length (names c.args.circuit.now.arranged)) xs)
     (sym c.as_slice-stems.ensures.value) c.requires.slots.signals))
     c.begin_stems-begun.ensures.started.all last.settled c.in_default.ensures.none.1)
-
-pub returns-clause-counted : goal.returns-clause-counted
-returns-clause-counted g c = λ tests group gates free active.
-    let le = c.loop-gate.invariant.counted tests group gates free
-    (subst (λ slots. HasActiveByPack g.C.Copies.layout c.args.circuit.now.arranged tests group
-    (g.C.Copies.rows c.args.copies) slots c.args.followed.now gates) (sym
-    c.as_slice-stems.ensures.value) active) in
-    omega (arith, le)
-
-pub returns-clause-grown : goal.returns-clause-grown
-returns-clause-grown g c = c.loop-gate.invariant.grown
 
 pub returns-clause-room : goal.returns-clause-room
 returns-clause-room g c =

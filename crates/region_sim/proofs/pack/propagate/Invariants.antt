@@ -1,14 +1,11 @@
-use Rattle.std.proofs.Common.{◌≡◌, ◌<◌, ◌≤◌, ◌+◌, ◌-◌, ℕ, List, length, true, false}
-use Rattle.std.specs.Prelude.{count_by}
+use Rattle.std.proofs.Common.{◌≡◌, ◌<◌, ◌≤◌, ◌-◌, ℕ, List, length, true, false}
 use Rattle.bench_net.specs.Circuit.{IsWellFormed}
 use Rattle.bench_net.specs.Scan.{names}
 use Rattle.fault_model.specs.Solution.{Test}
 use Rattle.wide_words.specs.Wide.{number}
 use Rattle.flat_circuit.specs.Readers.{IsRising}
-use Rattle.region_sim.specs.Pack.{AreHitIn, AreRows, HasActiveByPack}
-use Rattle.block_sim.specs.Propagation.{is_pending}
+use Rattle.region_sim.specs.Pack.{AreHitIn, AreRows}
 use Rattle.flat_circuit.specs.Words.{lane}
-use Rattle.region_sim.proofs.OneLane.{self}
 use Rattle.region_sim.proofs.PackLanes.{ArePropagating}
 use Rattle.region_sim.proofs.PackStarts.{pack_moment, stem_lanes}
 use Rattle.region_sim.proofs.PackWords.{differs_in}
@@ -19,7 +16,6 @@ invariant-loop-gate g l = record {
   deltas : length l.deltas ≡ length l.initial.deltas;
   waiting : length l.waiting ≡ length l.initial.waiting;
   within : l.from ≤ length (names l.circuit.arranged);
-  grown : l.initial.evaluations ≤ l.evaluations;
   inside : (s k : ℕ) → k < 512 → differs_in l.deltas s k ≡ true
       → lane (number l.initial.found.kept) k ≡ true;
   narrow : (k : ℕ) → k < 512 → lane (number l.found.kept) k ≡ true
@@ -36,12 +32,6 @@ invariant-loop-gate g l = record {
       (pack_moment g.C.Copies.layout g.C.Copies.sized l.circuit.arranged well rising tests group
       (g.C.Copies.rows l.copies) free l.stems l.deltas l.waiting l.from (number l.found.kept)
       (number l.found.seen));
-  counted : (tests : List Test) (group : ℕ → ℕ) (gates : List ℕ)
-      → AreRows l.circuit.arranged tests g.C.Copies.layout group (g.C.Copies.rows l.copies)
-      → HasActiveByPack g.C.Copies.layout l.circuit.arranged tests group (g.C.Copies.rows l.copies)
-      l.stems l.followed
-      gates → l.evaluations + count_by (is_pending self l.waiting l.from) gates
-      ≤ l.initial.evaluations + length gates;
 }
 
 abbrev pub decreases-loop-gate : goal.decreases-loop-gate

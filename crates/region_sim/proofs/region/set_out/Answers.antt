@@ -1,4 +1,4 @@
-use Rattle.std.proofs.Common.{◌≡◌, ◌<◌, sym, ◌∙◌, ap, subst, length, map, arith, inl, inr}
+use Rattle.std.proofs.Common.{◌≡◌, ◌<◌, sym, ◌∙◌, ap, length, map, arith, inl, inr}
 use Rattle.std.specs.Prelude.{Some, None, slice_index_or, bit_and, bit_xor}
 use Rattle.bench_net.specs.Scan.{names, signal, name_of, definition, gate_of, gate_line}
 use Rattle.bench_net.proofs.Public.{name_of-signal}
@@ -9,7 +9,6 @@ use Rattle.flat_circuit.specs.Stuck.{stuck_fault}
 use Rattle.flat_circuit.proofs.Public.{pin_of, gate_within, lane_zero, lane_of_zero}
 use Rattle.block_sim.proofs.Public.{shown_none, turned_is}
 use Rattle.block_sim.specs.Flips.{start_of}
-use Rattle.block_sim.specs.Ways.{IsWay, IsWayOfLine}
 use Rattle.region_sim.proofs.FaultLanes.{none_told, observer_told, pin_come, stem_come}
 use Rattle.region_sim.proofs.region.set_out.Goals as goal
 
@@ -155,20 +154,3 @@ returns-in-Pin-clause-signal c = λ at e.
     let low = gate_within circuit c.in-Pin.gate c.in-Pin.pin n.0 reads in
     let same : c.in-Pin.gate ≡ at.signal = cc in
     omega (arith, low, same)
-
-pub returns-in-Stem-clause-left : goal.returns-in-Stem-clause-left
-returns-in-Stem-clause-left c = λ at way e w.
-    let circuit = c.args.view.circuit.now.arranged in
-    let same : c.in-Stem.start ≡ at.signal = cc in
-    let own = subst (λ l. IsWayOfLine circuit l way) c.in-Stem.is w in
-    (way, subst (λ s. IsWay circuit s way) same own, omega arith)
-
-pub returns-in-Pin-clause-left : goal.returns-in-Pin-clause-left
-returns-in-Pin-clause-left c = λ at way e w.
-    let circuit = c.args.view.circuit.now.arranged in
-    let same : c.in-Pin.gate ≡ at.signal = cc in
-    let own = subst (λ l. IsWayOfLine circuit l way) c.in-Pin.is w in (
-      own.0,
-      subst (λ s. IsWay circuit s own.0) same own.1,
-      omega (arith, own.2, c.gate_change-lanes.ensures.counted),
-    )

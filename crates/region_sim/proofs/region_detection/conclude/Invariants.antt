@@ -1,6 +1,6 @@
 use Rattle.std.proofs.Common.{◌≡◌, ◌⊎◌, ◌+◌, ◌<◌, ◌≤◌, ℕ, length}
 use Rattle.std.specs.Prelude.{Some, slice_get}
-use Rattle.region_sim.specs.declared.simulation.Approach.{Approach}
+use Rattle.region_sim.specs.declared.region.Approach.{Approach}
 use Rattle.region_sim.specs.GroupLanes.{lanes_seen}
 use Rattle.region_sim.proofs.region_detection.conclude.Given as goal
 

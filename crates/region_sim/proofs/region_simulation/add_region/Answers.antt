@@ -9,7 +9,7 @@ use Rattle.flat_circuit.specs.Regions.{IsStem, IsStemOfLine}
 use Rattle.flat_circuit.proofs.Public.{count_there, reordered, circuit_there}
 use Rattle.block_sim.proofs.Public.{same_stems}
 use Rattle.region_sim.proofs.PackedRegions.{gathered_more, gathered_over}
-use Rattle.region_sim.proofs.RegionHits.{listed_at, settled_from, ways_over}
+use Rattle.region_sim.proofs.RegionHits.{listed_at, settled_from}
 use Rattle.region_sim.proofs.region_simulation.add_region.Goals as goal
 
 pub returns-in-Some-clause-low : goal.returns-in-Some-clause-low
@@ -36,18 +36,6 @@ returns-in-Some-clause-gathered c = λ first le before.
     c.args.followed.now.items c.args.hits.now
     (settled_from c.args.firsts.now c.args.from q c.in-Some._test c.in-Some.ensures
     (c.requires.next.between c.args.from q next)) before
-
-pub returns-in-Some-clause-counted : goal.returns-in-Some-clause-counted
-returns-in-Some-clause-counted c = λ way first ways le.
-    let q = c.next_open.result in
-    let next = c.next_open.ensures in
-    let up = c.requires.next.following c.args.from q next in
-    let end = c.requires.next.within c.args.from q next in
-    let sum = ways_over way c.args.rows.now c.args.firsts.now first c.args.from q c.requires.firsts
-    le (omega (arith, up)) (omega (arith, end, c.requires.firsts))
-    (settled_from c.args.firsts.now c.args.from q c.in-Some._test c.in-Some.ensures
-    (c.requires.next.between c.args.from q next)) in
-    omega (arith, sum)
 
 pub place_of-stem-requires : goal.place_of-stem-requires
 place_of-stem-requires c =

@@ -7,7 +7,7 @@ use Rattle.region_sim.specs.Pack.{AreRows, IsWithin}
 use Rattle.region_sim.specs.RegionHits.{AreSlotsConcluded}
 use Rattle.flat_circuit.specs.Words.{AreWords}
 use Rattle.flat_circuit.proofs.Public.{reordered, circuit_there}
-use Rattle.region_sim.proofs.PackedRegions.{found_all, pack_active, slots_active}
+use Rattle.region_sim.proofs.PackedRegions.{found_all}
 use Rattle.region_sim.proofs.RegionHits.{member_at}
 use Rattle.region_sim.proofs.region_simulation.flip_pack.Goals as goal
 use Rattle.region_sim.proofs.region_simulation.flip_pack.Goals.{Start}
@@ -73,22 +73,6 @@ returns-clause-found g c = λ rows firsts from to gathered.
 pub returns-clause-kept : goal.returns-clause-kept
 returns-clause-kept g c = λ place none. c.conclude_slots.ensures.concluded.others place
     (λ h. none (h.one, member_at c.args.followed.now h.at h.one h.listed, h.there))
-
-pub returns-clause-counted : goal.returns-clause-counted
-returns-clause-counted g c = λ gates has inside.
-    let job = c.args.job.now in
-    let there = c.args.view.circuit.now.arranged in
-    let view = c.requires.view in
-    let is = circuit_there job.circuit there view.together.circuit view.arranged in
-    let stems = c.args.pack.now.slots.items in
-    c.propagate-seen.ensures.counted job.tests.tests (λ slot. group_of c.args.span) gates
-    (slots_free g (goal.at.returns-clause-counted g c).Start)
-    (slots_active g.C.Copies.layout there job.tests.tests (group_of c.args.span)
-    c.args.view.good.now (g.C.Copies.rows c.args.copies) c.requires.rows stems c.args.followed.now
-    gates
-    (pack_active g.C.Copies.layout g.C.Copies.sized there is.well_formed job.tests.tests c.args.span
-    c.args.view.good.now view.fault_free stems c.args.followed.now gates c.requires.slots.signals
-    has inside))
 
 pub returns-clause-room : goal.returns-clause-room
 returns-clause-room g c = record {

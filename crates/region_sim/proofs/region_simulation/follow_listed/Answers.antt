@@ -9,7 +9,6 @@ use Rattle.flat_circuit.specs.Regions.{IsStemOfLine}
 use Rattle.block_sim.specs.Flips.{AreLanesFor, HasCome}
 use Rattle.region_sim.specs.Reached.{IsReached}
 use Rattle.flat_circuit.specs.Stuck.{stuck_fault}
-use Rattle.block_sim.specs.Ways.{IsWayOfLine}
 use Rattle.flat_circuit.specs.Readers.{IsObserved}
 use Rattle.flat_circuit.specs.Words.{lane, test_of}
 use Rattle.flat_circuit.proofs.Public.{lane_zero, reordered, within_there, circuit_there}
@@ -237,98 +236,6 @@ returns-then-is_observed-clause-approach c =
           (λ k lt own none d. (let h = (come k lt own).0 d in
           false≢true (sym (none k (omega arith)) ∙ lanes_both lanes at.lanes k own h.0))),
     )
-
-pub returns-in-Observed-clause-counted : goal.returns-in-Observed-clause-counted
-returns-in-Observed-clause-counted c = λ way w.
-    let o = c.requires.row.stands in
-    let job = c.args.job.now in
-    let circuit = job.circuit in
-    let there = c.args.view.circuit.now.arranged in
-    let arranged = c.requires.view.arranged in
-    let well = c.requires.view.together.circuit.well_formed in
-    let fault = o.0 in
-    let starts = o.2 in
-    let start = starts_there circuit there c.args.view.circuit.now.statements
-    c.args.row.representative
-    c.origin_of-origin.result c.requires.view.part c.origin_of-origin.ensures fault starts in
-    let is : stuck_fault c.origin_of-origin.result.fault ≡ moved_fault circuit there fault =
-    start.moved in
-    let same : w.0 ≡ fault = ap (λ (o : Option Fault). unwrap_or o w.0) (sym w.1
-    ∙ o.1) in
-    let own = subst (λ f. IsWayOfLine circuit f.line way) same w.2 in
-    let on = (same_stems circuit there well (reordered circuit there well arranged)).way
-    fault.line way own in
-    c.follow_within.ensures.counted way
-    (subst (λ f. IsWayOfLine there f.line way) (sym is) on)
-
-pub returns-then-lanes-eq0-clause-counted : goal.returns-then-lanes-eq0-clause-counted
-returns-then-lanes-eq0-clause-counted c = λ way w.
-    let o = c.requires.row.stands in
-    let job = c.args.job.now in
-    let circuit = job.circuit in
-    let there = c.args.view.circuit.now.arranged in
-    let arranged = c.requires.view.arranged in
-    let well = c.requires.view.together.circuit.well_formed in
-    let fault = o.0 in
-    let starts = o.2 in
-    let start = starts_there circuit there c.args.view.circuit.now.statements
-    c.args.row.representative
-    c.origin_of-origin.result c.requires.view.part c.origin_of-origin.ensures fault starts in
-    let is : stuck_fault c.origin_of-origin.result.fault ≡ moved_fault circuit there fault =
-    start.moved in
-    let same : w.0 ≡ fault = ap (λ (o : Option Fault). unwrap_or o w.0) (sym w.1
-    ∙ o.1) in
-    let own = subst (λ f. IsWayOfLine circuit f.line way) same w.2 in
-    let on = (same_stems circuit there well (reordered circuit there well arranged)).way
-    fault.line way own in
-    c.follow_within.ensures.counted way
-    (subst (λ f. IsWayOfLine there f.line way) (sym is) on)
-
-pub returns-else-is_observed-clause-counted : goal.returns-else-is_observed-clause-counted
-returns-else-is_observed-clause-counted c = λ way w.
-    let o = c.requires.row.stands in
-    let job = c.args.job.now in
-    let circuit = job.circuit in
-    let there = c.args.view.circuit.now.arranged in
-    let arranged = c.requires.view.arranged in
-    let well = c.requires.view.together.circuit.well_formed in
-    let fault = o.0 in
-    let starts = o.2 in
-    let start = starts_there circuit there c.args.view.circuit.now.statements
-    c.args.row.representative
-    c.origin_of-origin.result c.requires.view.part c.origin_of-origin.ensures fault starts in
-    let is : stuck_fault c.origin_of-origin.result.fault ≡ moved_fault circuit there fault =
-    start.moved in
-    let same : w.0 ≡ fault = ap (λ (o : Option Fault). unwrap_or o w.0) (sym w.1
-    ∙ o.1) in
-    let own = subst (λ f. IsWayOfLine circuit f.line way) same w.2 in
-    let on = (same_stems circuit there well (reordered circuit there well arranged)).way
-    fault.line way own in
-    c.follow_within.ensures.counted way
-    (subst (λ f. IsWayOfLine there f.line way) (sym is) on)
-
-pub returns-then-is_observed-clause-counted : goal.returns-then-is_observed-clause-counted
-returns-then-is_observed-clause-counted c = λ way w.
-    let o = c.requires.row.stands in
-    let job = c.args.job.now in
-    let circuit = job.circuit in
-    let there = c.args.view.circuit.now.arranged in
-    let arranged = c.requires.view.arranged in
-    let well = c.requires.view.together.circuit.well_formed in
-    let fault = o.0 in
-    let starts = o.2 in
-    let start = starts_there circuit there c.args.view.circuit.now.statements
-    c.args.row.representative
-    c.origin_of-origin.result c.requires.view.part c.origin_of-origin.ensures fault starts in
-    let is : stuck_fault c.origin_of-origin.result.fault ≡ moved_fault circuit there fault =
-    start.moved in
-    let same : w.0 ≡ fault = ap (λ (o : Option Fault). unwrap_or o w.0) (sym w.1
-    ∙ o.1) in
-    let own = subst (λ f. IsWayOfLine circuit f.line way) same w.2 in
-    let on = (same_stems circuit there well (reordered circuit there well arranged)).way
-    fault.line way own in
-    c.follow_within.ensures.counted way
-    (subst (λ f. IsWayOfLine there f.line way) (sym is) on)
 
 pub launch_lanes-requires-clause-stuck : goal.launch_lanes-requires-clause-stuck
 launch_lanes-requires-clause-stuck c = (c.requires.row.stands.0, c.requires.row.stands.2)

@@ -12,7 +12,7 @@ use Rattle.region_sim.specs.Sensitized.{HasBegun}
 use Rattle.block_sim.proofs.Public.{large_enough, large_on}
 use Rattle.region_sim.proofs.RegionHits.{as_many, at_more, at_over, found_more, found_over}
 use Rattle.region_sim.proofs.RegionHits.{known_more, listed_at, open_more, others_more, others_over}
-use Rattle.region_sim.proofs.RegionHits.{settled_from, stems_more, stems_over, ways_more, ways_over}
+use Rattle.region_sim.proofs.RegionHits.{settled_from, stems_more, stems_over}
 use Rattle.region_sim.proofs.PackedRegions.{added_more, added_none}
 use Rattle.region_sim.proofs.region_simulation.follow_region.Goals as goal
 
@@ -49,8 +49,6 @@ loop-place-init c = record {
   places = refl;
   few = omega (arith, c.requires.len);
   capacity = refl;
-  counted = λ way first ways le. omega arith;
-  grown = omega arith;
   room = record { overlay = refl; gates = refl };
   clear = c.requires.clear;
 }
@@ -97,12 +95,6 @@ loop-place-preserved-in-Some c =
       places = before.places;
       few = (let f = before.few in omega (arith, f, up));
       capacity = before.capacity;
-      counted = λ way first ways up.
-          let b = before.counted way first ways up in
-          let sum = ways_over way rows firsts first p q long (omega (arith, up, low)) le within
-          settled in
-          omega (arith, b, sum);
-      grown = before.grown;
       room = before.room;
       clear = before.clear;
     }
@@ -199,15 +191,6 @@ loop-place-preserved c =
       few = (let f = before.few in let len = c.follow_row.ensures.len in
           omega (arith, f, len, up));
       capacity = c.follow_row.ensures.capacity ∙ before.capacity;
-      counted = λ way first ways up.
-          let b = before.counted way first ways up in
-          let more = c.follow_row.ensures.counted way ways in
-          let later : first ≤ p = omega (arith, up, after) in
-          let sum = ways_more way rows firsts first p row long later is c.in-None.ensures in
-          let rest = ways_over way rows firsts first (p + 1) q long (omega (arith, later)) le within
-          settled in
-          omega (arith, b, more, sum, rest);
-      grown = (let a = before.grown in let b = c.follow_row.ensures.grown in omega (arith, a, b));
       room = large_on c.args.changes.now c.loop-place.changes c.follow_row.new.changes before.room
           c.follow_row.ensures.room;
       clear = c.follow_row.ensures.clear;

@@ -1,12 +1,9 @@
-use Rattle.std.proofs.Common.{◌≡◌, ◌⊎◌, ◌+◌, ◌-◌, ◌<◌, ◌≤◌, ℕ, length}
+use Rattle.std.proofs.Common.{◌≡◌, ◌⊎◌, ◌-◌, ◌<◌, ◌≤◌, ℕ, length}
 use Rattle.std.specs.Prelude.{Some, slice_get, vec_capacity, vec_len}
-use Rattle.std.specs.List.{sum_by}
 use Rattle.block_sim.specs.PropagationState.{IsAsLarge, IsClear}
 use Rattle.region_sim.specs.RegionHits.{AreFollowedAt, AreOpen, HasAdded, HaveFirstsBut, HaveStem}
-use Rattle.region_sim.specs.RegionHits.{open_between}
 use Rattle.flat_circuit.specs.Readers.{IsObserved}
 use Rattle.region_sim.specs.Sensitized.{HasBegun, IsSameRegion}
-use Rattle.region_sim.specs.KnownWays.{AreWays}
 use Rattle.region_sim.proofs.region_simulation.follow_region.Given as goal
 
 abbrev pub invariant-loop-place : goal.invariant-loop-place
@@ -32,10 +29,6 @@ invariant-loop-place l = record {
   places : length l.hits ≡ length l.fn.hits;
   few : vec_len l.followed ≤ l.place;
   capacity : vec_capacity l.followed ≡ vec_capacity l.fn.followed;
-  counted : (way : ℕ → ℕ) (first : ℕ) → AreWays l.job way → first ≤ l.from
-      → l.changes.evaluations + sum_by way (open_between l.rows l.firsts first l.from)
-      ≤ l.fn.changes.evaluations + sum_by way (open_between l.rows l.firsts first l.place);
-  grown : l.fn.changes.evaluations ≤ l.changes.evaluations;
   room : IsAsLarge l.fn.changes l.changes;
   clear : IsClear l.changes;
 }

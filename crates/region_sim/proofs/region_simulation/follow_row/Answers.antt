@@ -1,5 +1,5 @@
 use Rattle.std.proofs.Common.{inl, inr, refl, subst}
-use Rattle.region_sim.specs.Simulation.{HasArrived}
+use Rattle.region_sim.specs.Arrivals.{HasArrived}
 use Rattle.region_sim.proofs.RegionHits.{first_of_word}
 use Rattle.region_sim.proofs.region_simulation.follow_row.Goals as goal
 
@@ -15,11 +15,6 @@ returns-in-Known-clause-found c = inl (
   c.keep.ensures,
 )
 
-pub returns-in-Known-clause-counted : goal.returns-in-Known-clause-counted
-returns-in-Known-clause-counted c = λ way ways.
-    c.follow_listed.ensures.counted (way c.args.row.class)
-    (ways c.args.row.class c.requires.row.within)
-
 pub returns-in-Stem-clause-found : goal.returns-in-Stem-clause-found
 returns-in-Stem-clause-found c =
     let row = c.args.row in
@@ -33,11 +28,6 @@ returns-in-Stem-clause-found c =
           (c.in-Stem.ensures.stem at refl) c.in-Stem.ensures.approach.1,
       c.push_reserved.ensures.items,
     )
-
-pub returns-in-Stem-clause-counted : goal.returns-in-Stem-clause-counted
-returns-in-Stem-clause-counted c = λ way ways.
-    c.follow_listed.ensures.counted (way c.args.row.class)
-    (ways c.args.row.class c.requires.row.within)
 
 pub returns-in-Known-clause-hidden : goal.returns-in-Known-clause-hidden
 returns-in-Known-clause-hidden c = inl refl

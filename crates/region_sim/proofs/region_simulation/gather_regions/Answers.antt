@@ -1,7 +1,6 @@
 use Rattle.std.proofs.Common.{◌∙◌, ap, arith, inl, inr, length, refl}
 use Rattle.block_sim.proofs.Public.{large_enough, large_on}
 use Rattle.region_sim.proofs.PackedRegions.{gathered_none}
-use Rattle.region_sim.proofs.RegionHits.{ways_none}
 use Rattle.region_sim.proofs.region_simulation.gather_regions.Goals as goal
 
 pub loop-at-init : goal.loop-at-init
@@ -19,9 +18,6 @@ loop-at-init c = record {
   places = refl;
   classes = refl;
   slots = refl;
-  counted = λ way ways. let none = ways_none way c.args.rows.now c.args.firsts.now c.args.from in
-      omega (arith, none);
-  grown = omega arith;
   room = record { overlay = refl; gates = refl };
   regions = record { known = refl; path = refl };
   clear = c.requires.clear;
@@ -84,11 +80,6 @@ loop-at-preserved c =
       places = step.places ∙ before.places;
       classes = step.capacity.0 ∙ before.classes;
       slots = step.capacity.1 ∙ before.slots;
-      counted = λ way ways.
-          let b = before.counted way ways in
-          let more = step.counted way c.args.from ways low in
-          omega (arith, b, more);
-      grown = (let a = before.grown in let b = step.grown in omega (arith, a, b));
       room = large_on c.args.changes.now c.loop-at.changes c.add_region-at.new.changes before.room
           step.room;
       regions = (let next = step.regions in record {

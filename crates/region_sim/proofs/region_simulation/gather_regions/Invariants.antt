@@ -1,9 +1,7 @@
-use Rattle.std.proofs.Common.{◌≡◌, ◌⊎◌, ◌+◌, ◌-◌, ◌<◌, ◌≤◌, ℕ, [], length}
+use Rattle.std.proofs.Common.{◌≡◌, ◌⊎◌, ◌-◌, ◌<◌, ◌≤◌, ℕ, [], length}
 use Rattle.std.specs.Prelude.{Some, slice_get, vec_capacity, vec_len}
-use Rattle.std.specs.List.{sum_by}
 use Rattle.block_sim.specs.PropagationState.{IsAsLarge, IsClear}
-use Rattle.region_sim.specs.RegionHits.{AreGathered, HasSameRoom, open_between}
-use Rattle.region_sim.specs.KnownWays.{AreWays}
+use Rattle.region_sim.specs.RegionHits.{AreGathered, HasSameRoom}
 use Rattle.region_sim.proofs.region_simulation.gather_regions.Given as goal
 
 abbrev pub invariant-loop-at : goal.invariant-loop-at
@@ -22,9 +20,6 @@ invariant-loop-at l = record {
   places : length l.hits ≡ length l.fn.hits;
   classes : vec_capacity l.followed ≡ vec_capacity l.fn.followed;
   slots : vec_capacity l.stems ≡ vec_capacity l.fn.stems;
-  counted : (way : ℕ → ℕ) → AreWays l.job way → l.changes.evaluations ≤ l.fn.changes.evaluations
-      + sum_by way (open_between l.rows l.firsts l.from l.at);
-  grown : l.fn.changes.evaluations ≤ l.changes.evaluations;
   room : IsAsLarge l.fn.changes l.changes;
   regions : HasSameRoom l.fn.region l.region;
   clear : IsClear l.changes;

@@ -1,9 +1,8 @@
-use Rattle.std.proofs.Common.{◌≡◌, ◌+◌, ◌<◌, ◌≤◌, ◌-◌, ℕ, length}
+use Rattle.std.proofs.Common.{◌≡◌, ◌<◌, ◌≤◌, ◌-◌, ℕ, length}
 use Rattle.std.specs.Prelude.{vec_capacity, vec_len}
 use Rattle.bench_net.specs.Scan.{names}
 use Rattle.flat_circuit.specs.Regions.{IsStemOf, LeadsTo}
 use Rattle.region_sim.specs.Sensitized.{IsPathTo, on_from}
-use Rattle.block_sim.specs.Ways.{steps}
 use Rattle.region_sim.proofs.sensitized.climb.Given as goal
 
 abbrev pub invariant-loop-lanes : goal.invariant-loop-lanes
@@ -14,8 +13,7 @@ invariant-loop-lanes l = record {
   few : vec_len l.path ≤ l.at;
   capacity : vec_capacity l.path ≡ vec_capacity l.fn.path;
   left : (r : ℕ) (chain : IsStemOf l.circuit.arranged r l.fn.signal)
-      → (more : LeadsTo l.circuit.arranged l.at r)
-      × (vec_len l.path + steps more ≤ steps chain.0);
+      → LeadsTo l.circuit.arranged l.at r;
 }
 
 abbrev pub decreases-loop-lanes : goal.decreases-loop-lanes

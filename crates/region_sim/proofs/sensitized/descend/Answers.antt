@@ -20,8 +20,6 @@ loop-signal-init c = record {
   );
   signals = refl;
   capacity = refl;
-  counted = omega arith;
-  grown = omega arith;
   room = large_none c.args.changes.now;
   clear = c.requires.clear;
 }
@@ -87,8 +85,6 @@ loop-signal-preserved c =
       signals = ap length c.keep.ensures
           ∙ (length-set c.loop-signal.known s (Some c.lanes_before-lanes.result) ∙ last.signals);
       capacity = c.in-Some.ensures.capacity ∙ last.capacity;
-      counted = omega (arith, last.counted, next.counted, len);
-      grown = omega (arith, last.grown, next.grown);
       room = large_on c.args.changes.now c.loop-signal.changes c.lanes_before-lanes.new.changes
           last.room next.room;
       clear = next.clear;

@@ -1,4 +1,4 @@
-use Rattle.std.proofs.Common.{◌≡◌, ◌+◌, ◌≤◌, ℕ, List, length}
+use Rattle.std.proofs.Common.{◌≡◌, ℕ, List, length}
 use Rattle.std.specs.Prelude.{None, Some, slice_index_or, vec_capacity, vec_len}
 use Rattle.fault_model.specs.Solution.{Test}
 use Rattle.block_sim.specs.PropagationState.{IsAsLarge, IsClear}
@@ -18,9 +18,6 @@ invariant-loop-signal l = record {
       → CarriesFlip l.view.circuit.now.arranged tests group mask l.at.signal stem l.at.lanes);
   signals : length l.known ≡ length l.fn.known;
   capacity : vec_capacity l.path ≡ vec_capacity l.fn.path;
-  counted : l.changes.evaluations + vec_len l.path
-      ≤ l.fn.changes.evaluations + vec_len l.fn.path;
-  grown : l.fn.changes.evaluations ≤ l.changes.evaluations;
   room : IsAsLarge l.fn.changes l.changes;
   clear : IsClear l.changes;
 }

@@ -1,4 +1,4 @@
-use Rattle.std.proofs.Common.{◌≡◌, ◌∙◌, arith, refl, subst, sym}
+use Rattle.std.proofs.Common.{◌≡◌, ◌∙◌, refl, subst, sym}
 use Rattle.std.specs.Prelude.{Some}
 use Rattle.flat_circuit.specs.Regions.{IsStemOf}
 use Rattle.flat_circuit.specs.Stuck.{stuck_fault}
@@ -11,11 +11,6 @@ returns-then-from-eq0-clause-reached c = λ tests group words.
     come_nowhere c.args.view.circuit.now.arranged tests group (stuck_fault c.args.origin.fault)
     c.args.view.lanes c.in-Stem.from.signal c.args.region.now.stem c.in-Stem.from.lanes
     c.if-from-eq0.true (c.in-Stem.ensures.reached tests group words)
-
-pub returns-then-from-eq0-clause-counted : goal.returns-then-from-eq0-clause-counted
-returns-then-from-eq0-clause-counted c = λ way w.
-    let left = c.in-Stem.ensures.left c.in-Stem.from way refl w in
-    omega (arith, left.2)
 
 pub lanes_of-requires-clause-leads : goal.lanes_of-requires-clause-leads
 lanes_of-requires-clause-leads c =
@@ -31,9 +26,3 @@ returns-else-from-eq0-clause-reached c = λ tests group words.
     c.args.view.lanes c.args.region.now.lanes c.in-Stem.from.signal c.args.region.now.stem
     c.in-Stem.from.lanes c.lanes_of.result c.requires.inside
     (c.in-Stem.ensures.reached tests group words) (c.lanes_of.ensures.detection tests group words)
-
-pub returns-else-from-eq0-clause-counted : goal.returns-else-from-eq0-clause-counted
-returns-else-from-eq0-clause-counted c = λ way w.
-    let left = c.in-Stem.ensures.left c.in-Stem.from way refl w in
-    let more = c.lanes_of.ensures.counted left.0 left.1 in
-    omega (arith, more, left.2)

@@ -13,7 +13,6 @@ use Rattle.flat_circuit.specs.Origins.{IsStuckOf}
 use Rattle.flat_circuit.specs.Regions.{IsStemOfLine}
 use Rattle.flat_circuit.specs.Stuck.{stuck_fault}
 use Rattle.region_sim.specs.Units.{HaveCome, IsWideReached, group_in}
-use Rattle.block_sim.specs.Ways.{IsWayOfLine}
 use Rattle.flat_circuit.specs.Words.{lane, test_of}
 use Rattle.flat_circuit.proofs.Public.{reordered, within_there, circuit_there, listed_there}
 use Rattle.flat_circuit.proofs.Public.{starts_there, lane_zero, same_readers}
@@ -269,95 +268,3 @@ returns-else-is_observed-clause-hidden c = λ lanes e observed.
     false≢true (sym c.if-is_observed.false ∙ c.is_observed.ensures.1
     (subst (IsObserved c.args.view.circuit.now.arranged)
     (sym (c.in-Stem.ensures.stem c.in-Stem.at refl)) observed))
-
-pub returns-in-Observed-clause-counted : goal.returns-in-Observed-clause-counted
-returns-in-Observed-clause-counted c = λ way w.
-    let job = c.args.job.now in
-    let circuit = job.circuit in
-    let there = c.args.view.circuit.now.arranged in
-    let view = c.requires.view in
-    let arranged = view.arranged in
-    let well = view.together.circuit.well_formed in
-    let o = c.requires.row.stands in
-    let fault = o.0 in
-    let starts = o.2 in
-    let start = starts_there circuit there c.args.view.circuit.now.statements
-    c.args.row.representative c.origin_of-origin.result view.part c.origin_of-origin.ensures fault
-    starts in
-    let is : stuck_fault c.origin_of-origin.result.fault ≡ moved_fault circuit there fault =
-    start.moved in
-    let same : w.0 ≡ fault = ap (λ (o : Option Fault). unwrap_or o w.0) (sym w.1 ∙ o.1) in
-    let own = subst (λ f. IsWayOfLine circuit f.line way) same w.2 in
-    let on = (same_stems circuit there well (reordered circuit there well arranged)).way
-    fault.line way own in
-    c.follow_to_stem.ensures.counted way
-    (subst (λ f. IsWayOfLine there f.line way) (sym is) on)
-
-pub returns-then-is_none-clause-counted : goal.returns-then-is_none-clause-counted
-returns-then-is_none-clause-counted c = λ way w.
-    let job = c.args.job.now in
-    let circuit = job.circuit in
-    let there = c.args.view.circuit.now.arranged in
-    let view = c.requires.view in
-    let arranged = view.arranged in
-    let well = view.together.circuit.well_formed in
-    let o = c.requires.row.stands in
-    let fault = o.0 in
-    let starts = o.2 in
-    let start = starts_there circuit there c.args.view.circuit.now.statements
-    c.args.row.representative c.origin_of-origin.result view.part c.origin_of-origin.ensures fault
-    starts in
-    let is : stuck_fault c.origin_of-origin.result.fault ≡ moved_fault circuit there fault =
-    start.moved in
-    let same : w.0 ≡ fault = ap (λ (o : Option Fault). unwrap_or o w.0) (sym w.1 ∙ o.1) in
-    let own = subst (λ f. IsWayOfLine circuit f.line way) same w.2 in
-    let on = (same_stems circuit there well (reordered circuit there well arranged)).way
-    fault.line way own in
-    c.follow_to_stem.ensures.counted way
-    (subst (λ f. IsWayOfLine there f.line way) (sym is) on)
-
-pub returns-then-is_observed-clause-counted : goal.returns-then-is_observed-clause-counted
-returns-then-is_observed-clause-counted c = λ way w.
-    let job = c.args.job.now in
-    let circuit = job.circuit in
-    let there = c.args.view.circuit.now.arranged in
-    let view = c.requires.view in
-    let arranged = view.arranged in
-    let well = view.together.circuit.well_formed in
-    let o = c.requires.row.stands in
-    let fault = o.0 in
-    let starts = o.2 in
-    let start = starts_there circuit there c.args.view.circuit.now.statements
-    c.args.row.representative c.origin_of-origin.result view.part c.origin_of-origin.ensures fault
-    starts in
-    let is : stuck_fault c.origin_of-origin.result.fault ≡ moved_fault circuit there fault =
-    start.moved in
-    let same : w.0 ≡ fault = ap (λ (o : Option Fault). unwrap_or o w.0) (sym w.1 ∙ o.1) in
-    let own = subst (λ f. IsWayOfLine circuit f.line way) same w.2 in
-    let on = (same_stems circuit there well (reordered circuit there well arranged)).way
-    fault.line way own in
-    c.follow_to_stem.ensures.counted way
-    (subst (λ f. IsWayOfLine there f.line way) (sym is) on)
-
-pub returns-else-is_observed-clause-counted : goal.returns-else-is_observed-clause-counted
-returns-else-is_observed-clause-counted c = λ way w.
-    let job = c.args.job.now in
-    let circuit = job.circuit in
-    let there = c.args.view.circuit.now.arranged in
-    let view = c.requires.view in
-    let arranged = view.arranged in
-    let well = view.together.circuit.well_formed in
-    let o = c.requires.row.stands in
-    let fault = o.0 in
-    let starts = o.2 in
-    let start = starts_there circuit there c.args.view.circuit.now.statements
-    c.args.row.representative c.origin_of-origin.result view.part c.origin_of-origin.ensures fault
-    starts in
-    let is : stuck_fault c.origin_of-origin.result.fault ≡ moved_fault circuit there fault =
-    start.moved in
-    let same : w.0 ≡ fault = ap (λ (o : Option Fault). unwrap_or o w.0) (sym w.1 ∙ o.1) in
-    let own = subst (λ f. IsWayOfLine circuit f.line way) same w.2 in
-    let on = (same_stems circuit there well (reordered circuit there well arranged)).way
-    fault.line way own in
-    c.follow_to_stem.ensures.counted way
-    (subst (λ f. IsWayOfLine there f.line way) (sym is) on)

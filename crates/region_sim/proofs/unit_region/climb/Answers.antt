@@ -15,13 +15,8 @@ loop-lanes-init c = record {
   first = ap (λ l. on_from l c.args.signal) c.clear.ensures.items;
   few = omega (arith, c.clear.ensures.len);
   capacity = c.clear.ensures.capacity;
-  left = λ r chain. (chain.0, omega (arith, c.clear.ensures.len));
+  left = λ r chain. chain.0;
 }
-
-pub returns-in-Some-clause-short : goal.returns-in-Some-clause-short
-returns-in-Some-clause-short c = λ way w.
-    let left = c.loop-lanes.invariant.left w.0 w.1 in
-    omega (arith, left.1, w.2)
 
 pub loop-lanes-smaller : goal.loop-lanes-smaller
 loop-lanes-smaller c =
@@ -56,10 +51,7 @@ loop-lanes-preserved c =
           ∙ (same_first items at gate ∙ last.first);
       few = omega (arith, few, len, rise);
       capacity = c.push_reserved.ensures.capacity ∙ last.capacity;
-      left = λ r chain.
-          let before = last.left r chain in
-          let now = one_less circuit gate chain.1 alone before.0 in
-          (now.0, omega (arith, before.1, now.1, len));
+      left = λ r chain. (one_less circuit gate chain.1 alone (last.left r chain)).0;
     }
 
 pub unreachable-requires : goal.unreachable-requires
@@ -69,7 +61,7 @@ unreachable-requires c =
     let own = c.requires.leads in
     let left = c.loop-lanes.invariant.left own.0 own.1 in
     let none : lone_reader circuit at ≡ None = sym c.in-None.ensures in
-    let same : own.0 ≡ at = one_stem_law circuit at own.0 at (left.0, own.1.1) (here, none) in
+    let same : own.0 ≡ at = one_stem_law circuit at own.0 at (left, own.1.1) (here, none) in
     let known : slice_index_or c.args.known.now at None ≡ Some own.2 =
     ap (λ s. slice_index_or c.args.known.now s None) (sym same) ∙ own.3 in
     let bad : None ≡ Some own.2 = c.in_default.ensures ∙ known in

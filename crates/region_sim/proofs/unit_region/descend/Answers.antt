@@ -22,8 +22,6 @@ loop-signal-init g c = record {
   );
   signals = refl;
   capacity = refl;
-  counted = omega arith;
-  grown = omega arith;
 }
 
 pub lanes_before-lanes-requires-clause-read : goal.lanes_before-lanes-requires-clause-read
@@ -74,7 +72,7 @@ loop-signal-preserved g c =
           let now = last.known stem before e in
           let own : (tests : List Test) (group : ℕ → ℕ) → AreRows circuit tests layout group good
           → CarryFlip circuit tests layout group s stem (number word) =
-          λ tests group rows. next.carries tests group stem rows (now.1 tests group rows)
+          λ tests group rows. next tests group stem rows (now.1 tests group rows)
           in (
             subst (AreKnownInUnit circuit layout good stem) (sym c.keep.ensures)
                 (known_more c.loop-signal.known s word within circuit layout good stem now.0 own),
@@ -83,8 +81,6 @@ loop-signal-preserved g c =
       signals = ap length c.keep.ensures
           ∙ (length-set c.loop-signal.known s (Some word) ∙ last.signals);
       capacity = c.in-Some.ensures.capacity ∙ last.capacity;
-      counted = omega (arith, last.counted, next.counted, len);
-      grown = omega (arith, last.grown, next.grown);
     }
 
 pub returns-clause-carries : goal.returns-clause-carries

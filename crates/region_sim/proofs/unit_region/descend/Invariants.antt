@@ -1,4 +1,4 @@
-use Rattle.std.proofs.Common.{◌≡◌, ◌+◌, ◌≤◌, ℕ, List, length}
+use Rattle.std.proofs.Common.{◌≡◌, ℕ, List, length}
 use Rattle.std.specs.Prelude.{None, Some, slice_index_or, vec_capacity, vec_len}
 use Rattle.fault_model.specs.Solution.{Test}
 use Rattle.wide_words.specs.Wide.{number}
@@ -22,8 +22,6 @@ invariant-loop-signal g l = record {
       (number l.at.lanes));
   signals : length l.known ≡ length l.fn.known;
   capacity : vec_capacity l.path ≡ vec_capacity l.fn.path;
-  counted : l.evaluations + vec_len l.path ≤ l.fn.evaluations + vec_len l.fn.path;
-  grown : l.fn.evaluations ≤ l.evaluations;
 }
 
 abbrev pub decreases-loop-signal : goal.decreases-loop-signal

@@ -25,8 +25,8 @@ pass-requires-clause-driven g c =
           r.number r.gate,
     )
 
-pub returns-then-is_none-clause-carries : goal.returns-then-is_none-clause-carries
-returns-then-is_none-clause-carries g c = λ tests group stem rows carried.
+pub returns-then-is_none : goal.returns-then-is_none
+returns-then-is_none g c = λ tests group stem rows carried.
     let empty : number c.args.gate.lanes ≡ 0 = c.is_none.ensures.0 c.if-is_none.true in
     carry_before c.args.circuit.now.arranged tests g.C.Copies.layout group stem c.args.signal
     c.args.gate.signal (number c.args.gate.lanes) (number c.none.result)
@@ -38,8 +38,8 @@ returns-then-is_none-clause-carries g c = λ tests group stem rows carried.
     (λ k lt on e. absurd (false≢true (sym (lane_zero k)
     ∙ (sym (ap (λ w. lane w k) empty) ∙ on))))
 
-pub returns-clause-carries : goal.returns-clause-carries
-returns-clause-carries g c = λ tests group stem rows carried.
+pub returns : goal.returns
+returns g c = λ tests group stem rows carried.
     let circuit = c.args.circuit.now.arranged in
     let well = c.requires.circuit.well_formed in
     let layout = g.C.Copies.layout in

@@ -2,10 +2,10 @@ use Rattle.std.proofs.Common.{ap, arith, subst, sym}
 use Rattle.std.specs.Prelude.{vec_capacity}
 use Rattle.wide_words.specs.Layouts.{both_layout}
 use Rattle.wide_words.specs.Wide.{number}
-use Rattle.region_sim.specs.Pack.{AreSlots, HasActiveByPack, TellsPack}
-use Rattle.region_sim.specs.Units.{group_in, unit_rows}
+use Rattle.region_sim.specs.Pack.{AreSlots, TellsPack}
+use Rattle.region_sim.specs.Units.{group_in}
 use Rattle.flat_circuit.proofs.Public.{count_there, reordered, circuit_there}
-use Rattle.region_sim.proofs.UnitFlips.{found_in_unit, unit_active, unit_slots}
+use Rattle.region_sim.proofs.UnitFlips.{found_in_unit, unit_slots}
 use Rattle.region_sim.proofs.unit_simulation.flip_unit.Goals as goal
 
 pub propagate-seen-requires-clause-circuit : goal.propagate-seen-requires-clause-circuit
@@ -53,22 +53,6 @@ returns-clause-found c = λ signal rows firsts from to moved arrived at found.
     (c.propagate-seen.ensures.detected job.tests.tests (group_in c.args.group) view.fault_free))
     rows firsts from to c.args.hits.now c.conclude_unit.new.hits
     c.requires.full arrived at found c.conclude_unit.ensures.kept c.conclude_unit.ensures.concluded
-
-pub returns-clause-counted : goal.returns-clause-counted
-returns-clause-counted c = λ gates has.
-    let job = c.args.job.now in
-    let tests = job.tests.tests in
-    let there = c.args.view.circuit.now.arranged in
-    let view = c.requires.view in
-    let is = circuit_there job.circuit there view.together.circuit view.arranged in
-    let slots = c.give_slots.new.slots.items in
-    let good = unit_rows c.args.view in
-    c.propagate-seen.ensures.counted tests (group_in c.args.group) gates view.fault_free
-    (subst (λ l. HasActiveByPack both_layout there tests (group_in c.args.group) good slots l gates)
-    (sym c.as_slice.ensures.value)
-    (unit_active c.args.stem c.args.came.now slots c.give_slots.new.followed.items
-    c.give_slots.ensures.parted there is.well_formed tests c.args.group c.requires.full good
-    view.fault_free c.requires.stem gates has))
 
 pub returns-clause-room : goal.returns-clause-room
 returns-clause-room c = record {

@@ -42,11 +42,6 @@ returns-in-Known-clause-found c = inl (
   c.keep-in-Known.ensures,
 )
 
-pub returns-in-Known-clause-counted : goal.returns-in-Known-clause-counted
-returns-in-Known-clause-counted c = λ way ways.
-    c.approach.ensures.counted (way c.args.row.class)
-    (ways c.args.row.class c.requires.row.within)
-
 pub returns-in-AtStem-clause-found : goal.returns-in-AtStem-clause-found
 returns-in-AtStem-clause-found c =
     inr (
@@ -57,11 +52,6 @@ returns-in-AtStem-clause-found c =
       c.in-AtStem.ensures.approach,
       c.push_reserved.ensures.items,
     )
-
-pub returns-in-AtStem-clause-counted : goal.returns-in-AtStem-clause-counted
-returns-in-AtStem-clause-counted c = λ way ways.
-    c.approach.ensures.counted (way c.args.row.class)
-    (ways c.args.row.class c.requires.row.within)
 
 pub returns-in-Known-clause-hidden : goal.returns-in-Known-clause-hidden
 returns-in-Known-clause-hidden c = inl refl

@@ -14,7 +14,7 @@ use Rattle.region_sim.proofs.FollowedRows.{each_over}
 use Rattle.region_sim.proofs.FollowedUnits.{arrived_more, as_many, at_more, at_over, found_more}
 use Rattle.region_sim.proofs.FollowedUnits.{known_more, one_more, open_more, others_more}
 use Rattle.region_sim.proofs.RegionHits.{listed_at, others_over, settled_from, stems_more}
-use Rattle.region_sim.proofs.RegionHits.{stems_over, ways_more, ways_over}
+use Rattle.region_sim.proofs.RegionHits.{stems_over}
 use Rattle.region_sim.proofs.unit_simulation.follow_unit.Goals as goal
 
 -- two rows at one place have one stem
@@ -56,8 +56,6 @@ loop-place-init c = record {
   known = λ place test e. refl;
   places = refl;
   capacity = refl;
-  counted = λ way ways. omega arith;
-  grown = omega arith;
   region = c.requires.region;
   same = record { stem = refl; known = refl; path = refl };
 }
@@ -103,11 +101,6 @@ loop-place-preserved-in-Some c =
       known = before.known;
       places = before.places;
       capacity = before.capacity;
-      counted = λ way ways.
-          let b = before.counted way ways in
-          let sum = ways_over way rows firsts from p q long after le within settled in
-          omega (arith, b, sum);
-      grown = before.grown;
       region = before.region;
       same = before.same;
     }
@@ -191,15 +184,6 @@ loop-place-preserved c =
           c.in-None.ensures before.known;
       places = as_many job group row p was classes old hits step ∙ before.places;
       capacity = c.follow_row_in_unit.ensures.capacity ∙ before.capacity;
-      counted = λ way ways.
-          let b = before.counted way ways in
-          let more = c.follow_row_in_unit.ensures.counted way ways in
-          let sum = ways_more way rows firsts from p row long after is c.in-None.ensures in
-          let rest = ways_over way rows firsts from (p + 1) q long (omega (arith, after)) le within
-          settled in
-          omega (arith, b, more, sum, rest);
-      grown = (let a = before.grown in let b = c.follow_row_in_unit.ensures.grown in
-          omega (arith, a, b));
       region = c.follow_row_in_unit.ensures.region;
       same = (let next = c.follow_row_in_unit.ensures.same in record {
         stem = next.stem ∙ before.same.stem;

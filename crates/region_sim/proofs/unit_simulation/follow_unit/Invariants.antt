@@ -1,13 +1,11 @@
-use Rattle.std.proofs.Common.{◌≡◌, ◌⊎◌, ◌+◌, ◌-◌, ◌<◌, ◌≤◌, ℕ, [], length}
+use Rattle.std.proofs.Common.{◌≡◌, ◌⊎◌, ◌-◌, ◌<◌, ◌≤◌, ℕ, [], length}
 use Rattle.std.specs.Prelude.{Some, slice_get, vec_capacity}
-use Rattle.std.specs.List.{sum_by}
 use Rattle.wide_words.specs.Layouts.{both_layout}
 use Rattle.flat_circuit.specs.Readers.{IsObserved}
-use Rattle.region_sim.specs.RegionHits.{HaveStem, open_between}
+use Rattle.region_sim.specs.RegionHits.{HaveStem}
 use Rattle.region_sim.specs.UnitHits.{AreClassesAt, AreClassesOpen, HaveArrivedInUnit}
 use Rattle.region_sim.specs.UnitHits.{HaveFirstsBeside}
 use Rattle.region_sim.specs.Units.{IsSameUnitRegion, IsUnitRegion, unit_rows}
-use Rattle.region_sim.specs.KnownWays.{AreWays}
 use Rattle.region_sim.proofs.unit_simulation.follow_unit.Given as goal
 
 abbrev pub invariant-loop-place : goal.invariant-loop-place
@@ -28,10 +26,6 @@ invariant-loop-place l = record {
       → slice_get l.hits place ≡ slice_get l.fn.hits place;
   places : length l.hits ≡ length l.fn.hits;
   capacity : vec_capacity l.classes ≡ vec_capacity l.fn.classes;
-  counted : (way : ℕ → ℕ) → AreWays l.job way
-      → l.evaluations
-      ≤ l.fn.evaluations + sum_by way (open_between l.rows l.firsts l.from l.place);
-  grown : l.fn.evaluations ≤ l.evaluations;
   region : IsUnitRegion l.view.circuit.now.arranged both_layout (unit_rows l.view) l.region;
   same : IsSameUnitRegion l.fn.region l.region;
 }

@@ -1,18 +1,15 @@
-use Rattle.std.proofs.Common.{◌≡◌, ◌<◌, ◌∙◌, ap, arith, inl, inr, length, map, subst, sym}
+use Rattle.std.proofs.Common.{◌≡◌, ◌<◌, ◌∙◌, ap, arith, inl, inr, length, subst, sym}
 use Rattle.std.specs.Prelude.{◌==◌, Contains, None, Some, slice_get}
 use Rattle.std.proofs.lemmas.Bool.{false≢true}
 use Rattle.std.proofs.lemmas.Bool.Decides.{Decides-eqb}
-use Rattle.std.proofs.lemmas.List.{length-map, nil_from_length}
+use Rattle.std.proofs.lemmas.List.{nil_from_length}
 use Rattle.bench_net.specs.Scan.{names}
 use Rattle.fault_model.specs.Reordered.{place}
 use Rattle.wide_words.specs.Layouts.{both_layout}
 use Rattle.flat_circuit.specs.Readers.{IsObserved}
-use Rattle.region_sim.specs.RegionHits.{IsOpenAt}
 use Rattle.region_sim.specs.UnitHits.{AreClassesAt, HaveArrivedInUnit, HaveFirstsBeside, IsClassAt}
-use Rattle.region_sim.specs.Units.{unit_rows, unit_span}
-use Rattle.block_sim.specs.Ways.{HasActiveByFlip}
-use Rattle.flat_circuit.proofs.Public.{count_there, reordered, circuit_there}
-use Rattle.block_sim.proofs.Public.{same_active}
+use Rattle.region_sim.specs.Units.{unit_rows}
+use Rattle.flat_circuit.proofs.Public.{count_there, circuit_there}
 use Rattle.region_sim.proofs.RegionHits.{listed_at, settled_from}
 use Rattle.region_sim.proofs.UnitFlips.{none_came, settled_firsts}
 use Rattle.region_sim.proofs.unit_simulation.simulate_unit.Goals as goal
@@ -153,32 +150,6 @@ returns-clause-known c = λ place test e.
     sym idle ∙ (ap (slice_get c.args.firsts.now) h.2 ∙ e) in
     cc in
     c.flip_unit.ensures.kept place none ∙ step.known place test e
-
-pub returns-clause-counted : goal.returns-clause-counted
-returns-clause-counted c = λ way gates ways active.
-    let job = c.args.job.now in
-    let circuit = job.circuit in
-    let tests = job.tests.tests in
-    let span = unit_span c.args.group in
-    let there = c.unit_view-view.result.circuit.now.arranged in
-    let view = c.unit_view-view.ensures in
-    let well = view.together.circuit.well_formed in
-    let row = c.row_at-number.result in
-    let step = c.follow_unit-end.ensures in
-    let moved = map (place circuit there) gates in
-    let place_is : c.place_of-stem.result ≡ place circuit there row.stem =
-    c.place_of-stem.ensures.place ∙ ap (λ x. place x there row.stem) view.part in
-    let idle : IsOpenAt c.args.rows.now c.args.firsts.now c.args.from row = record {
-      row_is = c.row_at-number.ensures;
-      unknown = c.in-None.ensures;
-    } in
-    let turned = c.flip_unit.ensures.counted moved
-    (subst (λ s. HasActiveByFlip there tests span s moved) (sym place_is)
-    ((same_active circuit there well (reordered circuit there well view.arranged)).by_flip tests
-    span row.stem gates (active c.args.from row (omega arith) step.low idle))) in
-    let before = step.counted way ways in
-    let long = length-map gates (place circuit there) in
-    omega (arith, turned, before, long)
 
 pub returns-clause-unit : goal.returns-clause-unit
 returns-clause-unit c =

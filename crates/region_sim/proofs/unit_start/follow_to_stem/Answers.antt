@@ -1,15 +1,12 @@
-use Rattle.std.proofs.Common.{◌≡◌, ◌≤◌, ◌+◌, ◌∙◌, ap, arith, refl, subst, sym}
+use Rattle.std.proofs.Common.{◌≡◌, ◌∙◌, ap, refl, subst, sym}
 use Rattle.std.specs.Prelude.{None, Some}
 use Rattle.wide_words.specs.Wide.{number}
-use Rattle.region_sim.specs.declared.unit_start.WideReach.{WideReach}
-use Rattle.region_sim.specs.declared.unit_start.WideReach.TheVariants.{Observed, Stem}
 use Rattle.block_sim.specs.Flips.{start_of}
 use Rattle.flat_circuit.specs.Stuck.{stuck_fault}
 use Rattle.region_sim.specs.Units.{CarryFlip, HaveCome}
-use Rattle.block_sim.specs.Ways.{IsWay}
 use Rattle.flat_circuit.specs.Words.{lane}
 use Rattle.flat_circuit.proofs.Public.{lane_zero}
-use Rattle.region_sim.proofs.UnitStarts.{come_to_dead, come_to_stem, start_within, way_of_start}
+use Rattle.region_sim.proofs.UnitStarts.{come_to_dead, come_to_stem, start_within}
 use Rattle.region_sim.proofs.unit_start.follow_to_stem.Goals as goal
 
 pub lanes_of-at-requires-clause-within : goal.lanes_of-at-requires-clause-within
@@ -28,21 +25,6 @@ returns-then-is_none-clause-reached g c = λ tests group rows.
     (c.lanes_of-at.ensures.carries tests group rows)
     (λ k. ap (λ w. lane w k) empty ∙ lane_zero k)
 
-pub returns-then-is_none-clause-counted : goal.returns-then-is_none-clause-counted
-returns-then-is_none-clause-counted g c = λ way w.
-    let more = way_of_start c.args.circuit.now.arranged c.args.origin.fault.line c.in-Some.first way
-    (sym c.first_signal.ensures ∙ c.in-Some.is) w in
-    let at = c.lanes_of-at.ensures.counted more.0 more.1 in
-    omega (arith, at, more.2)
-
-pub returns-in-Observed-clause-counted : goal.returns-in-Observed-clause-counted
-returns-in-Observed-clause-counted g c = λ way w.
-    let more = way_of_start c.args.circuit.now.arranged c.args.origin.fault.line c.in-Some.first way
-    (sym c.first_signal.ensures ∙ c.in-Some.is) w in
-    let at = c.lanes_of-at.ensures.counted more.0 more.1 in
-    let same = c.in-Observed.ensures.seen c.in-Observed.word refl in
-    omega (arith, at, more.2, same)
-
 pub returns-in-Stem-clause-reached : goal.returns-in-Stem-clause-reached
 returns-in-Stem-clause-reached g c = λ tests group rows.
     let circuit = c.args.circuit.now.arranged in
@@ -59,32 +41,8 @@ returns-in-Stem-clause-reached g c = λ tests group rows.
     (subst (λ s. CarryFlip circuit tests g.C.Copies.layout group s c.args.region.now.stem
     (number c.lanes_of-at.result)) same (c.lanes_of-at.ensures.carries tests group rows)))
 
-pub returns-in-Stem-clause-counted : goal.returns-in-Stem-clause-counted
-returns-in-Stem-clause-counted g c = λ way w.
-    let both : Some c.in-Some.first ≡ Some c.in-Stem.from.signal =
-    sym (sym c.first_signal.ensures ∙ c.in-Some.is)
-    ∙ c.in-Stem.ensures.from c.in-Stem.from refl in
-    let same : c.in-Stem.from.signal ≡ c.in-Some.first = cc in
-    let left = c.in-Stem.ensures.left c.in-Stem.from way refl w in
-    let at = c.lanes_of-at.ensures.counted left.0
-    (subst (λ s. IsWay c.args.circuit.now.arranged s left.0) same left.1) in
-    omega (arith, at, left.2)
-
 pub returns-in-None-clause-stem : goal.returns-in-None-clause-stem
 returns-in-None-clause-stem g c = λ at e.
     let from : start_of c.args.origin.fault.line ≡ Some at.signal =
     c.start-in-None.ensures.from at e in
     let bad : None ≡ Some at.signal = sym (sym c.first_signal.ensures ∙ c.in-None.is) ∙ from in cc
-
-pub returns-in-None-clause-counted : goal.returns-in-None-clause-counted
-returns-in-None-clause-counted g c = λ way w. go way c.start-in-None.result refl
-  where
-    go : (way : _) (r : WideReach) → c.start-in-None.result ≡ r
-        → c.start-in-None.new.evaluations ≤ c.args.evaluations.now + way
-    go way (Observed word) e =
-        let same = c.start-in-None.ensures.seen word e in omega (arith, same)
-    go way (Stem at) e =
-        let from : start_of c.args.origin.fault.line ≡ Some at.signal =
-        c.start-in-None.ensures.from at e in
-        let bad : None ≡ Some at.signal = sym (sym c.first_signal.ensures ∙ c.in-None.is) ∙ from in
-        cc

@@ -1,4 +1,4 @@
-use Rattle.std.proofs.Common.{◌≡◌, ◌<◌, ◌∙◌, ◌&&◌, ℕ, ap, arith, inl, inr, map, subst, sym}
+use Rattle.std.proofs.Common.{◌≡◌, ◌<◌, ◌∙◌, ◌&&◌, ℕ, ap, arith, inl, inr, map, sym}
 use Rattle.std.specs.Prelude.{None, Some}
 use Rattle.bench_net.specs.Scan.{definition, gate_line, name_of, names, signal}
 use Rattle.bench_net.proofs.Public.{name_of-signal}
@@ -8,7 +8,6 @@ use Rattle.fault_model.proofs.Public.{carries}
 use Rattle.wide_words.specs.Wide.{number}
 use Rattle.block_sim.specs.Flips.{start_of}
 use Rattle.flat_circuit.specs.Stuck.{stuck_fault}
-use Rattle.block_sim.specs.Ways.{IsWay, IsWayOfLine}
 use Rattle.flat_circuit.specs.Words.{lane}
 use Rattle.flat_circuit.proofs.Public.{gate_within, pin_of, lane_and, lane_xor, unlike}
 use Rattle.flat_circuit.specs.SlotWords.{copied_bit}
@@ -131,20 +130,3 @@ returns-in-Pin-clause-signal g c = λ at e.
     let low = gate_within circuit c.in-Pin.gate c.in-Pin.pin n.0 reads in
     let same : c.in-Pin.gate ≡ at.signal = at_signal _ at e in
     omega (arith, low, same)
-
-pub returns-in-Stem-clause-left : goal.returns-in-Stem-clause-left
-returns-in-Stem-clause-left g c = λ at way e w.
-    let circuit = c.args.circuit.now.arranged in
-    let same : c.in-Stem.signal ≡ at.signal = at_signal _ at e in
-    let own = subst (λ l. IsWayOfLine circuit l way) c.in-Stem.is w in
-    (way, subst (λ s. IsWay circuit s way) same own, omega arith)
-
-pub returns-in-Pin-clause-left : goal.returns-in-Pin-clause-left
-returns-in-Pin-clause-left g c = λ at way e w.
-    let circuit = c.args.circuit.now.arranged in
-    let same : c.in-Pin.gate ≡ at.signal = at_signal _ at e in
-    let own = subst (λ l. IsWayOfLine circuit l way) c.in-Pin.is w in (
-      own.0,
-      subst (λ s. IsWay circuit s own.0) same own.1,
-      omega (arith, own.2, c.pass-lanes.ensures.counted),
-    )

@@ -1,20 +1,15 @@
-use Rattle.std.proofs.Common.{subst}
-use Rattle.workers.specs.ClassSelection.{every}
-use Rattle.workers.specs.Work.{HasRun}
 use Rattle.workers.proofs.ClosedLedgers.{run_settled, run_firsts}
 use Rattle.workers.proofs.piece_threads.run.Goals as goal
 
 pub verdicts_of-requires-clause-settled : goal.verdicts_of-requires-clause-settled
 verdicts_of-requires-clause-settled g c =
     let closed = c.in_ok-closed.closed in
-    let run = subst (λ k. HasRun c.args.job.now (every k) c.args.workers closed)
-    c.classes.ensures.part c.in_ok-closed.ensures.run in
+    let run = c.in_ok-closed.ensures.run in
     (run.history, run.legal, run.shows, run_settled c.args.job.now c.args.workers closed run)
 
 pub returns-clause-firsts : goal.returns-clause-firsts
 returns-clause-firsts g c =
     let closed = c.in_ok-closed.closed in
-    let run = subst (λ k. HasRun c.args.job.now (every k) c.args.workers closed)
-    c.classes.ensures.part c.in_ok-closed.ensures.run in
+    let run = c.in_ok-closed.ensures.run in
     run_firsts c.args.job.now c.args.workers closed run c.in_ok-verdicts.verdicts.firsts
-    c.classes.ensures.together c.in_ok-verdicts.ensures.firsts
+    c.faults.ensures.together c.in_ok-verdicts.ensures.firsts

@@ -2,7 +2,7 @@ use Rattle.std.proofs.Common.{◌∙◌, ◌++◌, ◌∷◌, [], sym, ap, appen
 use Rattle.std.proofs.lemmas.List.{map-append}
 use Rattle.std.proofs.lemmas.List.Elements.{All-append, All-cons, All-nil}
 use Rattle.std.specs.Vec.Iter.{into_iter_items}
-use Rattle.region_sim.specs.Simulation.{Serves}
+use Rattle.block_sim.specs.Parts.{HasRoom}
 use Rattle.workers.specs.declared.piece_threads.Worker.{Worker}
 use Rattle.workers.proofs.piece_threads.workers_of.Goals as goal
 
@@ -10,7 +10,7 @@ pub loop-seat-preserved : goal.loop-seat-preserved
 loop-seat-preserved c =
     let was = c.loop-seat.invariant in
     let pushed = c.in_ok-push.ensures.items in
-    let w : Worker = record { seat = c.in-Some.seat; simulation = c.in_ok-simulation.simulation } in
+    let w : Worker = record { seat = c.in-Some.seat; workspace = c.in_ok-workspace.workspace } in
     record {
       order = append_assoc c.loop-seat.yielded (c.in-Some.seat ∷ [])
           (into_iter_items c.next.new.self)
@@ -18,10 +18,10 @@ loop-seat-preserved c =
       seats = ap (map (λ (x : Worker). x.seat)) pushed
           ∙ map-append (λ (x : Worker). x.seat) c.loop-seat.workers.items (w ∷ [])
           ∙ ap (λ l. l ++ c.in-Some.seat ∷ []) was.seats;
-      fits = subst (All (λ (x : Worker). Serves x.simulation c.args.job.now)) (sym pushed)
-          (All-append (λ (x : Worker). Serves x.simulation c.args.job.now) c.loop-seat.workers.items
+      fits = subst (All (λ (x : Worker). HasRoom x.workspace c.args.job.now)) (sym pushed)
+          (All-append (λ (x : Worker). HasRoom x.workspace c.args.job.now) c.loop-seat.workers.items
           (w ∷ []) was.fits
-          (All-cons (λ (x : Worker). Serves x.simulation c.args.job.now) w []
-          c.in_ok-simulation.ensures.serves
-          (All-nil (λ (x : Worker). Serves x.simulation c.args.job.now))));
+          (All-cons (λ (x : Worker). HasRoom x.workspace c.args.job.now) w []
+          c.in_ok-workspace.ensures.fits
+          (All-nil (λ (x : Worker). HasRoom x.workspace c.args.job.now))));
     }

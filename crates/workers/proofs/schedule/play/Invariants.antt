@@ -5,13 +5,13 @@ use Rattle.fault_ledger.specs.Answer.{IsLegal}
 use Rattle.fault_ledger.specs.Face.{face}
 use Rattle.workers.specs.Schedule.{IsTableOf}
 use Rattle.workers.proofs.MoveLists.{Done}
-use Rattle.region_sim.specs.Simulation.{Serves}
+use Rattle.workers.specs.Swept.{IsSweptOf}
 use Rattle.workers.proofs.schedule.play.Given as goal
 
 abbrev pub invariant-loop-worker : goal.invariant-loop-worker
 invariant-loop-worker l = record {
   shape : l.ledger.shape ≡ l.fn.ledger.shape;
-  serves : Serves l.simulation l.job;
+  serves : IsSweptOf l.job l.swept;
   done : (table : Table) (h : History) → IsTableOf l.job table → IsLegal l.fn.ledger.shape h
       → l.fn.ledger ≡ face l.fn.ledger.shape h
       → Done table l.fn.ledger.shape h (take l.worker-index l.moves) l.ledger l.skipped l.changed;

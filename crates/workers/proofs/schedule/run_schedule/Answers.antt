@@ -1,11 +1,13 @@
 use Rattle.std.proofs.Common.{◌≡◌, ◌∙◌, ◌+◌, ◌*◌, ◌++◌, ℕ, List, Option, [], refl, sym, ap, subst}
-use Rattle.std.proofs.Common.{arith}
+use Rattle.std.proofs.Common.{All, arith, ◌<◌}
+use Rattle.std.proofs.lemmas.Result.{err_from_is_err_and}
 use Rattle.block_sim.proofs.Public.{true_table}
 use Rattle.fault_ledger.specs.declared.Shape.{Shape}
-use Rattle.block_sim.specs.Parts.{Parts}
+use Rattle.block_sim.specs.Parts.{Parts, piece_count as job_pieces}
 use Rattle.fault_ledger.specs.History.{History, piece_count}
 use Rattle.fault_ledger.specs.Answer.{IsLegal}
 use Rattle.fault_ledger.specs.Face.{Face, face}
+use Rattle.workers.specs.Refused.{IsScheduleFault}
 use Rattle.workers.specs.Schedule.{after_moves, turns, schedule_history}
 use Rattle.workers.specs.Settling.{AreSettled, IsShapeOf, shape_for}
 use Rattle.workers.specs.Verdict.{AreFirsts, verdicts}
@@ -104,3 +106,30 @@ returns-clause-history c =
           c.in_ok-verdicts.verdicts.firsts x.1 x.0 c.in_ok-verdicts.ensures.firsts;
       skipped = c.in_ok-verdicts.ensures.skipped ∙ (c.from.ensures ∙ sym x.2);
     }
+
+pub play-played-requires-clause-workers : goal.play-played-requires-clause-workers
+play-played-requires-clause-workers c =
+    subst (λ (s : Shape). All (λ w. w < s.workers) c.args.moves.now)
+    (sym (ap (λ (x : Face). x.shape) c.in_ok-ledger.ensures.face))
+    c.in_ok-check_moves.ensures.in_range
+
+pub returns-in_err-firsts-clause-refused : goal.returns-in_err-firsts-clause-refused
+returns-in_err-firsts-clause-refused c =
+    let p = err_from_is_err_and c.from_residual-in_err-firsts.result
+    c.from_residual-in_err-firsts.ensures.1 in
+    rw (p.1, p.2) (
+      c.in_ok-check_workers.ensures.in_range.0,
+      c.in_ok-check_workers.ensures.in_range.1,
+      c.in_ok-check_moves.ensures.in_range,
+    )
+
+pub returns-in_err-verdicts-clause-refused : goal.returns-in_err-verdicts-clause-refused
+returns-in_err-verdicts-clause-refused c =
+    let p = err_from_is_err_and c.from_residual-in_err-verdicts.result
+    c.from_residual-in_err-verdicts.ensures.1 in
+    rw (p.1, p.2) (subst (IsScheduleFault (job_pieces c.args.job.now) c.args.workers
+    c.args.moves.now) (sym c.in_err-verdicts.ensures.refused) (
+      c.in_ok-check_workers.ensures.in_range.0,
+      c.in_ok-check_workers.ensures.in_range.1,
+      c.in_ok-check_moves.ensures.in_range,
+    ))

@@ -5,13 +5,13 @@ use Rattle.fault_ledger.specs.Answer.{IsLegal}
 use Rattle.fault_ledger.specs.Face.{face}
 use Rattle.workers.specs.Schedule.{IsTableOf}
 use Rattle.workers.proofs.MoveLists.{Turned, left_of}
-use Rattle.region_sim.specs.Simulation.{Serves}
+use Rattle.workers.specs.Swept.{IsSweptOf}
 use Rattle.workers.proofs.schedule.take_turns.Given as goal
 
 abbrev pub invariant-turns : goal.invariant-turns
 invariant-turns l = record {
   shape : l.ledger.shape ≡ l.fn.ledger.shape;
-  serves : Serves l.simulation l.job;
+  serves : IsSweptOf l.job l.swept;
   turned : (table : Table) (h : History) → IsTableOf l.job table → IsLegal l.fn.ledger.shape h
       → l.fn.ledger ≡ face l.fn.ledger.shape h
       → Turned table l.fn.ledger.shape h l.ledger l.skipped;

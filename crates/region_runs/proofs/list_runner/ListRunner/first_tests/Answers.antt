@@ -5,7 +5,8 @@ use Rattle.fault_model.specs.Collapse.{Collapsed}
 use Rattle.region_runs.specs.declared.parts.PartVerdict.{PartVerdict}
 use Rattle.region_runs.specs.declared.parts.PartVerdict.TheVariants.{OtherPart}
 use Rattle.region_runs.specs.ListRunners.{AreMarked}
-use Rattle.region_runs.specs.Part.{AreAllByRegion, first_in}
+use Rattle.region_sim.specs.ClassOrder.{AreAllByRegion}
+use Rattle.region_runs.specs.Part.{first_in}
 use Rattle.region_runs.proofs.ListedRuns.{asked_firsts, listed_all, listed_within}
 use Rattle.region_runs.proofs.PartsOfClasses.{verdicts_under}
 use Rattle.region_runs.proofs.list_runner.ListRunner.first_tests.Goals as goal

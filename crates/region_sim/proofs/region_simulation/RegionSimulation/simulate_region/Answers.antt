@@ -1,20 +1,16 @@
 use Rattle.std.proofs.Common.{◌≡◌, ◌∙◌, ◌/◌, All, ap, arith, drop, false, inl, inr, length, true}
-use Rattle.std.proofs.Common.{map, subst, sym}
+use Rattle.std.proofs.Common.{subst, sym}
 use Rattle.std.specs.Prelude.{Contains, None, Some, slice_get}
-use Rattle.std.proofs.lemmas.List.{length-map}
-use Rattle.fault_model.specs.Reordered.{place}
 use Rattle.patterns.specs.Tests.{TestList}
 use Rattle.flat_circuit.specs.BlockSpans.{begins_unit, span_of, unit_of}
 use Rattle.region_sim.specs.Pack.{IsWithin}
 use Rattle.region_sim.specs.RegionHits.{AreGathered, HaveFirsts, IsFollowedAt, IsHiddenStem}
 use Rattle.region_sim.specs.RegionHits.{ServesRegions}
 use Rattle.region_sim.specs.Units.{unit_span}
-use Rattle.block_sim.specs.Ways.{HasActiveByFlip}
-use Rattle.flat_circuit.proofs.Public.{count_there, reordered}
-use Rattle.block_sim.proofs.Public.{same_active}
-use Rattle.region_sim.proofs.KeptOutcomes.{room_at_rest}
+use Rattle.flat_circuit.proofs.Public.{count_there}
+use Rattle.region_sim.proofs.Arrivals.{room_at_rest}
 use Rattle.region_sim.proofs.KnownWords.{written}
-use Rattle.region_sim.proofs.PackedRegions.{all_slots, in_span}
+use Rattle.region_sim.proofs.PackedRegions.{all_slots}
 use Rattle.region_sim.proofs.UnitSpans.{no_unit_begins, unit_begins}
 use Rattle.region_sim.proofs.region_simulation.RegionSimulation.simulate_region.Goals as goal
 
@@ -77,22 +73,6 @@ returns-then-is_unit-clause-known c = λ place test e.
     ∙ (c.simulate_unit.ensures.known place test e
     ∙ (ap (λ l. slice_get l place) c.as_mut_slice-hits.ensures.value
     ∙ ap (λ v. slice_get v.hits place) c.self.view_is))
-
-pub returns-then-is_unit-clause-counted : goal.returns-then-is_unit-clause-counted
-returns-then-is_unit-clause-counted c = λ way gates ways active.
-    let job = c.args.job.now in
-    let block = c.args.block in
-    let tests = job.tests.tests in
-    let begins : begins_unit (length tests) block ≡ true =
-    ap (λ (t : TestList). begins_unit (length t.tests) block) (sym c.tests.ensures.part)
-    ∙ (sym c.is_unit.ensures.begins ∙ c.if-is_unit.true) in
-    let here : unit_of (length tests) block ≡ unit_span (block / 2) =
-    unit_begins (length tests) block begins (c.is_unit.ensures.is.0 c.if-is_unit.true).whole in
-    let own = c.simulate_unit.ensures.counted way gates ways
-    (λ place row le lt idle. subst (λ s. HasActiveByFlip job.circuit tests s row.stem gates) here
-    (active place row le lt idle)) in
-    let was = ap (λ v. v.evaluations) c.self.view_is in
-    omega (arith, own, was)
 
 pub gather_regions-end-requires-clause-room : goal.gather_regions-end-requires-clause-room
 gather_regions-end-requires-clause-room c =
@@ -245,39 +225,3 @@ returns-clause-known c = λ place test e.
     ∙ (c.flip_all.ensures.kept place none ∙ (c.gather_regions-end.ensures.known place test e
     ∙ (ap (λ l. slice_get l place) c.as_mut_slice-hits-2.ensures.value
     ∙ ap (λ v. slice_get v.hits place) c.self.view_is)))
-
-pub returns-clause-counted : goal.returns-clause-counted
-returns-clause-counted c = λ way gates ways active.
-    let job = c.args.job.now in
-    let span = c.from-span.result in
-    let circuit = job.circuit in
-    let there = c.view_of-view.result.circuit.now.arranged in
-    let view = c.view_of-view.ensures in
-    let well = view.together.circuit.well_formed in
-    let tests = job.tests.tests in
-    let all = c.as_slice-all.ensures.value in
-    let gathered = c.gather_regions-end.ensures.gathered in
-    let none : begins_unit (length job.tests.tests) c.args.block ≡ false =
-    ap (λ (t : TestList). begins_unit (length t.tests) c.args.block) (sym c.tests.ensures.part)
-    ∙ (sym c.is_unit.ensures.begins ∙ c.if-is_unit.false) in
-    let here : span ≡ unit_of (length job.tests.tests) c.args.block =
-    c.from-span.ensures.span_is
-    ∙ (ap (λ (t : TestList). span_of (length t.tests) c.args.block) c.tests-2.ensures.part
-    ∙ sym (no_unit_begins (length job.tests.tests) c.args.block none)) in
-    let moved = map (place circuit there) gates in
-    let turned = c.flip_all.ensures.counted moved
-    (λ slot at.
-    let own = gathered.each slot at in
-    subst (λ s. HasActiveByFlip there tests span s moved) (sym own.stem)
-    ((same_active circuit there well (reordered circuit there well view.arranged)).by_flip tests
-    span own.row.stem gates
-    (subst (λ s. HasActiveByFlip circuit tests s own.row.stem gates) (sym here)
-    (active own.at own.row own.low own.high own.idle))))
-    (λ one at. in_span job there span c.args.rows.now c.args.firsts.now c.args.from
-    c.gather_regions-end.result c.gather_regions-end.new.stems.items
-    c.gather_regions-end.new.followed.items
-    c.gather_regions-end.new.hits gathered one (subst (λ l. Contains l one) all at)) in
-    let before = c.gather_regions-end.ensures.counted way ways in
-    let was = ap (λ v. v.evaluations) c.self.view_is in
-    let long = length-map gates (place circuit there) in
-    omega (arith, turned, before, was, long)

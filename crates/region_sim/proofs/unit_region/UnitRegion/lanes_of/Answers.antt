@@ -24,8 +24,3 @@ returns-in-None-clause-region g c =
       known = c.descend.ensures.known own.stem c.requires.region.known c.climb-at.ensures.known;
       path = omega (arith, path, c.descend.ensures.capacity, c.climb-at.ensures.capacity);
     }
-
-pub returns-in-None-clause-counted : goal.returns-in-None-clause-counted
-returns-in-None-clause-counted g c = λ way w.
-    let short = c.climb-at.ensures.short way w in
-    omega (arith, short, c.descend.ensures.counted)

@@ -3,9 +3,9 @@ use Rattle.std.proofs.Common.{sym, subst, ap, ◌∙◌, length, suc}
 use Rattle.std.specs.Vec.Iter.{into_iter_items, into_iter_len}
 use Rattle.std.proofs.lemmas.Option.{get_or_from_slice_get, slice_get_within}
 use Rattle.std.proofs.iter.Serving.{serving}
-use Rattle.region_sim.specs.Simulation.{Serves}
+use Rattle.block_sim.specs.Parts.{HasRoom}
 use Rattle.fault_ledger.specs.Seats.{newcomer}
-use Rattle.workers.proofs.ThreadHandles.{workers_count, seat_at, serves_at, own_newcomer}
+use Rattle.workers.proofs.ThreadHandles.{workers_count, seat_at, fits_at, own_newcomer}
 use Rattle.workers.proofs.ThreadHandles.{returns_along}
 use Rattle.workers.proofs.piece_threads.fn.in_threads.scope.Goals as goal
 
@@ -24,8 +24,8 @@ loop-worker-init g c =
           let same = ap (λ l. get_or l k d) began.0 in (
             ap (λ x. x.seat) same ∙ seat_at c.captures.workers.items c.captures.ledger.now k d
                 c.requires.new within ∙ ap (newcomer c.captures.ledger.now) (sym n),
-            subst (λ x. Serves x.simulation c.captures.job.now) (sym same)
-                (serves_at c.captures.workers.items c.captures.job.now k d c.requires.fits within),
+            subst (λ x. HasRoom x.workspace c.captures.job.now) (sym same)
+                (fits_at c.captures.workers.items c.captures.job.now k d c.requires.fits within),
           );
       each = λ k d lt. absurd (omega (arith, lt, none));
     }
@@ -43,7 +43,7 @@ loop-worker-preserved g c =
     let by = c.push.ensures.by_index in
     let promised = c.in-Ok.ensures.ok in
     let job = c.captures.job.now in let ledger = c.captures.ledger.now in
-    let gate = c.captures.gate.now in let chosen = c.captures.chosen.now in
+    let gate = c.captures.gate.now in
     record {
       sum = omega (arith, grown, was.sum, step.1);
       left = λ k d lt.
@@ -51,25 +51,23 @@ loop-worker-preserved g c =
           let n : done + suc k ≡ vec_len c.push.new.self + k = omega (arith, grown) in
           let same = ap (λ l. get_or l (suc k) d) step.0 in (
             ap (λ x. x.seat) (sym same) ∙ h.0 ∙ ap (newcomer ledger) n,
-            subst (λ x. Serves x.simulation job) same h.1,
+            subst (λ x. HasRoom x.workspace job) same h.1,
           );
       each = λ k d lt.
           below_more (λ i. let p = (get_or (vec_items c.push.new.self) i d).promise in
           (p.job.value ≡ job) × (p.ledger.value ≡ ledger) × (p.gate.value ≡ gate)
-          × (p.worker ≡ i) × (p.chosen.value ≡ chosen)) done
+          × (p.worker ≡ i)) done
           (λ i low. subst (λ x. (x.promise.job.value ≡ job) × (x.promise.ledger.value ≡ ledger)
-          × (x.promise.gate.value ≡ gate) × (x.promise.worker ≡ i)
-          × (x.promise.chosen.value ≡ chosen)) (sym (by.0 i d low)) (was.each i d low))
+          × (x.promise.gate.value ≡ gate) × (x.promise.worker ≡ i))
+          (sym (by.0 i d low)) (was.each i d low))
           (let at = by.1 d (search rules) in (
             ap (λ x. x.promise.job.value) at ∙ ap (λ p. p.job.value) promised ∙ c.of.ensures,
             ap (λ x. x.promise.ledger.value) at ∙ ap (λ p. p.ledger.value) promised
-                ∙ c.of-in-loop-worker-2.ensures,
+                ∙ c.of-in-loop-worker.ensures,
             ap (λ x. x.promise.gate.value) at ∙ ap (λ p. p.gate.value) promised
-                ∙ c.of-in-loop-worker-3.ensures,
+                ∙ c.of-in-loop-worker-2.ensures,
             ap (λ x. x.promise.worker) at ∙ ap (λ p. p.worker) promised ∙ c.worker.ensures.worker
                 ∙ ap (λ s. s.worker) seat ∙ omega arith,
-            ap (λ x. x.promise.chosen.value) at ∙ ap (λ p. p.chosen.value) promised
-                ∙ c.of-in-loop-worker.ensures,
           ))
           k (omega (arith, lt, grown));
     }
@@ -84,8 +82,8 @@ spawn_with-requires-clause-runs g c κs within =
     let new : c.in-Some.worker.seat ≡ newcomer c.captures.ledger.now c.in-Some.worker.seat.worker =
     own_newcomer c.captures.ledger.now (vec_len c.loop-worker.handles + 0) c.in-Some.worker.seat
     (ap (λ x. x.seat) next ∙ h.0) in
-    let room : Serves c.in-Some.worker.simulation c.captures.job.now =
-    subst (λ x. Serves x.simulation c.captures.job.now) (sym next) h.1 in
+    let room : HasRoom c.in-Some.worker.workspace c.captures.job.now =
+    subst (λ x. HasRoom x.workspace c.captures.job.now) (sym next) h.1 in
     grind serving
 
 pub returns : goal.returns
@@ -117,15 +115,12 @@ returns g c =
             let k = (c.in_ok-back.ensures.each w seat low).1 in
             let i = was.each w k.handle low in
             returns_along k.handle.promise.job.value c.captures.job.now
-            (g.C.ClassSelection.chosen k.handle.promise.chosen.value)
-            (g.C.ClassSelection.chosen c.captures.chosen.now) k.handle.promise.ledger.value
+            k.handle.promise.ledger.value
             c.captures.ledger.now k.handle.promise.worker w
             (g.G.Gate.passing k.handle.promise.gate.value) (g.G.Gate.passing c.captures.gate.now)
             (g.G.Gate.stops k.handle.promise.gate.value) (g.G.Gate.stops c.captures.gate.now)
             (get_or c.in_ok-back.back.items w seat) seat
             (ap (λ x. x.promise.job.value) k.handle_is ∙ i.0)
-            (ap (λ x. g.C.ClassSelection.chosen x.promise.chosen.value) k.handle_is
-            ∙ ap (λ x. g.C.ClassSelection.chosen x) i.4)
             (ap (λ x. x.promise.ledger.value) k.handle_is ∙ i.1)
             (ap (λ x. x.promise.worker) k.handle_is ∙ i.3)
             (λ p. subst (λ x. g.G.Gate.passing x) (sym (ap (λ x. x.promise.gate.value) k.handle_is

@@ -1,7 +1,7 @@
 use Rattle.std.proofs.Common.{◌≡◌, ◌<◌, ◌+◌, ℕ, get_or, vec_items, vec_len}
 use Rattle.std.specs.Vec.Iter.{into_iter_items, into_iter_len}
 use Rattle.fault_ledger.specs.Seats.{newcomer}
-use Rattle.region_sim.specs.Simulation.{Serves}
+use Rattle.block_sim.specs.Parts.{HasRoom}
 use Rattle.workers.proofs.piece_threads.fn.in_threads.scope.Given as goal
 
 -- the workers that are left are those from the number of the handles on, and each handle is
@@ -13,11 +13,10 @@ invariant-loop-worker g l =
       sum : done + into_iter_len rest ≡ l.ledger.now.shape.workers;
       left : (k : ℕ) (d : _) → k < into_iter_len rest
           → ((get_or (into_iter_items rest) k d).seat ≡ newcomer l.ledger.now (done + k))
-          × Serves (get_or (into_iter_items rest) k d).simulation l.job.now;
+          × HasRoom (get_or (into_iter_items rest) k d).workspace l.job.now;
       each : (k : ℕ) (d : _) → k < done
           → ((get_or (vec_items l.handles) k d).promise.job.value ≡ l.job.now)
           × ((get_or (vec_items l.handles) k d).promise.ledger.value ≡ l.ledger.now)
           × ((get_or (vec_items l.handles) k d).promise.gate.value ≡ l.gate.now)
-          × ((get_or (vec_items l.handles) k d).promise.worker ≡ k)
-          × ((get_or (vec_items l.handles) k d).promise.chosen.value ≡ l.chosen.now);
+          × ((get_or (vec_items l.handles) k d).promise.worker ≡ k);
     }

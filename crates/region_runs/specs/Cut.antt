@@ -1,0 +1,11 @@
+-- Classes that are cut into stretches.
+use Rattle.std.specs.Prelude.{◌≡◌, ◌<◌, ◌≤◌, ℕ, List, All, length}
+use Rattle.block_sim.specs.Parts.{Parts}
+use Rattle.region_runs.specs.Part.{stretch_size}
+
+-- classes of the job, to be cut into this number of stretches of this size
+pub record IsCutOf (job : Parts) (parts size : ℕ) (classes : List ℕ) : Type 0 where
+  pub some : 0 < parts
+  pub size_is : size ≡ stretch_size (length classes) parts
+  pub few : length classes ≤ length job.classes.representative
+  pub within : All (λ class. class < length job.classes.representative) classes

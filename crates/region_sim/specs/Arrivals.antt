@@ -1,0 +1,41 @@
+-- Classes that were followed by themselves to the stems of their regions.
+use Rattle.std.specs.Prelude.{◌≡◌, ℕ, ◌<◌, List, Contains, Some, length, slice_get, bit_and}
+use Rattle.bench_net.specs.Scan.{names}
+use Rattle.fault_model.specs.Fault.{Fault}
+use Rattle.fault_model.specs.Collapse.{representatives}
+use Rattle.region_sim.specs.declared.region.Approach.{Approach}
+use Rattle.region_sim.specs.declared.region.Approach.TheVariants.{Known, Stem}
+use Rattle.block_sim.specs.declared.propagation.Followed.{Followed}
+use Rattle.flat_circuit.specs.declared.block_span.BlockSpan.{BlockSpan}
+use Rattle.block_sim.specs.First.{TellsFirst}
+use Rattle.block_sim.specs.Parts.{Parts}
+use Rattle.block_sim.specs.Flips.{AreLanesFor, HasCome}
+use Rattle.flat_circuit.specs.BlockSpans.{group_of}
+
+-- the least lane of a word that is 1 has the first test of the span that detects the class
+abbrev pub TellsFirstIn : Parts → BlockSpan → ℕ → ℕ → Type 0
+TellsFirstIn job span class word =
+    (r : Fault) × (slice_get (representatives job.list.model job.circuit) class ≡ Some r)
+    × TellsFirst job.circuit job.tests.tests span r word
+
+-- In these lanes of a span a class reached a signal: in each of them the span's test meets the
+-- condition of the representative on the test before, and the representative reached the signal.
+abbrev pub HasArrived : Parts → BlockSpan → ℕ → ℕ → ℕ → Type 0
+HasArrived job span signal class word =
+    (r : Fault) × (lanes arrived : ℕ)
+    × (slice_get (representatives job.list.model job.circuit) class ≡ Some r)
+    × AreLanesFor job.tests.tests span job.circuit r lanes
+    × HasCome job.circuit job.tests.tests (group_of span) r lanes signal arrived
+    × (word ≡ bit_and lanes arrived)
+
+-- all that are followed on a span are classes of the job that reached one signal
+abbrev pub AreFollowed : Parts → BlockSpan → ℕ → List Followed → Type 0
+AreFollowed job span signal followed = (one : Followed) → Contains followed one
+    → (one.class < length job.classes.representative)
+    × HasArrived job span signal one.class one.lanes
+
+-- a class was followed by itself: its first test is known, or it reached a signal
+abbrev pub IsApproach : Parts → ℕ → BlockSpan → Approach → Type 0
+IsApproach job class span (Known word) = TellsFirstIn job span class word
+IsApproach job class span (Stem at) =
+    (at.signal < length (names job.circuit)) × HasArrived job span at.signal class at.lanes
