@@ -1,9 +1,9 @@
 -- The first line of a part file.
 use Rattle.std.proofs.Common.{◌≡◌, ◌≢◌, ◌<◌, ◌^◌, ◌+◌, ℕ, List, ◌∷◌, ◌++◌, refl, sym, ap, ◌∙◌}
 use Rattle.std.proofs.Common.{append_assoc, arith, lit<}
-use Rattle.std.specs.Prelude.{codes, decimal}
+use Rattle.std.specs.Prelude.{codes, decimal, length}
 use Rattle.std.proofs.lemmas.List.{append_cancel_right}
-use Rattle.std.proofs.lemmas.Fmt.{decimal_injective}
+use Rattle.std.proofs.lemmas.Fmt.{decimal_injective, decimal_nonempty}
 use Rattle.part_files.specs.Cut.{Lacks}
 use Rattle.part_files.specs.PartText.{PartHead, head_line}
 use Rattle.part_files.specs.PartReading.{AreWords, IsHead, WordTexts, words_text}
@@ -59,14 +59,21 @@ second_field h text word rest ok e lacks f = next_field (codes "of ") word rest 
     (words_text (words_in_head h)) text lacks (small_parts h) f e
 
 pub no_first : (h : PartHead) (line : List ℕ) → IsHead h
-    → ((word rest : List ℕ) → Lacks 32 word → line ≢ codes "part " ++ (word ++ 32 ∷ rest))
+    → ((word rest : List ℕ) → 0 < length word → Lacks 32 word
+    → line ≢ codes "part " ++ (word ++ 32 ∷ rest))
     → line ++ codes "\n" ≢ head_line h
-no_first h line ok none e = none (decimal (h.part + 1)) (of_on h) (small_part h) (body_of h line e)
+no_first h line ok none e = let more : 2 ^ 32 < 2 ^ 64 = lit< tt in
+    none (decimal (h.part + 1)) (of_on h)
+    (decimal_nonempty (h.part + 1) (omega (arith, ok.below, ok.few, more))) (small_part h)
+    (body_of h line e)
 
 pub no_second : (h : PartHead) (text : List ℕ) → IsHead h
-    → ((word rest : List ℕ) → Lacks 32 word → text ≢ codes "of " ++ (word ++ 32 ∷ rest))
+    → ((word rest : List ℕ) → 0 < length word → Lacks 32 word
+    → text ≢ codes "of " ++ (word ++ 32 ∷ rest))
     → text ≢ of_on h
-no_second h text ok none e = none (decimal h.parts) (words_text (words_in_head h)) (small_parts h) e
+no_second h text ok none e = let more : 2 ^ 32 < 2 ^ 64 = lit< tt in
+    none (decimal h.parts) (words_text (words_in_head h))
+    (decimal_nonempty h.parts (omega (arith, ok.few, more))) (small_parts h) e
 
 -- the first line that was read
 pub head_read : (h : PartHead) (line r1 r2 part parts : List ℕ) → h.part < h.parts

@@ -1,9 +1,8 @@
 -- The words of a part file's first line.
 use Rattle.std.proofs.Common.{◌≡◌, ◌≢◌, ◌<◌, ◌^◌, ◌+◌, ◌/◌, ◌%◌, ◌==◌, ℕ, zero, suc, Bool, true}
 use Rattle.std.proofs.Common.{false, List, [], ◌∷◌, ◌++◌, refl, sym, ap, ◌∙◌, arith, subst, lit<}
-use Rattle.std.specs.Prelude.{codes, decimal, Option, Some, None, MatchOption, if◌then◌else◌}
+use Rattle.std.specs.Prelude.{codes, decimal, if◌then◌else◌, length}
 use Rattle.std.specs.Fmt.{digit_glyph, digits, digits_onto}
-use Rattle.std.specs.Borrow.{Bor}
 use Rattle.std.proofs.Math.Dec.{eqb}
 use Rattle.std.proofs.lemmas.Bool.Decides.{Decides-eqb, nat_tests}
 use lib.Pointwise.{pointwise, pointwise_decides}
@@ -78,15 +77,23 @@ field_lacks byte name word rest text lacks e =
     let behind = lacks_right byte name (word ++ 32 ∷ rest) (subst (λ t. Lacks byte t) e lacks) in
     (lacks_left byte word _ behind, (lacks_right byte word (32 ∷ rest) behind).1)
 
--- the text that is read of a field after its name
-pub field_read : (name text rest : List ℕ) → text ≡ name ++ rest
-    → (r : Option (Bor (List ℕ) × Bor (List ℕ)))
-    → MatchOption r (Lacks 32 rest) (λ cut. IsCutFirst 32 rest cut.0.now cut.1.now)
-    → MatchOption r ((word more : List ℕ) → Lacks 32 word → text ≢ name ++ (word ++ 32 ∷ more))
-    (λ cut. Lacks 32 cut.0.now × (text ≡ name ++ (cut.0.now ++ 32 ∷ cut.1.now)))
-field_read name text rest e None lacks = λ word more _ f.
+-- a text without a space after the name of a field has no such field
+pub no_field : (name text rest : List ℕ) → text ≡ name ++ rest → Lacks 32 rest
+    → (word more : List ℕ) → 0 < length word → Lacks 32 word
+    → text ≢ name ++ (word ++ 32 ∷ more)
+no_field name text rest e lacks word more _ _ f =
     lacks_not 32 word more (subst (λ t. Lacks 32 t) (append_cancel_left name _ _ (sym e ∙ f)) lacks)
-field_read name text rest e (Some cut) is = (is.first, e ∙ ap (λ t. name ++ t) is.whole)
+
+-- nor has one whose word there is empty
+pub empty_field : (name text rest before after : List ℕ) → text ≡ name ++ rest
+    → IsCutFirst 32 rest before after → length before ≡ 0
+    → (word more : List ℕ) → 0 < length word → Lacks 32 word
+    → text ≢ name ++ (word ++ 32 ∷ more)
+empty_field name text rest before after e is none word more some lacks f =
+    let same = (next_field name before after word more text is.first lacks
+    (e ∙ ap (λ t. name ++ t) is.whole) f).0 in
+    let long : length before ≡ length word = ap length same in
+    absurd (omega (arith, none, some, long))
 
 -- the first line from its rule on, from its first sum on, and from its second
 abbrev pub rule_on : WordTexts → List ℕ
@@ -117,23 +124,23 @@ after_bench w text bench rest ok e lacks f =
     ++ w.tests) text lacks ok.bench.no_space f e).1
 
 pub words_read : (w : WordTexts) (text r1 r2 r3 : List ℕ) → Lacks 10 text
-    → Lacks 32 w.model × (text ≡ codes "model " ++ (w.model ++ 32 ∷ r1))
-    → Lacks 32 w.rule × (r1 ≡ codes "rule " ++ (w.rule ++ 32 ∷ r2))
-    → Lacks 32 w.bench × (r2 ≡ codes "bench " ++ (w.bench ++ 32 ∷ r3))
-    → r3 ≡ codes "tests " ++ w.tests → Lacks 32 w.tests
+    → (0 < length w.model) × Lacks 32 w.model × (text ≡ codes "model " ++ (w.model ++ 32 ∷ r1))
+    → (0 < length w.rule) × Lacks 32 w.rule × (r1 ≡ codes "rule " ++ (w.rule ++ 32 ∷ r2))
+    → (0 < length w.bench) × Lacks 32 w.bench × (r2 ≡ codes "bench " ++ (w.bench ++ 32 ∷ r3))
+    → r3 ≡ codes "tests " ++ w.tests → 0 < length w.tests → Lacks 32 w.tests
     → AreWords w × (text ≡ words_text w)
-words_read w text r1 r2 r3 line m r b t last =
-    let p1 = field_lacks 10 (codes "model ") w.model r1 text line m.1 in
-    let p2 = field_lacks 10 (codes "rule ") w.rule r2 r1 p1.1 r.1 in
-    let p3 = field_lacks 10 (codes "bench ") w.bench r3 r2 p2.1 b.1 in
+words_read w text r1 r2 r3 line m r b t some last =
+    let p1 = field_lacks 10 (codes "model ") w.model r1 text line m.2 in
+    let p2 = field_lacks 10 (codes "rule ") w.rule r2 r1 p1.1 r.2 in
+    let p3 = field_lacks 10 (codes "bench ") w.bench r3 r2 p2.1 b.2 in
     let p4 = lacks_right 10 (codes "tests ") w.tests (subst (λ l. Lacks 10 l) t p3.1) in (
       record {
-        model = record { no_space = m.0; one_line = p1.0 };
-        rule = record { no_space = r.0; one_line = p2.0 };
-        bench = record { no_space = b.0; one_line = p3.0 };
-        tests = record { no_space = last; one_line = p4 };
+        model = record { some = m.0; no_space = m.1; one_line = p1.0 };
+        rule = record { some = r.0; no_space = r.1; one_line = p2.0 };
+        bench = record { some = b.0; no_space = b.1; one_line = p3.0 };
+        tests = record { some = some; no_space = last; one_line = p4 };
       },
-      m.1 ∙ ap (λ l. codes "model " ++ (w.model ++ 32 ∷ l)) (r.1
-          ∙ ap (λ l. codes "rule " ++ (w.rule ++ 32 ∷ l)) (b.1
+      m.2 ∙ ap (λ l. codes "model " ++ (w.model ++ 32 ∷ l)) (r.2
+          ∙ ap (λ l. codes "rule " ++ (w.rule ++ 32 ∷ l)) (b.2
           ∙ ap (λ l. codes "bench " ++ (w.bench ++ 32 ∷ l)) t)),
     )

@@ -1,11 +1,13 @@
 -- The text that is written for a part is a part file.
 use Rattle.std.proofs.Common.{◌≡◌, ◌≢◌, ◌<◌, ◌^◌, ◌/◌, ◌%◌, ℕ, zero, suc, List, [], ◌∷◌, length}
-use Rattle.std.proofs.Common.{refl, sym, ap, ◌∙◌, Option, Some, None, arith, map, true}
+use Rattle.std.proofs.Common.{refl, sym, ap, ◌∙◌, Option, Some, None, arith, map, true, lit<}
 use Rattle.std.specs.Prelude.{codes, slice_get, slice_index, zip}
 use Rattle.std.specs.List.{AllByRecursion}
 use Rattle.std.proofs.lemmas.List.{length-map}
 use Rattle.hex.specs.Hex.{encode_with, lower_digits}
+use Rattle.hex.proofs.HexLemmas.{length-encode_with}
 use Rattle.sha2.specs.Sha256.{sha256}
+use Rattle.sha2.proofs.Facts256.{length-sha256}
 use Rattle.list_lemmas.proofs.Places.{place_within, within_place}
 use Rattle.bench_net.specs.Statement.{Statement}
 use Rattle.fault_model.specs.declared.Model.{Model}
@@ -46,6 +48,8 @@ hex_lacks byte table (b ∷ bytes) other lacks =
 sum_is_word : (text : List ℕ) → IsWord (sum_text text)
 unfolding lacks_test
 sum_is_word text = record {
+  some = let digits = length-encode_with lower_digits (sha256 text) in
+      let bytes = length-sha256 text in omega (arith, digits, bytes);
   no_space = hex_lacks 32 lower_digits (sha256 text) (λ e. omega (arith, e))
       (lacks_literal 32 lower_digits refl);
   one_line = hex_lacks 10 lower_digits (sha256 text) (λ e. omega (arith, e))
@@ -53,19 +57,23 @@ sum_is_word text = record {
 }
 
 -- so are the name of a model and the name of the rule
-literal_word : (word : List ℕ) → lacks_test 32 word ≡ true → lacks_test 10 word ≡ true → IsWord word
-literal_word word space line =
-    record { no_space = lacks_literal 32 word space; one_line = lacks_literal 10 word line }
+literal_word : (word : List ℕ) → 0 < length word → lacks_test 32 word ≡ true
+    → lacks_test 10 word ≡ true → IsWord word
+literal_word word some space line = record {
+  some = some;
+  no_space = lacks_literal 32 word space;
+  one_line = lacks_literal 10 word line;
+}
 
 model_is_word : (m : Model) → IsWord (model_name m)
 unfolding lacks_test
-model_is_word StuckAt = literal_word (codes "stuck") refl refl
-model_is_word Transition = literal_word (codes "transition") refl refl
-model_is_word TransitionPairs = literal_word (codes "transition-pairs") refl refl
+model_is_word StuckAt = literal_word (codes "stuck") (lit< tt) refl refl
+model_is_word Transition = literal_word (codes "transition") (lit< tt) refl refl
+model_is_word TransitionPairs = literal_word (codes "transition-pairs") (lit< tt) refl refl
 
 rule_is_word : IsWord rule_name
 unfolding lacks_test
-rule_is_word = literal_word rule_name refl refl
+rule_is_word = literal_word rule_name (lit< tt) refl refl
 
 head_is : (m : Model) (bench text : List ℕ) (part parts : ℕ) → part < parts → parts < 2 ^ 32
     → IsHead (head_of m bench text part parts)

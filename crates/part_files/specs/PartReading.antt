@@ -14,8 +14,9 @@ use Rattle.part_files.specs.PartText.{PartHead, head_line, verdict_line, end_lin
 use Rattle.part_files.specs.PartText.{is_found}
 use Rattle.part_files.specs.PartText.{is_own}
 
--- a word has no space and no line feed
+-- a word has a byte at least, and no space and no line feed
 pub record IsWord (word : List ℕ) : Type 0 where
+  pub some : 0 < length word
   pub no_space : Lacks 32 word
   pub one_line : Lacks 10 word
 

@@ -90,14 +90,20 @@ fn verdict_of(word: &[u8]) -> Option<PartVerdict>
     Some(PartVerdict::First(Some(test)))
 }
 
-/// Cuts a field of the first line into its word and the bytes after the space.
+/// Cuts a field of the first line into its word, which isn't empty, and the bytes after the space.
 fn field<'a>(text: &'a [u8], name: &[u8]) -> Option<(&'a [u8], &'a [u8])>
     ensures { MatchOption result
-        ((word rest : List ℕ) → Lacks 32 word → text.now ≢ name.now ++ (word ++ 32 ∷ rest))
-        (λ cut. Lacks 32 cut.0.now × (text.now ≡ name.now ++ (cut.0.now ++ 32 ∷ cut.1.now))) }
+        ((word rest : List ℕ) → 0 < length word → Lacks 32 word
+        → text.now ≢ name.now ++ (word ++ 32 ∷ rest))
+        (λ cut. (0 < length cut.0.now) × Lacks 32 cut.0.now
+        × (text.now ≡ name.now ++ (cut.0.now ++ 32 ∷ cut.1.now))) }
 {
     let rest = strip(text, name)?;
-    cut_first(rest, b' ')
+    let (word, after) = cut_first(rest, b' ')?;
+    if word.is_empty() {
+        return None;
+    }
+    Some((word, after))
 }
 
 /// The words of a first line from the model on.
@@ -120,6 +126,9 @@ fn words_of(text: &[u8]) -> Option<Words<'_>>
     let (rule, rest) = field(rest, b"rule ")?;
     let (bench, rest) = field(rest, b"bench ")?;
     let tests = strip(rest, b"tests ")?;
+    if tests.is_empty() {
+        return None;
+    }
     match cut_first(tests, b' ') {
         Some(_) => None,
         None => Some(Words {
