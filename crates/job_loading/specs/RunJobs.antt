@@ -1,8 +1,12 @@
--- Jobs to be run, whose tests may stand apart.
-use Rattle.std.specs.Prelude.{◌≡◌, ⊤, Bool, Option, Some, None, length}
+-- Jobs to be run, whose tests may stand apart, and the ledgers of their runs.
+use Rattle.std.specs.Prelude.{◌≡◌, ◌⊎◌, ⊤, ℕ, Bool, Option, Some, None, length}
 use Rattle.bench_net.specs.Scan.{sources}
 use Rattle.patterns.specs.Tests.{IsTestList, TestList}
 use Rattle.block_sim.specs.Parts.{Parts, with_tests}
+use Rattle.fault_ledger.specs.Seats.{ClosedFace}
+use Rattle.workers.specs.Verdict.{VerdictList}
+use Rattle.region_runs.specs.Stretches.{IsOfStretches}
+use Rattle.region_runs.specs.WindowLedgers.{IsOfWindows}
 
 -- the view that contracts have of such a job: its parts, and whether its tests stand apart
 pub record RunParts : Type 0 where
@@ -19,3 +23,9 @@ abbrev pub AreForCircuit : Parts → Option TestList → Type 0
 AreForCircuit job None = ⊤
 AreForCircuit job (Some tests) =
     IsTestList tests × (tests.width ≡ length (sources job.circuit))
+
+-- The verdicts on all classes of a job were found stretch by stretch, in the order of ledgers that
+-- hand out the stretches: one for the whole run, or one for each window of the tests.
+abbrev pub AreByLedgers : Parts → ℕ → ℕ → VerdictList → Type 0
+AreByLedgers job parts workers v =
+    ((ledger : ClosedFace) × IsOfStretches job parts workers v ledger) ⊎ IsOfWindows job workers v

@@ -11,6 +11,7 @@ ghost use Rattle.region_runs.specs.Refused.{ArePartsWithin, IsPartFault, IsParts
 ghost use Rattle.region_runs.specs.Refused.{IsPartWithin};
 ghost use Rattle.block_sim.specs.JobParts.{IsJobUnder};
 ghost use Rattle.job_loading.specs.Jobs.{AreTestsFor};
+ghost use Rattle.job_loading.specs.RunJobs.{AreByLedgers};
 
 use crate::texts::make_any_job_in_threads;
 use bench_net::Circuit;
@@ -122,6 +123,7 @@ impl RunJob {
         ensures skipped { IfOk result (λ v. AreAfterHits self.old.parts v.skipped) }
         ensures workers { OnOk result ((0 < workers) × (workers ≤ 64)) }
         ensures within { OnOk result (ArePartsWithin self.old.parts parts) }
+        ensures ledgers { IfOk result (AreByLedgers self.old.parts parts workers) }
         ensures refused { IfErr result (IsPartsFault self.old.parts parts workers
             (G.passing gate.now) (G.stops gate.now)) }
         ensures kept { self.new ≡ self.old }

@@ -3,6 +3,7 @@
 ghost use Rattle.std.specs.Prelude.{◌≡◌, ◌<◌, ◌≤◌, IfErr, IfOk, OnOk, true};
 ghost use Rattle.workers.specs.Verdict.{AreAfterHits, AreFirsts};
 ghost use Rattle.region_runs.specs.Refused.{ArePartsWithin, IsPartsFault};
+ghost use Rattle.job_loading.specs.RunJobs.{AreByLedgers};
 
 use crate::run_job::RunJob;
 use block_sim::Job;
@@ -69,6 +70,7 @@ pub fn run_watched<R: Threads + Wait, G: Watch + Sync>(
     ensures skipped { IfOk result (λ v. AreAfterHits job.now v.skipped) }
     ensures workers { OnOk result ((0 < workers) × (workers ≤ 64)) }
     ensures within { OnOk result (ArePartsWithin job.now parts) }
+    ensures ledgers { IfOk result (AreByLedgers job.now parts workers) }
     ensures refused { IfErr result (IsPartsFault job.now parts workers (G.passing gate.now)
         (G.stops gate.now)) }
 {
@@ -95,6 +97,7 @@ pub fn run_apart_watched<R: Threads + Wait, G: Watch + Sync>(
     ensures skipped { IfOk result (λ v. AreAfterHits run.old.parts v.skipped) }
     ensures workers { OnOk result ((0 < workers) × (workers ≤ 64)) }
     ensures within { OnOk result (ArePartsWithin run.old.parts parts) }
+    ensures ledgers { IfOk result (AreByLedgers run.old.parts parts workers) }
     ensures refused { IfErr result (IsPartsFault run.old.parts parts workers (G.passing gate.now)
         (G.stops gate.now)) }
     ensures kept { run.new ≡ run.old }

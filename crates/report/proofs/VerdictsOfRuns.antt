@@ -12,11 +12,12 @@ use Rattle.block_sim.specs.Parts.{Parts, BelongTogether, piece_count}
 use Rattle.workers.specs.declared.RunFault.{RunFault}
 use Rattle.workers.specs.declared.RunFault.TheVariants as run_fault
 use Rattle.workers.specs.Refused.{IsScheduleFault}
-use Rattle.workers.specs.Verdict.{AreFirsts}
+use Rattle.workers.specs.Verdict.{AreFirsts, VerdictList}
 use Rattle.job_loading.specs.declared.fault.SimFault.TheVariants as fault
 use Rattle.job_loading.specs.Jobs.{IsJobWithin}
+use Rattle.job_loading.specs.RunJobs.{AreByLedgers}
 use Rattle.report.specs.declared.contents.Contents.{Contents}
-use Rattle.report.specs.EndToEnd.{IsReportOfJob, IsScheduleTextFault}
+use Rattle.report.specs.EndToEnd.{IsReportByLedgers, IsReportOfJob, IsScheduleTextFault}
 use Rattle.report.specs.Report.{whole_report}
 
 -- a run's verdicts are one for each fault of the job
@@ -34,6 +35,17 @@ pub taken_of_job : (job : Parts) (contents : Contents) (firsts : List (Option �
 taken_of_job job contents firsts IsTaken are taken = (
   whole_report job.list.model job.circuit job.classes firsts contents,
   (firsts, are, refl),
+  taken,
+)
+
+-- so is the report of verdicts that ledgers handed out
+pub taken_by_ledgers : (job : Parts) (parts workers : ℕ) (contents : Contents) (v : VerdictList)
+    (IsTaken : List ℕ → Type 0) → AreByLedgers job parts workers v
+    → IsTaken (whole_report job.list.model job.circuit job.classes v.firsts contents)
+    → (text : List ℕ) × IsReportByLedgers job parts workers contents text × IsTaken text
+taken_by_ledgers job parts workers contents v IsTaken by taken = (
+  whole_report job.list.model job.circuit job.classes v.firsts contents,
+  (v, by, refl),
   taken,
 )
 

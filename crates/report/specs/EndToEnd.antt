@@ -16,7 +16,7 @@ use Rattle.workers.specs.declared.RunFault.{RunFault}
 use Rattle.workers.specs.Refused.{IsRunFault}
 use Rattle.workers.specs.Refused.{IsScheduleFault}
 use Rattle.workers.specs.Stops.{Stops, no_stop}
-use Rattle.workers.specs.Verdict.{AreFirsts}
+use Rattle.workers.specs.Verdict.{AreFirsts, VerdictList}
 use Rattle.region_runs.specs.Part.{parts_for}
 use Rattle.region_runs.specs.Refused.{ArePartsWithin, IsPartsFault}
 use Rattle.job_loading.specs.declared.fault.SimFault.{SimFault}
@@ -24,6 +24,8 @@ use Rattle.job_loading.specs.declared.fault.SimFault.TheVariants as fault
 use Rattle.job_loading.specs.declared.split.Split.{Split}
 use Rattle.job_loading.specs.declared.split.Split.TheVariants as split
 use Rattle.job_loading.specs.Jobs.{IsInputFault, IsJobFault, IsJobOf, IsJobWithin, IsReadFault}
+use Rattle.job_loading.specs.RunJobs.{AreByLedgers}
+use Rattle.job_loading.specs.Splits.{IsSplitOf}
 use Rattle.byte_output.specs.Output.{Output, TakesAll, TakesFront}
 use Rattle.report.specs.declared.contents.Contents.{Contents}
 use Rattle.report.specs.Report.{whole_report, listing}
@@ -35,6 +37,18 @@ IsReportOf m bench text contents bytes = (c : List Statement) × (tests : TestLi
     × (classes : Collapsed) × (firsts : List (Option ℕ)) × IsAccepted bench c
     × HasTests text (length (sources c)) tests × AreClassesOf m c classes
     × AreFirsts m c tests.tests firsts × (bytes ≡ whole_report m c classes firsts contents)
+
+-- the bytes are the report of verdicts on a job that ledgers handed out in this number of parts
+abbrev pub IsReportByLedgers : Parts → ℕ → ℕ → Contents → List ℕ → Type 0
+IsReportByLedgers job parts workers contents bytes = (v : VerdictList)
+    × AreByLedgers job parts workers v
+    × (bytes ≡ whole_report job.list.model job.circuit job.classes v.firsts contents)
+
+-- the same for a bench file and a test file under a model, whose run is cut so
+abbrev pub IsReportOfByLedgers : Model → List ℕ → List ℕ → Split → ℕ → Contents → List ℕ → Type 0
+IsReportOfByLedgers m bench text split workers contents bytes = (job : Parts) × (parts : ℕ)
+    × IsJobOf m bench text job × IsSplitOf job split workers parts
+    × IsReportByLedgers job parts workers contents bytes
 
 -- the bytes are the listing of a bench file under a model
 abbrev pub IsListingOf : Model → List ℕ → List ℕ → Type 0

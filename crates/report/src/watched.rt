@@ -6,7 +6,8 @@ ghost use Rattle.block_sim.specs.Parts.{BelongTogether, with_tests};
 ghost use Rattle.job_loading.specs.Splits.{HasSomePart};
 ghost use Rattle.region_runs.specs.Refused.{ArePartsWithin, IsPartsFault};
 ghost use Rattle.workers.specs.declared.RunFault.{RunFault};
-ghost use Rattle.report.specs.EndToEnd.{IsJobReportFault, IsReportOf, IsReportOfJob};
+ghost use Rattle.report.specs.EndToEnd.{IsJobReportFault, IsReportByLedgers, IsReportOf};
+ghost use Rattle.report.specs.EndToEnd.{IsReportOfByLedgers, IsReportOfJob};
 ghost use Rattle.report.specs.EndToEnd.{IsWatchedFault, IsWithin, WritesOneOf};
 
 use crate::contents::Contents;
@@ -45,6 +46,8 @@ pub fn simulate_text_watched<R: Threads + Wait, G: Watch + Sync, W: Out>(
     requires { HasSomePart split }
     ensures written { WritesOneOf (IsReportOf model bench.now tests.now contents) result
         (W.seen out.old) (W.seen out.new) }
+    ensures ledgers { WritesOneOf (IsReportOfByLedgers model bench.now tests.now split workers
+        contents) result (W.seen out.old) (W.seen out.new) }
     ensures refused { IfErr result (IsWatchedFault model bench.now tests.now split workers
         (G.passing gate.now) (G.stops gate.now)) }
     ensures workers { OnOk result ((0 < workers) × (workers ≤ 64)) }
@@ -78,6 +81,8 @@ pub fn write_report_of_run<R: Threads + Wait, G: Watch + Sync, W: Out>(
     requires gate { run.old.apart ≡ true → G.passing gate.now }
     requires parts { 0 < parts }
     ensures written { WritesOneOf (IsReportOfJob run.old.parts contents) result
+        (W.seen out.old) (W.seen out.new) }
+    ensures ledgers { WritesOneOf (IsReportByLedgers run.old.parts parts workers contents) result
         (W.seen out.old) (W.seen out.new) }
     ensures refused { IfErr result (IsJobReportFault workers
         (IsPartsFault run.old.parts parts workers (G.passing gate.now) (G.stops gate.now))) }

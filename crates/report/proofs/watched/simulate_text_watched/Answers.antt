@@ -1,7 +1,8 @@
 use Rattle.std.proofs.lemmas.Result.{err_from_is_err_and}
 use Rattle.region_runs.specs.Refused.{ArePartsWithin, IsPartsFault}
-use Rattle.report.specs.EndToEnd.{IsJobReportFault, IsWatchedFault, IsWithin}
-use Rattle.report.proofs.ReportsOfTexts.{ok_as, refused_as, written_of_texts}
+use Rattle.report.specs.EndToEnd.{IsJobReportFault, IsReportByLedgers, IsReportOfByLedgers}
+use Rattle.report.specs.EndToEnd.{IsWatchedFault, IsWithin}
+use Rattle.report.proofs.ReportsOfTexts.{ok_as, refused_as, written_as, written_of_texts}
 use Rattle.report.proofs.WatchedRuns.{split_fault, split_refused, split_within}
 use Rattle.report.proofs.watched.simulate_text_watched.Goals as goal
 
@@ -18,6 +19,17 @@ returns-clause-written g c =
     written_of_texts c.args.model c.args.bench.now c.args.tests.now c.args.contents
     c.in_ok-run.run'.parts c.write_report_of_run.result _ _ c.in_ok-run.ensures.job
     c.write_report_of_run.ensures.written
+
+pub returns-clause-ledgers : goal.returns-clause-ledgers
+returns-clause-ledgers g c =
+    let job = c.in_ok-run.run'.parts in
+    let parts = c.in_ok-run.parts in
+    written_as (IsReportByLedgers job parts c.args.workers c.args.contents)
+    (IsReportOfByLedgers c.args.model c.args.bench.now c.args.tests.now c.args.split
+    c.args.workers c.args.contents)
+    c.write_report_of_run.result _ _
+    (λ bytes by. (job, parts, c.in_ok-run.ensures.job, c.in_ok-run.ensures.parts, by))
+    c.write_report_of_run.ensures.ledgers
 
 pub returns-clause-refused : goal.returns-clause-refused
 returns-clause-refused g c =

@@ -3,7 +3,7 @@ use Rattle.std.proofs.lemmas.Result.{err_from_is_err_and}
 use Rattle.fault_model.specs.Fault.{FaultList}
 use Rattle.byte_output.specs.Output.{TakesAll, TakesFront}
 use Rattle.job_loading.specs.RunJobs.{RunParts}
-use Rattle.report.proofs.VerdictsOfRuns.{taken_of_job, verdicts_counted}
+use Rattle.report.proofs.VerdictsOfRuns.{taken_by_ledgers, taken_of_job, verdicts_counted}
 use Rattle.report.proofs.watched.write_report_of_run.Goals as goal
 
 pub write_report_in_threads-written-requires : goal.write_report_in_threads-written-requires
@@ -47,3 +47,35 @@ returns-clause-written g c =
     ) at c.in_ok-written.ensures in
     taken_of_job c.args.run.now.parts c.args.contents c.in_ok-verdicts.verdicts.firsts
     (TakesAll _ _) c.in_ok-verdicts.ensures.firsts wrote
+
+pub returns-in_err-written-clause-ledgers :
+    goal.returns-in_err-written-clause-ledgers
+returns-in_err-written-clause-ledgers g c =
+    let p = err_from_is_err_and c.from_residual-in_err-written.result
+    c.from_residual-in_err-written.ensures.1 in
+    let wrote = rw (
+      c.job.ensures.list,
+      c.job.ensures.circuit,
+      c.job.ensures.classes,
+      c.free_tests_in_thread-freeing.ensures.list,
+      c.free_tests_in_thread-freeing.ensures.circuit,
+      c.free_tests_in_thread-freeing.ensures.classes,
+      c.in_ok-verdicts.ensures.kept,
+    ) at c.in_err-written.ensures in
+    rw (p.1, p.2) (taken_by_ledgers c.args.run.now.parts c.args.parts c.args.workers
+    c.args.contents c.in_ok-verdicts.verdicts (TakesFront _ _) c.in_ok-verdicts.ensures.ledgers
+    wrote)
+
+pub returns-clause-ledgers : goal.returns-clause-ledgers
+returns-clause-ledgers g c =
+    let wrote = rw (
+      c.job.ensures.list,
+      c.job.ensures.circuit,
+      c.job.ensures.classes,
+      c.free_tests_in_thread-freeing.ensures.list,
+      c.free_tests_in_thread-freeing.ensures.circuit,
+      c.free_tests_in_thread-freeing.ensures.classes,
+      c.in_ok-verdicts.ensures.kept,
+    ) at c.in_ok-written.ensures in
+    taken_by_ledgers c.args.run.now.parts c.args.parts c.args.workers c.args.contents
+    c.in_ok-verdicts.verdicts (TakesAll _ _) c.in_ok-verdicts.ensures.ledgers wrote
