@@ -28,6 +28,15 @@ pub leads_further : (c : List Statement) {s r : ℕ} (g : ℕ) → LeadsTo c s r
 leads_further c g here h = onward h here
 leads_further c g (onward x p) h = onward x (leads_further c g p h)
 
+-- from the one reader of a signal the way to the stem goes on
+pub leads_on : (c : List Statement) {s r : ℕ} (g : ℕ) → IsStem c r → lone_reader c s ≡ Some g
+    → LeadsTo c s r → LeadsTo c g r
+leads_on c g stem alone here = let bad : None ≡ Some g = sym stem ∙ alone in cc
+leads_on c {r = r} g stem alone (onward {g = k} h more) =
+    let gates : Some k ≡ Some g = sym h ∙ alone in
+    let same : k ≡ g = cc in
+    subst (λ z. LeadsTo c z r) same more
+
 -- and a level higher
 pub deeper : (c : List Statement) (s g step : ℕ) → IsWellFormed c → s < length (names c)
     → lone_reader c s ≡ Some g

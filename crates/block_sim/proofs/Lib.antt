@@ -29,7 +29,6 @@ mod ArrangedWords
 mod ReorderedGates
 pub mod Public
 mod DeadRegions
-mod Ways
 mod PartsOfJobs
 mod JobsUnder
 mod ActiveLanes

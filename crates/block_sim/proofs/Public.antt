@@ -19,11 +19,11 @@ pub use Rattle.block_sim.proofs.EnteredGates.{gate_named as gate_named_of_entere
 pub use Rattle.block_sim.proofs.Flips.{altered, bit_is, entered_back, entered_there, not_itself}
 pub use Rattle.block_sim.proofs.Flips.{pin_enters, stem_back, stem_stuck, stem_there, turned_of}
 pub use Rattle.block_sim.proofs.Regions.{fault_law, observer_law, step_law}
-pub use Rattle.block_sim.proofs.Arrivals.{dead_flip, deeper, leads_further, stem_at_depth}
+pub use Rattle.block_sim.proofs.Arrivals.{dead_flip, deeper, leads_further, leads_on}
+pub use Rattle.block_sim.proofs.Arrivals.{stem_at_depth}
 pub use Rattle.block_sim.proofs.RegionLanes.{come_nowhere, crossed, crossed_where, lanes_both}
 pub use Rattle.block_sim.proofs.RegionLanes.{lanes_first, lanes_law, lanes_second, passes_is}
 pub use Rattle.block_sim.proofs.RegionLanes.{read_within, reader_driven}
-pub use Rattle.block_sim.proofs.Ways.{one_less}
 pub use Rattle.block_sim.proofs.ObservedStems.{observed_flip}
 pub use Rattle.block_sim.proofs.DeadRegions.{dead_class}
 -- ---- the start of a fault and its propagation

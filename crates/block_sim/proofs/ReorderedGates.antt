@@ -14,10 +14,8 @@ use Rattle.fault_model.proofs.Public.{same_signals, stands_back, defined_among, 
 use Rattle.fault_model.proofs.Public.{under_moved, same_bits, detected_same}
 use Rattle.block_sim.specs.ActiveGates.{IsActiveBy, HasActive, HasActiveIn}
 use Rattle.block_sim.specs.Flips.{flip, DetectsFlip, HasCome, TellsFirstFlips}
-use Rattle.block_sim.specs.Ways.{HasActiveByFlip}
 use Rattle.flat_circuit.specs.Words.{test_of}
 use Rattle.block_sim.specs.Reordered.{HasSameActive, HasSameFlips}
-use Rattle.flat_circuit.specs.declared.block_span.BlockSpan.{BlockSpan}
 
 module _ (c d : List Statement) (well : IsWellFormed c) (is : IsReordered c d) where
   signals : HasSameSignals c d
@@ -80,17 +78,8 @@ module _ (c d : List Statement) (well : IsWellFormed c) (is : IsReordered c d) w
       let own = active_back a.1 (f a.0) gate a.5 in
       named_there gates gate own.0 own.1 (has own.0 (a.0, a.1, a.2, a.3, a.4, own.2))
 
-  by_flip : (tests : List Test) (span : BlockSpan) (s : ℕ) (gates : List ℕ)
-      → HasActiveByFlip c tests span s gates
-      → HasActiveByFlip d tests span (place c d s) (map (place c d) gates)
-  by_flip tests span s gates has gate a =
-      let own = active_back a.1 (flip s a.2) gate a.6 in
-      let bit = (same_bits c d well is a.1 (line.Stem s) a.2).1 a.5 in
-      named_there gates gate own.0 own.1
-      (has own.0 (a.0, a.1, a.2, a.3, a.4, bit, own.2))
-
   pub same_active : HasSameActive c d
-  same_active = record { on_block = on_block; in_lanes = in_lanes; by_flip = by_flip }
+  same_active = record { on_block = on_block; in_lanes = in_lanes }
 
   -- ---- complemented signals
 

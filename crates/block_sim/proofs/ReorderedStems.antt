@@ -1,4 +1,4 @@
--- Statements in another order: the same stems and ways.
+-- Statements in another order: the same stems.
 use Rattle.std.proofs.Common.{◌≡◌, ◌+◌, ℕ, refl, sym, ◌∙◌, ap, subst, List}
 use Rattle.std.specs.Prelude.{◌↔◌, Contains, Option, Some, None, option_map, unwrap_or, slice_get}
 use Rattle.bench_net.specs.Statement.{Name, Statement}
@@ -13,7 +13,6 @@ use Rattle.fault_model.specs.Reordered.{IsReordered, place, moved_line, HasSameS
 use Rattle.fault_model.proofs.Public.{same_signals, carries}
 use Rattle.flat_circuit.specs.Regions.{lone_reader, IsStem, IsStemOf, IsStemOfLine, LeadsTo, here}
 use Rattle.flat_circuit.specs.Regions.{onward, way_from}
-use Rattle.block_sim.specs.Ways.{steps, IsWay, IsWayOfLine}
 use Rattle.block_sim.specs.Reordered.{HasSameStems}
 use Rattle.flat_circuit.proofs.Public.{same_readers}
 
@@ -30,11 +29,6 @@ module _ (c d : List Statement) (well : IsWellFormed c) (is : IsReordered c d) w
   leads_there s r here = here
   leads_there s r (onward {g = g} e more) =
       onward (lone s ∙ ap (option_map (place c d)) e) (leads_there g r more)
-
-  steps_there : (s r : ℕ) (chain : LeadsTo c s r) → steps (leads_there s r chain) ≡ steps chain
-  unfolding leads_there
-  steps_there s r here = refl
-  steps_there s r (onward {g = g} e more) = ap (λ k. k + 1) (steps_there g r more)
 
   gate_back : (s g : ℕ) → lone_reader d (place c d s) ≡ Some g
       → (h : ℕ) × (g ≡ place c d h) × (lone_reader c s ≡ Some h)
@@ -79,7 +73,7 @@ module _ (c d : List Statement) (well : IsWellFormed c) (is : IsReordered c d) w
           let own = leads_back (place c d s) (place c d r) h.0 s refl in
           (subst (LeadsTo c s) (sym (signals.apart r own.0 own.1)) own.2, stem_back r h.1)
 
-  -- ---- faults of the list, and ways
+  -- ---- faults of the list
 
   way_moved : (l : Line) (n : Name) → name_on c l ≡ Some n → Contains (names c) n
       → way_from d (moved_line c d l) ≡ option_map (place c d) (way_from c l)
@@ -122,18 +116,5 @@ module _ (c d : List Statement) (well : IsWellFormed c) (is : IsReordered c d) w
           let there : q ≡ place c d s = ap (λ o. unwrap_or o q) same in
           (s, at, (of_signal r s).1 (subst (IsStemOf d (place c d r)) there stem))
 
-  signal_way : (s n : ℕ) → IsWay c s n → IsWay d (place c d s) n
-  signal_way s n h = (
-    place c d h.0,
-    (leads_there s h.0 h.1.0, stem_there h.0 h.1.1),
-    steps_there s h.0 h.1.0 ∙ h.2,
-  )
-
-  way : (l : Line) (n : ℕ) → IsWayOfLine c l n → IsWayOfLine d (moved_line c d l) n
-  way (line.Stem s) n h = signal_way s n h
-  way (line.Pin gate pin) n h = (h.0, signal_way gate h.0 h.1, h.2)
-  way (line.Data cell) n h = h
-  way (line.Out output) n h = h
-
   pub same_stems : HasSameStems c d
-  same_stems = record { of_signal = of_signal; of_line = of_line; way = way }
+  same_stems = record { of_signal = of_signal; of_line = of_line }

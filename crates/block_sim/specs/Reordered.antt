@@ -2,7 +2,6 @@
 -- same stems, active gates and complemented signals.
 use Rattle.std.specs.Prelude.{◌↔◌, ℕ, List, map, Contains}
 use Rattle.bench_net.specs.Statement.{Statement}
-use Rattle.fault_model.specs.declared.Line.{Line}
 use Rattle.fault_model.specs.declared.Model.{Model}
 use Rattle.fault_model.specs.Fault.{Fault, faults}
 use Rattle.fault_model.specs.Solution.{Test}
@@ -10,16 +9,12 @@ use Rattle.fault_model.specs.Reordered.{place, moved_line, moved_fault}
 use Rattle.block_sim.specs.ActiveGates.{HasActive, HasActiveIn}
 use Rattle.flat_circuit.specs.Regions.{IsStemOf, IsStemOfLine}
 use Rattle.block_sim.specs.Flips.{DetectsFlip, HasCome, TellsFirstFlips}
-use Rattle.block_sim.specs.Ways.{IsWayOfLine, HasActiveByFlip}
-use Rattle.flat_circuit.specs.declared.block_span.BlockSpan.{BlockSpan}
 
--- the region of a signal has the same stem, and so has the region of a fault of the list; the way
--- to the stem has the same number of gates
+-- the region of a signal has the same stem, and so has the region of a fault of the list
 pub record HasSameStems (c d : List Statement) : Type 0 where
   pub of_signal : (r s : ℕ) → IsStemOf c r s ↔ IsStemOf d (place c d r) (place c d s)
   pub of_line : (m : Model) (f : Fault) (r : ℕ) → Contains (faults m c) f
       → IsStemOfLine c r f.line ↔ IsStemOfLine d (place c d r) (moved_line c d f.line)
-  pub way : (l : Line) (n : ℕ) → IsWayOfLine c l n → IsWayOfLine d (moved_line c d l) n
 
 -- a list with each gate that a fault makes active has each of them, moved, in the other circuit
 pub record HasSameActive (c d : List Statement) : Type 0 where
@@ -29,9 +24,6 @@ pub record HasSameActive (c d : List Statement) : Type 0 where
   pub in_lanes : (tests : List Test) (group lanes : ℕ) (f : ℕ → Fault) (gates : List ℕ)
       → HasActiveIn c tests group lanes f gates
       → HasActiveIn d tests group lanes (λ k. moved_fault c d (f k)) (map (place c d) gates)
-  pub by_flip : (tests : List Test) (span : BlockSpan) (s : ℕ) (gates : List ℕ)
-      → HasActiveByFlip c tests span s gates
-      → HasActiveByFlip d tests span (place c d s) (map (place c d) gates)
 
 -- the same tests detect a complemented signal, and faults arrive at it in the same lanes
 pub record HasSameFlips (c d : List Statement) : Type 0 where

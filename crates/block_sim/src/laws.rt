@@ -18,7 +18,6 @@ ghost use Rattle.block_sim.specs.Flips.{FaultLaw, LanesLaw, ObserverLaw, RegionL
 ghost use Rattle.block_sim.specs.Flips.{StepLaw};
 ghost use Rattle.flat_circuit.specs.Reordered.{HasSameReaders};
 ghost use Rattle.block_sim.specs.Reordered.{HasSameActive, HasSameFlips, HasSameStems};
-ghost use Rattle.block_sim.specs.Ways.{OneWayLaw, SomeWayLaw};
 
 /// States that blocks give the first test that detects a fault. Take a table with the true outcome
 /// of each class and block. The test of a class's first Hit is the first test that detects each
@@ -45,12 +44,6 @@ pub fn one_outcome()
 pub fn class_stems()
     ensures one { (m : Model) (c : List Statement) → OneClassStemLaw m c }
     ensures some { (m : Model) (c : List Statement) → IsWellFormed c → SomeClassStemLaw m c }
-{}
-
-/// States that each class has exactly one number of gates on the way to its stem, in each model.
-pub fn class_ways()
-    ensures one { (m : Model) (c : List Statement) → OneWayLaw m c }
-    ensures some { (m : Model) (c : List Statement) → IsWellFormed c → SomeWayLaw m c }
 {}
 
 /// States that faults share the circuit after the stem of a fanout-free region. Take a signal that

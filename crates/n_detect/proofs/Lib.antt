@@ -5,5 +5,4 @@ mod ThreadPromises
 mod CountsBefore
 mod Tallies
 mod ShareCounts
-mod Orders
 mod RowsOf

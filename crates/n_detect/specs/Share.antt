@@ -1,5 +1,5 @@
 -- The classes of one worker.
-use Rattle.std.specs.Prelude.{◌≡◌, ◌⊎◌, ◌<◌, ◌≤◌, ℕ, All, Bool, Contains, List, Some, count_by}
+use Rattle.std.specs.Prelude.{◌≡◌, ◌⊎◌, ◌<◌, ◌≤◌, ℕ, All, Bool, List, Some, count_by}
 use Rattle.std.specs.Prelude.{length, min, slice_get}
 use Rattle.std.specs.Bool.{Decides}
 use Rattle.fault_model.specs.Collapse.{representatives}
@@ -11,12 +11,6 @@ use Rattle.block_sim.specs.Listed.{IsListed}
 use Rattle.block_sim.specs.Parts.{HasRoom, Parts}
 use Rattle.n_detect.specs.Detections.{IsClassCount}
 use Rattle.n_detect.specs.declared.share.Share.{Share}
-
--- the list has each class of a job, and no number that is no class
-pub record HasAllClasses (job : Parts) (classes : List ℕ) : Type 0 where
-  pub within : All (λ class. class < length job.classes.representative) classes
-  pub whole : (class : ℕ) → class < length job.classes.representative → Contains classes class
-  pub count : length classes ≡ length job.classes.representative
 
 -- each class of a job has an owner, one of the workers
 pub record AreOwners (job : Parts) (workers : ℕ) (owners : List ℕ) : Type 0 where

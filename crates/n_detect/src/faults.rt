@@ -2,13 +2,15 @@
 
 ghost use Rattle.std.specs.Prelude.{◌<◌, IfOk, length};
 ghost use Rattle.n_detect.specs.Detections.{AreCounts, IsClassCount};
-ghost use Rattle.n_detect.specs.Share.{AreOwners, AreShares, HasAllClasses, HaveCounted};
+ghost use Rattle.region_sim.specs.ClassOrder.{AreAllByRegion};
+ghost use Rattle.n_detect.specs.Share.{AreOwners, AreShares, HaveCounted};
 
 use crate::CountFault;
-use crate::order::{classes_by_region, owners_of};
+use crate::owners::owners_of;
 use crate::share::Share;
 use crate::threads::count_shares;
 use block_sim::Job;
+use region_sim::class_order::class_order;
 use std::alloc::{AllocError, Global};
 use std::sync::Wait;
 use std::thread::Threads;
@@ -36,7 +38,7 @@ pub fn detections<R: Threads + Wait>(
     ensures { IfOk result (λ counts. AreCounts job.now.list.model job.now.circuit
         job.now.tests.tests most counts.items) }
 {
-    let classes = classes_by_region(alloc, job)?;
+    let classes = class_order(alloc, job)?.classes;
     let owners = owners_of(alloc, job, classes.as_slice(), workers)?;
     let shares = shares_of(alloc, job, classes.as_slice(), owners.as_slice(), workers)?;
     let counted = count_shares(rt, alloc, job, &owners, most, workers, shares)?;
@@ -58,7 +60,7 @@ fn shares_of(
     owners: &[u32],
     workers: u32,
 ) -> Result<Vec<Share>, AllocError>
-    requires classes { HasAllClasses job.now classes.now }
+    requires classes { AreAllByRegion job.now classes.now }
     requires owners { AreOwners job.now workers owners.now }
     ensures { IfOk result (λ shares. AreShares job.now owners.now workers shares.items) }
 {

@@ -8,7 +8,7 @@
 
 mod class;
 mod faults;
-mod order;
+mod owners;
 mod share;
 mod tally;
 mod threads;

@@ -5,7 +5,8 @@ ghost use Rattle.flat_circuit.specs.BlockSpans.{groups};
 ghost use Rattle.region_sim.specs.GroupLanes.{HaveGroupLanes};
 ghost use Rattle.block_sim.specs.Listed.{IsListed};
 ghost use Rattle.block_sim.specs.Parts.{HasRoom};
-ghost use Rattle.n_detect.specs.Share.{AreRowsOfOwner, AreTallied, HasAllClasses, HasCounted};
+ghost use Rattle.region_sim.specs.ClassOrder.{AreAllByRegion};
+ghost use Rattle.n_detect.specs.Share.{AreRowsOfOwner, AreTallied, HasCounted};
 ghost use Rattle.n_detect.specs.Share.{HasRowsOf, IsShareFor};
 
 use crate::tally::tally;
@@ -34,7 +35,7 @@ impl Share {
         owners: &[u32],
         owner: u32,
     ) -> Result<Share, AllocError>
-        requires classes { HasAllClasses job.now classes.now }
+        requires classes { AreAllByRegion job.now classes.now }
         requires owners { length owners.now ≡ length job.now.classes.representative }
         ensures { IfOk result (λ share. IsShareFor job.now owners.now owner share) }
     {
@@ -62,7 +63,7 @@ fn rows_of(
     owners: &[u32],
     owner: u32,
 ) -> Result<Vec<ListedClass>, AllocError>
-    requires classes { HasAllClasses job.now classes.now }
+    requires classes { AreAllByRegion job.now classes.now }
     requires owners { length owners.now ≡ length job.now.classes.representative }
     ensures listed { IfOk result (λ rows. All (IsListed job.now) rows.items) }
     ensures whole { IfOk result (λ rows. HasRowsOf job.now owners.now owner rows.items) }

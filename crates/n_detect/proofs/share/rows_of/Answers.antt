@@ -1,10 +1,9 @@
 use Rattle.std.proofs.Common.{◌≡◌, ◌∙◌, ap, arith, subst, sym}
 use Rattle.std.specs.Prelude.{None, Some, slice_get, slice_index_or}
 use Rattle.std.proofs.lemmas.Option.{get_or_from_slice_get, slice_get-get_or, slice_get_within}
-use Rattle.list_lemmas.proofs.Members.{among}
-use Rattle.list_lemmas.proofs.Places.{placed}
 use Rattle.flat_circuit.specs.declared.origin.ListedClass.{ListedClass}
 use Rattle.block_sim.specs.Listed.{IsListed}
+use Rattle.region_sim.proofs.Public.{all_within}
 use Rattle.n_detect.specs.Share.{IsOpen}
 use Rattle.n_detect.proofs.EachPushed.{push_each}
 use Rattle.n_detect.proofs.RowsOf.{row_more, row_skipped}
@@ -58,7 +57,8 @@ loop-class-preserved c =
           (row_more owners classes c.args.owner at x here was row c.listed.ensures.class
           before.whole place class lt is own);
       own = λ i r e.
-          let within = c.requires.classes.within at 0 c.loop-class-test.true in
+          let within = all_within c.args.job.now classes c.requires.classes at 0
+          c.loop-class-test.true in
           let its : slice_get owners x ≡ Some c.args.owner =
           slice_get-get_or owners x 0 (omega (arith, within, c.requires.owners))
           ∙ ap Some (omega (arith, c.if-owners-class.false)) in
@@ -74,6 +74,6 @@ returns-clause-listed c = all_listed c.args.job.now c.loop-class.rows.items
 pub returns-clause-whole : goal.returns-clause-whole
 returns-clause-whole c = λ class lt own.
     let classes = c.args.classes.now in
-    let p = placed classes class (among classes class (c.requires.classes.whole class lt)) in
+    let p = c.requires.classes.all class lt tt in
     let low = slice_get_within classes p.0 class p.1 in
     c.loop-class.invariant.whole p.0 class (omega (arith, low, c.loop-class-test.false)) p.1 own

@@ -3,7 +3,7 @@ use Rattle.std.specs.Prelude.{Some, None, slice_index_or}
 use Rattle.flat_circuit.specs.Regions.{here, lone_reader}
 use Rattle.region_sim.specs.Sensitized.{IsPathTo, on_from}
 use Rattle.flat_circuit.proofs.Public.{pin_law, lone_within, one_stem_law}
-use Rattle.block_sim.proofs.Public.{one_less}
+use Rattle.block_sim.proofs.Public.{leads_on}
 use Rattle.region_sim.proofs.SensitizedLanes.{path_longer, same_first}
 use Rattle.region_sim.proofs.unit_region.climb.Goals as goal
 
@@ -51,7 +51,7 @@ loop-lanes-preserved c =
           ∙ (same_first items at gate ∙ last.first);
       few = omega (arith, few, len, rise);
       capacity = c.push_reserved.ensures.capacity ∙ last.capacity;
-      left = λ r chain. (one_less circuit gate chain.1 alone (last.left r chain)).0;
+      left = λ r chain. leads_on circuit gate chain.1 alone (last.left r chain);
     }
 
 pub unreachable-requires : goal.unreachable-requires
