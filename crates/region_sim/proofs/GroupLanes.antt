@@ -1,10 +1,10 @@
 -- The tests of a group that detect a class.
-use Rattle.std.proofs.Common.{◌≡◌, ◌≢◌, ◌⊎◌, ◌<◌, ℕ, ◌+◌, ◌-◌, ◌*◌, zero, suc, refl, sym}
+use Rattle.std.proofs.Common.{◌≡◌, ◌≢◌, ◌⊎◌, ◌<◌, ◌≤◌, ℕ, ◌+◌, ◌-◌, ◌*◌, zero, suc, refl, sym}
 use Rattle.std.proofs.Common.{◌∙◌, ap, subst, inl, inr, Bool, true, false, List, [], ◌∷◌, ◌++◌}
 use Rattle.std.proofs.Common.{length, set, arith}
 use Rattle.std.specs.Prelude.{Some, None, ◌||◌, bit_and, bit_or, slice_get, unwrap_or}
 use Rattle.std.specs.Bool.{Decides}
-use Rattle.std.proofs.lemmas.Bool.{cases_eq}
+use Rattle.std.proofs.lemmas.Bool.{cases_eq, false≢true}
 use Rattle.list_lemmas.proofs.Places.{within_place, place_within}
 use Rattle.bench_net.specs.Statement.{Statement}
 use Rattle.fault_model.specs.Fault.{Fault}
@@ -14,39 +14,68 @@ use Rattle.flat_circuit.specs.declared.block_span.BlockSpan.{BlockSpan}
 use Rattle.flat_circuit.specs.declared.origin.ListedClass.{ListedClass}
 use Rattle.region_sim.specs.declared.region.Approach.{Approach}
 use Rattle.region_sim.specs.declared.region.Approach.TheVariants.{Known, Stem}
-use Rattle.flat_circuit.specs.BlockSpans.{group_of}
+use Rattle.flat_circuit.specs.BlockSpans.{IsInSpan, group_of}
 use Rattle.region_sim.specs.GroupLanes.{AreAmongLanes, AreApproaches, AreGroupLanes, HasWholeGroup}
-use Rattle.region_sim.specs.GroupLanes.{HaveGroupLanes, IsAmongLanes, IsApproachInLanes, lanes_seen}
+use Rattle.region_sim.specs.GroupLanes.{HaveGroupLanes, IsAmongLanes, IsApproachTo, lanes_seen}
 use Rattle.block_sim.specs.Parts.{Parts}
 use Rattle.block_sim.specs.Flips.{AreLanesFor, DetectsFlip}
-use Rattle.region_sim.specs.Arrivals.{HasArrived}
+use Rattle.region_sim.specs.Arrivals.{AreSpanLanes, HasArrived, TellsFirstIn}
 use Rattle.flat_circuit.specs.Words.{lane, test_of}
 use Rattle.flat_circuit.proofs.Public.{lane_or, index_of, set_here, set_there}
 use Rattle.block_sim.proofs.Public.{lanes_both, lanes_first}
 use Rattle.block_sim.proofs.Public.{lanes_second}
 
--- a word that decides in which of its lanes a fault is detected decides which tests detect it
+-- a word that decides in which of its lanes a fault is detected has the lanes of the tests that
+-- detect it
 pub lanes_exact : (c : List Statement) (tests : List Test) (span : BlockSpan) (f : Fault)
-    (lanes word : ℕ) → AreLanesFor tests span c f lanes → HasWholeGroup (length tests) span
+    (lanes word : ℕ) → AreLanesFor tests span c f lanes
     → ((k : ℕ) → k < 128 → Decides (lane word k)
     ((lane lanes k ≡ true) × Detects c (test_of tests (group_of span) k) f))
-    → (k : ℕ) → k < 128 → Decides (lane word k) (DetectsAt c tests f (128 * group_of span + k))
-lanes_exact c tests span f lanes word decides whole is k lt = (
+    → (k : ℕ) → k < 128 → Decides (lane word k)
+    (IsInSpan (length tests) span (128 * group_of span + k)
+    × DetectsAt c tests f (128 * group_of span + k))
+lanes_exact c tests span f lanes word decides is k lt = (
   λ e.
       let h = (is k lt).0 e in
       let d = (decides k lt).0 h.0 in
       let at = within_place tests (128 * group_of span + k) d.0.listed in
       let same : test_of tests (group_of span) k ≡ at.0 =
       index_of tests (128 * group_of span + k) at.0 [] at.1 in
-      (at.0, at.1, subst (λ t. Detects c t f) same h.1, d.1),
-  λ d.
+      (d.0, (at.0, at.1, subst (λ t. Detects c t f) same h.1, d.1)),
+  λ h.
+      let d = h.1 in
       let same : test_of tests (group_of span) k ≡ d.0 =
       index_of tests (128 * group_of span + k) d.0 [] d.1 in
-      let listed = place_within tests (128 * group_of span + k) d.0 d.1 in
-      (is k lt).1 (
-        (decides k lt).1 (whole k lt listed, d.3),
-        subst (λ t. Detects c t f) (sym same) d.2,
-      ),
+      (is k lt).1 ((decides k lt).1 (h.0, d.3), subst (λ t. Detects c t f) (sym same) d.2),
+)
+
+-- the least of these lanes has the first test
+pub exact_first : (job : Parts) (span : BlockSpan) (class word : ℕ)
+    → AreSpanLanes job span class word → TellsFirstIn job span class word
+exact_first job span class word is = (
+  is.0,
+  is.1,
+  record {
+    found = λ k lt e. (is.2 k lt).0 e;
+    clear = λ k lt own none d. (let le : k ≤ k = omega arith in
+        false≢true (sym (none k le) ∙ (is.2 k lt).1 (own, d)));
+  },
+)
+
+-- in a span that has all tests of its group they are the lanes of the group
+exact_in_group : (job : Parts) (span : BlockSpan) (class word : ℕ)
+    → HasWholeGroup (length job.tests.tests) span → AreSpanLanes job span class word
+    → AreGroupLanes job (group_of span) class word
+exact_in_group job span class word whole is = (
+  is.0,
+  is.1,
+  λ k lt. (
+    λ e. ((is.2 k lt).0 e).1,
+    λ d. (is.2 k lt).1 (
+      whole k lt (place_within job.tests.tests (128 * group_of span + k) d.0 d.1),
+      d,
+    ),
+  ),
 )
 
 -- a class that came to a stem is detected where the complemented stem is
@@ -55,12 +84,13 @@ pub arrived_exact : (job : Parts) (span : BlockSpan) (stem class word seen : ℕ
     → ((k : ℕ) → k < 128 → lane word k ≡ true → Decides (lane seen k)
     (DetectsFlip job.circuit (test_of job.tests.tests (group_of span) k) stem))
     → AreGroupLanes job (group_of span) class (bit_and word seen)
-arrived_exact job span stem class word seen whole a by = (
-  a.0,
-  a.3,
-  lanes_exact job.circuit job.tests.tests span a.0 a.1 (bit_and word seen) a.4 whole
-      (λ k lt. (there k lt, back k lt)),
-)
+arrived_exact job span stem class word seen whole a by =
+    exact_in_group job span class (bit_and word seen) whole (
+      a.0,
+      a.3,
+      lanes_exact job.circuit job.tests.tests span a.0 a.1 (bit_and word seen) a.4
+          (λ k lt. (there k lt, back k lt)),
+    )
   where
     there : (k : ℕ) → k < 128 → lane (bit_and word seen) k ≡ true → (lane a.1 k ≡ true)
         × Detects job.circuit (test_of job.tests.tests (group_of span) k) a.0
@@ -86,13 +116,15 @@ arrived_exact job span stem class word seen whole a by = (
 -- each approach with what was seen of the complemented stem
 pub approach_exact : (job : Parts) (span : BlockSpan) (stem class lanes seen : ℕ)
     (approach : Approach) → HasWholeGroup (length job.tests.tests) span
-    → IsApproachInLanes job span stem class approach → IsAmongLanes lanes approach
+    → IsApproachTo job span stem class approach → IsAmongLanes lanes approach
     → ((k : ℕ) → k < 128 → lane lanes k ≡ true → Decides (lane seen k)
     (DetectsFlip job.circuit (test_of job.tests.tests (group_of span) k) stem))
     → AreGroupLanes job (group_of span) class (lanes_seen seen approach)
-approach_exact job span stem class lanes seen (Known word) whole is among by = is
+approach_exact job span stem class lanes seen (Known word) whole is among by =
+    exact_in_group job span class word whole is.0
 approach_exact job span stem class lanes seen (Stem at) whole is among by =
-    arrived_exact job span stem class at.lanes seen whole is
+    arrived_exact job span stem class at.lanes seen whole
+    (subst (λ s. HasArrived job span s class at.lanes) (is.1 at refl) is.0.1)
     (λ k lt e. by k lt (among k lt e))
 
 either_first : (a b : Bool) → a ≡ true → (a || b) ≡ true
@@ -129,11 +161,11 @@ push_each P (z ∷ xs) x before last (suc i) y at =
 pub approaches_more : (job : Parts) (span : BlockSpan) (stem : ℕ) (rows : List ListedClass)
     (from place : ℕ) (row : ListedClass) (approaches : List Approach) (approach : Approach)
     → AreApproaches job span stem rows from approaches → place ≡ from + length approaches
-    → slice_get rows place ≡ Some row → IsApproachInLanes job span stem row.class approach
+    → slice_get rows place ≡ Some row → IsApproachTo job span stem row.class approach
     → AreApproaches job span stem rows from (approaches ++ approach ∷ [])
 approaches_more job span stem rows from place row approaches approach before is at own =
     push_each (λ i a. (row : ListedClass) × (slice_get rows (from + i) ≡ Some row)
-    × IsApproachInLanes job span stem row.class a) approaches approach before
+    × IsApproachTo job span stem row.class a) approaches approach before
     (row, ap (slice_get rows) (sym is) ∙ at, own)
 
 pub among_more : (lanes own : ℕ) (approaches : List Approach) (approach : Approach)

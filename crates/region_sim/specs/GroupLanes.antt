@@ -7,10 +7,11 @@ use Rattle.fault_model.specs.Fault.{Fault}
 use Rattle.flat_circuit.specs.declared.block_span.BlockSpan.{BlockSpan}
 use Rattle.flat_circuit.specs.declared.origin.ListedClass.{ListedClass}
 use Rattle.region_sim.specs.declared.region.Approach.{Approach}
+use Rattle.region_sim.specs.declared.region.Arrival.{Arrival}
 use Rattle.region_sim.specs.declared.region.Approach.TheVariants.{Known, Stem}
 use Rattle.flat_circuit.specs.BlockSpans.{IsInSpan, group_of}
 use Rattle.block_sim.specs.Parts.{Parts}
-use Rattle.region_sim.specs.Arrivals.{HasArrived}
+use Rattle.region_sim.specs.Arrivals.{IsApproach}
 use Rattle.flat_circuit.specs.Words.{lane}
 
 -- the lanes of a word that are 1 are the lanes whose test of the group detects the representative
@@ -33,18 +34,17 @@ abbrev pub HasWholeGroup : ℕ → BlockSpan → Type 0
 HasWholeGroup tests span = (k : ℕ) → k < 128 → 128 * group_of span + k < tests
     → IsInSpan tests span (128 * group_of span + k)
 
--- a class was followed by itself in all lanes of a span: it is known which tests of the group
--- detect it, or it reached the stem in these lanes
-abbrev pub IsApproachInLanes : Parts → BlockSpan → ℕ → ℕ → Approach → Type 0
-IsApproachInLanes job span stem class (Known word) = AreGroupLanes job (group_of span) class word
-IsApproachInLanes job span stem class (Stem at) = HasArrived job span stem class at.lanes
+-- a class was followed by itself, and if it reached a signal, that is the stem
+abbrev pub IsApproachTo : Parts → BlockSpan → ℕ → ℕ → Approach → Type 0
+IsApproachTo job span stem class approach = IsApproach job class span approach
+    × ((at : Arrival) → approach ≡ Stem at → at.signal ≡ stem)
 
 -- so it is for the classes of a list from a place on, one after the other
 abbrev pub AreApproaches : Parts → BlockSpan → ℕ → List ListedClass → ℕ → List Approach → Type 0
 AreApproaches job span stem rows from approaches = (i : ℕ) (approach : Approach)
     → slice_get approaches i ≡ Some approach
     → (row : ListedClass) × (slice_get rows (from + i) ≡ Some row)
-    × IsApproachInLanes job span stem row.class approach
+    × IsApproachTo job span stem row.class approach
 
 -- the lanes in which an approach came to the stem are among these
 abbrev pub IsAmongLanes : ℕ → Approach → Type 0

@@ -7,8 +7,7 @@ ghost use Rattle.bench_net.specs.Scan.{names};
 ghost use Rattle.fault_model.specs.Solution.{Test};
 ghost use Rattle.flat_circuit.specs.BlockSpans.{IsSpan, group_of, groups};
 ghost use Rattle.region_sim.specs.GroupLanes.{AreAmongLanes, AreApproaches, HasWholeGroup};
-ghost use Rattle.region_sim.specs.GroupLanes.{HaveGroupLanes, IsAmongLanes, IsApproachInLanes};
-ghost use Rattle.region_sim.specs.GroupLanes.{lanes_seen};
+ghost use Rattle.region_sim.specs.GroupLanes.{HaveGroupLanes, IsAmongLanes, lanes_seen};
 ghost use Rattle.block_sim.specs.Listed.{IsListed};
 ghost use Rattle.block_sim.specs.Parts.{HasRoom};
 ghost use Rattle.block_sim.specs.PropagationState.{HasRoomFor, IsAsLarge, IsClear};
@@ -16,14 +15,13 @@ ghost use Rattle.block_sim.specs.Flips.{DetectsFlip};
 ghost use Rattle.region_sim.specs.Sensitized.{HasBegun, IsSameRegion, IsViewOf};
 ghost use Rattle.flat_circuit.specs.Words.{lane, test_of, AreWords, HasWords};
 
-use crate::region::{Approach, Arrival, Reach};
-use crate::region_simulation::{row_at, view_of};
-use crate::sensitized::{Sensitized, follow_within};
+use crate::region::Approach;
+use crate::region_simulation::{follow_listed, row_at, view_of};
+use crate::sensitized::Sensitized;
 use block_sim::Job;
 use block_sim::block_span::BlockSpan;
 use block_sim::block_view::BlockView;
-use block_sim::launch_condition::launch_lanes;
-use block_sim::origin::{ListedClass, origin_of};
+use block_sim::origin::ListedClass;
 use block_sim::propagation::{Extent, propagate};
 use block_sim::propagation_state::PropagationState;
 use patterns::Tests;
@@ -146,7 +144,6 @@ fn follow_region(
     approaches: &mut Vec<Approach>,
 ) -> u128
     requires span { IsSpan (length job.now.tests.tests) span }
-    requires whole { HasWholeGroup (length job.now.tests.tests) span }
     requires room { HasRoomFor job.now.circuit changes.old }
     requires clear { IsClear changes.old }
     requires rows { All (IsListed job.now) rows.now }
@@ -179,7 +176,7 @@ fn follow_region(
         if row.stem != stem {
             return lanes;
         }
-        let approach = follow_in_lanes(job, view, span, row, region, changes);
+        let approach = follow_listed(job, view, span, row, region, changes);
         lanes |= lanes_to_stem(approach);
         approaches.push_reserved(approach);
         place += 1;
@@ -194,46 +191,6 @@ fn lanes_to_stem(approach: Approach) -> u128
     match approach {
         Approach::Known(_word) => 0,
         Approach::Stem(at) => at.lanes,
-    }
-}
-
-/// Follows a class to the stem of the current region, in each lane of a group.
-fn follow_in_lanes(
-    job: &Job,
-    view: BlockView<'_>,
-    span: BlockSpan,
-    row: ListedClass,
-    region: &mut Sensitized,
-    changes: &mut PropagationState,
-) -> Approach
-    requires span { IsSpan (length job.now.tests.tests) span }
-    requires whole { HasWholeGroup (length job.now.tests.tests) span }
-    requires room { HasRoomFor job.now.circuit changes.old }
-    requires clear { IsClear changes.old }
-    requires row { IsListed job.now row }
-    requires view { IsViewOf job.now span view }
-    requires begun { HasBegun job.now view row.stem region.old }
-    ensures approach { IsApproachInLanes job.now span row.stem row.class result }
-    ensures begun { HasBegun job.now view.entry row.stem region.new }
-    ensures same { IsSameRegion region.old region.new }
-    ensures room { IsAsLarge changes.old changes.new }
-    ensures clear { IsClear changes.new }
-{
-    let lanes = view.lanes & launch_lanes(job, span.first / 2, row.representative);
-    let own = BlockView {
-        circuit: view.circuit,
-        good: view.good,
-        lanes,
-    };
-    let origin = origin_of(view.circuit, row.representative);
-    match follow_within(own, origin, region, changes) {
-        Reach::Observed(word) => Approach::Known(word),
-        Reach::Stem(at) => {
-            Approach::Stem(Arrival {
-                signal: row.stem,
-                lanes: lanes & at.lanes,
-            })
-        }
     }
 }
 

@@ -586,7 +586,7 @@ fn follow_row(
 
 /// Follows a class to the stem of the current region. Each lane in which it comes to an observed
 /// stem detects it.
-fn follow_listed(
+pub(crate) fn follow_listed(
     job: &Job,
     view: BlockView<'_>,
     span: BlockSpan,

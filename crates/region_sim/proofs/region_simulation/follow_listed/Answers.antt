@@ -14,9 +14,10 @@ use Rattle.flat_circuit.specs.Words.{lane, test_of}
 use Rattle.flat_circuit.proofs.Public.{lane_zero, reordered, within_there, circuit_there}
 use Rattle.flat_circuit.proofs.Public.{listed_there, starts_there, same_readers, lane_of_zero}
 use Rattle.flat_circuit.proofs.Public.{lanes_decide}
-use Rattle.block_sim.proofs.Public.{room_there, first_of_told, observed_flip, lanes_both}
+use Rattle.block_sim.proofs.Public.{room_there, observed_flip, lanes_both}
 use Rattle.block_sim.proofs.Public.{lanes_first, lanes_second, same_flips, same_stems}
 use Rattle.region_sim.proofs.ArrangedReaches.{reached_there}
+use Rattle.region_sim.proofs.GroupLanes.{lanes_exact}
 use Rattle.flat_circuit.specs.Origins.{IsStuckOf}
 use Rattle.region_sim.proofs.region_simulation.follow_listed.Goals as goal
 
@@ -92,9 +93,7 @@ returns-in-Observed-clause-approach c =
     (c.in-Observed.ensures.reached tests group words)) in (
       fault,
       o.1,
-      first_of_told circuit tests span fault lanes word decides
-          (λ k lt e. (reached k lt).0 e)
-          (λ k lt own none d. false≢true (sym (none k (omega arith)) ∙ (reached k lt).1 (own, d))),
+      lanes_exact circuit tests span fault lanes word decides reached,
     )
 
 pub returns-then-lanes-eq0-clause-approach : goal.returns-then-lanes-eq0-clause-approach
@@ -133,11 +132,11 @@ returns-then-lanes-eq0-clause-approach c =
     (c.in-Stem.ensures.reached tests group words))) in (
       fault,
       o.1,
-      first_of_told circuit tests span fault lanes 0 decides
-          (λ k lt e. absurd (false≢true (sym (lane_zero k) ∙ e)))
-          (λ k lt own none d. (let h = (come k lt own).0 d in
-          false≢true (sym (lane_of_zero (bit_and lanes at.lanes) k c.if-lanes-eq0.true)
-          ∙ lanes_both lanes at.lanes k own h.0))),
+      lanes_exact circuit tests span fault lanes 0 decides (λ k lt. (
+        λ e. absurd (false≢true (sym (lane_zero k) ∙ e)),
+        λ h. absurd (false≢true (sym (lane_of_zero (bit_and lanes at.lanes) k c.if-lanes-eq0.true)
+            ∙ lanes_both lanes at.lanes k h.0 ((come k lt h.0).0 h.1).0)),
+      )),
     )
 
 pub returns-else-is_observed-clause-approach : goal.returns-else-is_observed-clause-approach
@@ -225,16 +224,16 @@ returns-then-is_observed-clause-approach c =
     (subst (IsObserved there) stem (c.is_observed.ensures.0 c.if-is_observed.true)) in (
       fault,
       o.1,
-      first_of_told circuit tests span fault lanes (bit_and lanes at.lanes) decides
-          (λ k lt e. (
-            lanes_first lanes at.lanes k e,
-            (come k lt (lanes_first lanes at.lanes k e)).1 (
-              lanes_second lanes at.lanes k e,
-              observed_flip circuit (test_of tests group k) here well observed,
-            ),
-          ))
-          (λ k lt own none d. (let h = (come k lt own).0 d in
-          false≢true (sym (none k (omega arith)) ∙ lanes_both lanes at.lanes k own h.0))),
+      lanes_exact circuit tests span fault lanes (bit_and lanes at.lanes) decides (λ k lt. (
+        λ e. (
+          lanes_first lanes at.lanes k e,
+          (come k lt (lanes_first lanes at.lanes k e)).1 (
+            lanes_second lanes at.lanes k e,
+            observed_flip circuit (test_of tests group k) here well observed,
+          ),
+        ),
+        λ h. lanes_both lanes at.lanes k h.0 ((come k lt h.0).0 h.1).0,
+      )),
     )
 
 pub launch_lanes-requires-clause-stuck : goal.launch_lanes-requires-clause-stuck

@@ -1,5 +1,6 @@
 use Rattle.std.proofs.Common.{inl, inr, refl, subst}
 use Rattle.region_sim.specs.Arrivals.{HasArrived}
+use Rattle.region_sim.proofs.GroupLanes.{exact_first}
 use Rattle.region_sim.proofs.RegionHits.{first_of_word}
 use Rattle.region_sim.proofs.region_simulation.follow_row.Goals as goal
 
@@ -11,7 +12,9 @@ returns-in-Known-clause-found c = inl (
   refl,
   c.test_of.result,
   first_of_word c.args.job.now c.args.span c.args.row.class c.in-Known.word c.test_of.result
-      c.requires.span c.in-Known.ensures.approach c.test_of.ensures,
+      c.requires.span
+      (exact_first c.args.job.now c.args.span c.args.row.class c.in-Known.word
+      c.in-Known.ensures.approach) c.test_of.ensures,
   c.keep.ensures,
 )
 

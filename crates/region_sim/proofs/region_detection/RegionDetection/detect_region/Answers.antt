@@ -53,11 +53,6 @@ begin-requires-clause-stem c =
     c.place_of-place.ensures.place ∙ ap (λ x. place x there row.stem) view.part in
     subst (IsStem there) (sym place_is) on.2.1
 
-pub follow_region-lanes-requires-clause-whole : goal.follow_region-lanes-requires-clause-whole
-follow_region-lanes-requires-clause-whole c =
-    subst (λ (t : TestList). HasWholeGroup (length t.tests) c.group_span-span.result)
-    c.tests.ensures.part c.group_span-span.ensures.whole
-
 pub flip_stem_in_lanes-seen-requires-clause-stem : goal.flip_stem_in_lanes-seen-requires-clause-stem
 flip_stem_in_lanes-seen-requires-clause-stem c =
     (listed_at c.args.job.now c.args.rows.now c.args.from c.row_at-stem.result c.requires.rows
