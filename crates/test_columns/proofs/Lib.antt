@@ -1,0 +1,3 @@
+mod FirstLine
+mod Named
+mod SourceNames
