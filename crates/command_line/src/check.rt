@@ -1,5 +1,6 @@
 //! The command `check`.
 
+use crate::columns::check_names;
 use crate::command::{read_file, read_model, read_option};
 use crate::status::{CommandError, NO_MEMORY, UNWRITTEN};
 use block_sim::JobFault;
@@ -26,6 +27,9 @@ pub(crate) fn do_check<'a, S: Source, W: Out, E: Out>(
         None => None,
     };
     let text = tests.as_ref().map(|tests| tests.as_slice());
+    if let Some(text) = text {
+        check_names(alloc, matches, &bench, text)?;
+    }
     match check_texts(alloc, model, &bench, text) {
         Ok(answer) => write_answer(matches, &answer, out, err),
         Err(AllocError) => Err(NO_MEMORY),

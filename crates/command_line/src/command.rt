@@ -5,6 +5,7 @@ ghost use Rattle.command_line.specs.Options.{NamesModel};
 
 use crate::check::do_check;
 use crate::choices::{Setting, workers_help};
+use crate::columns::{InputFiles, read_inputs};
 use crate::compact::do_compact;
 use crate::curve::do_curve;
 use crate::detected::do_detections;
@@ -303,8 +304,7 @@ fn do_schedule<'a, S: Source, W: Out>(
     let model = read_model(matches)?;
     let workers = read_workers(matches)?;
     let contents = read_contents(matches)?;
-    let bench = read_option(alloc, matches, "bench", files)?;
-    let tests = read_option(alloc, matches, "tests", files)?;
+    let InputFiles { bench, tests } = read_inputs(alloc, matches, files)?;
     let order = read_option(alloc, matches, "order", files)?;
     match schedule_text_with(alloc, model, &bench, &tests, &order, workers, contents, out) {
         Ok(()) => Ok(()),

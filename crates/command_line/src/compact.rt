@@ -1,7 +1,8 @@
 //! The command `compact`.
 
 use crate::choices::{STEEPEST, TEST_ORDER};
-use crate::command::{read_model, read_option};
+use crate::columns::{InputFiles, read_inputs};
+use crate::command::read_model;
 use crate::crew::read_crew;
 use crate::pieces::run_fault;
 use crate::split::read_split;
@@ -32,8 +33,7 @@ pub(crate) fn do_compact<'a, R: Threads + Wait, S: Source, W: Out, E: Out>(
         order: read_test_order(matches, model)?,
         form: read_kept_form(matches),
     };
-    let bench = read_option(alloc, matches, "bench", files)?;
-    let tests = read_option(alloc, matches, "tests", files)?;
+    let InputFiles { bench, tests } = read_inputs(alloc, matches, files)?;
     let workers = read_crew(matches, &bench, &tests)?;
     match compact_text_with(
         rt, alloc, model, &bench, &tests, split, workers, layout, out,

@@ -1,6 +1,7 @@
 //! The options `--detections` and `--histogram` of the command `run`.
 
-use crate::command::{read_model, read_option, read_workers};
+use crate::columns::{InputFiles, read_inputs};
+use crate::command::{read_model, read_workers};
 use crate::format::read_format;
 use crate::pieces::run_fault;
 use crate::split::read_split;
@@ -47,8 +48,7 @@ pub(crate) fn do_detections<'a, R: Threads + Wait, S: Source, W: Out>(
     let workers = read_workers(matches)?;
     let list = matches.get_flag("list");
     let format = read_histogram_format(matches)?;
-    let bench = read_option(alloc, matches, "bench", files)?;
-    let tests = read_option(alloc, matches, "tests", files)?;
+    let InputFiles { bench, tests } = read_inputs(alloc, matches, files)?;
     let split = read_split(matches)?;
     let done = match format {
         Some(format) => {

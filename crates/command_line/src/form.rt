@@ -2,6 +2,7 @@
 
 ghost use Rattle.command_line.specs.Form.{HasParts};
 
+use crate::columns::check_names;
 use crate::command::{read_model, read_option};
 use crate::crew::read_crew;
 use crate::long_tests::write_of_long_tests;
@@ -104,6 +105,7 @@ pub(crate) fn write_form<'a, R: Threads + Wait, S: Source, W: Out, E: Out + Send
         }
     }
     let tests = read_option(alloc, matches, "tests", files)?;
+    check_names(alloc, matches, &bench, &tests)?;
     let workers = read_crew(matches, &bench, &tests)?;
     let inputs = Inputs {
         model,

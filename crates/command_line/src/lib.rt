@@ -7,6 +7,7 @@
 mod arguments;
 mod check;
 mod choices;
+mod columns;
 mod command;
 mod compact;
 mod crew;

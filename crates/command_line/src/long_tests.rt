@@ -8,6 +8,7 @@ ghost use Rattle.report.specs.EndToEnd.{WritesOneOf};
 ghost use Rattle.command_line.specs.Form.{HasParts, HasVerdictsAlone, IsFormOfJob};
 ghost use Rattle.command_line.specs.Options.{NamesModel};
 
+use crate::columns::check_opened;
 use crate::command::{read_model, read_option, read_workers};
 use crate::form::Form;
 use crate::pieces::{is_excess, run_fault};
@@ -75,6 +76,10 @@ pub(crate) fn write_of_long_tests<'a, R: Threads + Wait, S: Source, W: Out, E: O
     let Some(inputs) = open_inputs(matches, bench, files)? else {
         return Ok(None);
     };
+    match check_opened(alloc, matches, bench, files) {
+        Some(checked) => checked?,
+        None => return Ok(None),
+    }
     let model = inputs.model;
     let tally = Tally::new();
     let done = if matches.get_flag("progress") {

@@ -1,6 +1,6 @@
 //! The command `responses`.
 
-use crate::command::read_option;
+use crate::columns::{InputFiles, read_inputs};
 use crate::status::CommandError;
 use analysis_reports::{pairs_text_in, responses_text_in};
 use clap::ArgMatches;
@@ -15,8 +15,7 @@ pub(crate) fn do_responses<'a, S: Source, W: Out>(
     files: &mut S,
     out: &mut W,
 ) -> Result<(), CommandError<'a>> {
-    let bench = read_option(alloc, matches, "bench", files)?;
-    let tests = read_option(alloc, matches, "tests", files)?;
+    let InputFiles { bench, tests } = read_inputs(alloc, matches, files)?;
     let done = if matches.get_flag("pairs") {
         pairs_text_in(alloc, &bench, &tests, out)
     } else {

@@ -9,12 +9,13 @@ use part_files::{MergeFault, PartFault};
 use patterns::TestFault;
 use report::{Formatted, Out, ReportFault, SimFault};
 use std::fmt::Write;
+use test_columns::Mismatch;
 
 /// The status of a coverage that is below the threshold.
 pub(crate) const MISSED: u8 = 4;
 
 /// The error of a command that failed, or the shortfall of a command that succeeded.
-#[derive(Clone, Copy)]
+#[derive(Drop)]
 pub(crate) enum CommandError<'a> {
     /// An argument of the process is no text.
     NoText,
@@ -28,6 +29,8 @@ pub(crate) enum CommandError<'a> {
     Unwritten(&'a str),
     /// A file has an error, or the work on it or the output failed.
     Sim(SimFault),
+    /// The test file at a path names its columns otherwise than the circuit.
+    Columns(&'a str, Mismatch),
     /// A run has too many pieces, by this excess.
     TooManyPieces(SimFault, Excess),
     /// The part file at a path has an error.
@@ -110,6 +113,7 @@ pub(crate) fn answer_fault<E: Out>(fault: &CommandError<'_>, err: &mut E) -> u8
         }
         CommandError::Unwritten(path) => writeln!(text, "faultsim: cannot write {path}"),
         CommandError::Sim(fault) => writeln!(text, "faultsim: {fault}"),
+        CommandError::Columns(path, mismatch) => writeln!(text, "faultsim: {path}: {mismatch}"),
         CommandError::TooManyPieces(fault, excess) => {
             writeln!(text, "faultsim: {fault}\n    {excess}")
         }
@@ -122,7 +126,7 @@ pub(crate) fn answer_fault<E: Out>(fault: &CommandError<'_>, err: &mut E) -> u8
         CommandError::NoText | CommandError::Misused(_) | CommandError::Unfit(..) => MISUSED,
         CommandError::Unreadable(..) | CommandError::Unwritten(_) | CommandError::Lost => FAILED,
         CommandError::Sim(fault) | CommandError::TooManyPieces(fault, _) => status_of(fault),
-        CommandError::Part(..) | CommandError::Merge(_) => REFUSED,
+        CommandError::Part(..) | CommandError::Merge(_) | CommandError::Columns(..) => REFUSED,
         CommandError::Missed(_) => MISSED,
     }
 }
