@@ -1,6 +1,9 @@
 -- The outputs of a run.
-use Rattle.std.specs.Prelude.{◌<◌, ⊤, ℕ, List}
-use Rattle.block_sim.specs.Parts.{Parts}
+use Rattle.std.specs.Prelude.{◌≡◌, ◌<◌, ⊤, ℕ, List}
+use Rattle.bench_net.specs.Refusal.{IsAccepted}
+use Rattle.fault_model.specs.declared.Model.{Model}
+use Rattle.block_sim.specs.Parts.{BelongTogether, Parts}
+use Rattle.job_loading.specs.Jobs.{IsJobOf}
 use Rattle.job_loading.specs.Splits.{HasSomePart}
 use Rattle.report.specs.Curve.{IsCurveOfJob}
 use Rattle.report.specs.EndToEnd.{IsReportOfJob}
@@ -35,3 +38,13 @@ IsFormOfJob job (Table lines format split) = IsFirstTableOfJob job lines format
 IsFormOfJob job (Curve split) = IsCurveOfJob job
 IsFormOfJob job (CurveTable format split) = IsCurveTableOfJob job format
 IsFormOfJob job _ = λ _. ⊥
+
+-- the bytes are such an output for a bench file and a test file under a model
+abbrev pub IsFormOf : Model → List ℕ → List ℕ → Form → List ℕ → Type 0
+IsFormOf m bench text form bytes =
+    (job : Parts) × IsJobOf m bench text job × IsFormOfJob job form bytes
+
+-- the bytes are such an output for a bench file and some tests under a model
+abbrev pub IsFormForSome : Model → List ℕ → Form → List ℕ → Type 0
+IsFormForSome m bench form bytes = (job : Parts) × IsAccepted bench job.circuit
+    × (job.list.model ≡ m) × BelongTogether job × IsFormOfJob job form bytes

@@ -1,11 +1,12 @@
 //! Runs whose test file is long: it is read piece by piece, so that its bytes are never all in
 //! memory.
 
-ghost use Rattle.std.specs.Prelude.{◌≡◌, ◌<◌, IfOk, IfSome, true};
+ghost use Rattle.std.specs.Prelude.{◌≡◌, ◌<◌, IfNone, IfOk, IfSome, true};
 ghost use Rattle.block_sim.specs.Parts.{BelongTogether};
 ghost use Rattle.job_loading.specs.Splits.{HasSomePart};
 ghost use Rattle.report.specs.EndToEnd.{WritesOneOf};
-ghost use Rattle.command_line.specs.Form.{HasParts, HasVerdictsAlone, IsFormOfJob};
+ghost use Rattle.command_line.specs.Form.{HasParts, HasVerdictsAlone, IsFormForSome, IsFormOf};
+ghost use Rattle.command_line.specs.Form.{IsFormOfJob};
 ghost use Rattle.command_line.specs.Options.{NamesModel};
 
 use crate::columns::check_opened;
@@ -124,7 +125,7 @@ fn open_inputs<'a, 'b, S: Source>(
     }
 }
 
-/// Runs and writes the output, and draws the progress of the run, as [`write_run`] does without.
+/// Runs and writes the output as [`write_run`] does, and draws the progress of the run.
 fn write_drawn<R: Threads + Wait, F: Read + Send + Drop, W: Out, E: Out + Send>(
     rt: &R,
     alloc: Global,
@@ -137,6 +138,13 @@ fn write_drawn<R: Threads + Wait, F: Read + Send + Drop, W: Out, E: Out + Send>(
 ) -> Option<Result<(), SimFault>>
     requires split { HasSomePart split }
     requires form { HasVerdictsAlone form }
+    ensures none { IfNone result (W.seen out.new ≡ W.seen out.old) }
+    ensures written { IfSome result (λ done. WritesOneOf
+        (IsFormForSome inputs.entry.model inputs.entry.bench.now form) done (W.seen out.old)
+        (W.seen out.new)) }
+    ensures files { IfSome (F.remaining inputs.entry.tests) (λ text. IfSome result (λ done.
+        WritesOneOf (IsFormOf inputs.entry.model inputs.entry.bench.now text form) done
+        (W.seen out.old) (W.seen out.new))) }
 {
     let Ok(progress) = Progress::new(alloc, tally, err) else {
         return Some(Err(SimFault::Memory));
@@ -159,6 +167,13 @@ fn write_run<R: Threads + Wait, F: Read + Send + Drop, G: Watch + Sync, W: Out>(
 ) -> Option<Result<(), SimFault>>
     requires split { HasSomePart split }
     requires form { HasVerdictsAlone form }
+    ensures none { IfNone result (W.seen out.new ≡ W.seen out.old) }
+    ensures written { IfSome result (λ done. WritesOneOf
+        (IsFormForSome inputs.entry.model inputs.entry.bench.now form) done (W.seen out.old)
+        (W.seen out.new)) }
+    ensures files { IfSome (F.remaining inputs.entry.tests) (λ text. IfSome result (λ done.
+        WritesOneOf (IsFormOf inputs.entry.model inputs.entry.bench.now text form) done
+        (W.seen out.old) (W.seen out.new))) }
 {
     let Inputs {
         model,
