@@ -343,8 +343,8 @@ fn have_window<R: Threads + Wait>(
 }
 
 /// Returns all classes of a job in the order of [`region_sim::class_order::class_order`], and
-/// whether it has the tests of the first window now: with a second worker a thread sorts the classes
-/// while the job takes them.
+/// whether it has the tests of the first window now: with a second worker a thread sorts the
+/// classes while the job takes them.
 fn classes_and_window<R: Threads + Wait>(
     rt: &R,
     alloc: Global,

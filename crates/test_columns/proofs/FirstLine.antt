@@ -1,5 +1,6 @@
 -- The first line of a text that has more than blanks.
-use Rattle.std.proofs.Common.{◌≡◌, ◌<◌, ◌+◌, ◌-◌, ◌∙◌, ◌++◌, ℕ, zero, suc, Bool, true, false, List, [], ◌∷◌}
+use Rattle.std.proofs.Common.{◌≡◌, ◌<◌, ◌+◌, ◌-◌, ◌∙◌, ◌++◌, ℕ, zero, suc, Bool, true, false}
+use Rattle.std.proofs.Common.{List, [], ◌∷◌}
 use Rattle.std.proofs.Common.{append_assoc, ap, arith, drop, filter, get_or, inl, inr, length, map}
 use Rattle.std.proofs.Common.{length-append, refl, sym, take, ◌==◌, subst}
 use Rattle.std.specs.Prelude.{◌≢◌, IfSome, Option, Some, None, option_and_then, slice_get}

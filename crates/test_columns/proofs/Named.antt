@@ -1,7 +1,9 @@
 -- The columns of a test file, and the first place at which two lists of names differ.
-use Rattle.std.proofs.Common.{◌≡◌, ◌∙◌, ◌<◌, ◌≤◌, ◌-◌, ◌⊎◌, ℕ, zero, suc, List, [], ◌∷◌, Result, Ok, Err}
+use Rattle.std.proofs.Common.{◌≡◌, ◌∙◌, ◌<◌, ◌≤◌, ◌-◌, ◌⊎◌, ℕ, zero, suc, List, [], ◌∷◌}
+use Rattle.std.proofs.Common.{Result, Ok, Err}
 use Rattle.std.proofs.Common.{ap, arith, inl, inr, length, refl, sym}
-use Rattle.std.specs.Prelude.{◌≢◌, Some, None, IfErr, OnOk, option_and_then, option_map, slice_get, unwrap_or}
+use Rattle.std.specs.Prelude.{◌≢◌, Some, None, IfErr, OnOk, option_and_then, option_map}
+use Rattle.std.specs.Prelude.{slice_get, unwrap_or}
 use Rattle.bench_net.specs.declared.BenchFault.{BenchFault}
 use Rattle.bench_net.specs.declared.BenchFault.TheVariants as bench_fault
 use Rattle.bench_net.specs.Refusal.{IsAccepted, IsRefused}

@@ -32,7 +32,8 @@ append_right (z ∷ xs) ys zero le = absurd (omega (arith, le))
 append_right (z ∷ xs) ys (suc i) le =
     append_right xs ys i (omega (arith, le)) ∙ ap (slice_get ys) (omega arith)
 
-at_source : (c : List Statement) (place number : ℕ) (n : Name) → slice_get (sources c) place ≡ Some n
+at_source : (c : List Statement) (place number : ℕ) (n : Name)
+    → slice_get (sources c) place ≡ Some n
     → Among n (names c) → number ≡ signal c n → IsSourceAt c place number
 at_source c place number n is a e =
     let named = name_of-signal c n (contained (names c) n a) in record {

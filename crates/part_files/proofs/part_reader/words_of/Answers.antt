@@ -59,4 +59,5 @@ returns-in-None c =
       tests = c.in_ok-tests.tests.now;
     }) _ _ _ _ c.requires c.in_ok-model.ensures c.in_ok-rule.ensures c.in_ok-bench.ensures
     c.in_ok-tests.ensures (let some : length c.in_ok-tests.tests.now ≢ 0 =
-    eqb-false _ _ (sym c.is_empty.ensures ∙ c.if-is_empty.false) in omega (arith, some)) c.in-None.ensures
+    eqb-false _ _ (sym c.is_empty.ensures ∙ c.if-is_empty.false) in omega (arith, some))
+    c.in-None.ensures
