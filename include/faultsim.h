@@ -48,6 +48,15 @@ typedef struct fs_fault {
     uint64_t place;
 } fs_fault;
 
+/* The site of a fault: a line of the circuit, and the bit at which it is stuck. Numbers count from
+ * 0. */
+typedef struct fs_site {
+    uint32_t kind;  /* FS_STEM, FS_PIN, FS_DATA or FS_OUTPUT */
+    uint32_t at;    /* the signal, the signal of the gate, the flip-flop or the OUTPUT line */
+    uint32_t pin;   /* the pin of the gate, or 0 */
+    uint32_t stuck; /* 0 or 1; a transition fault is slow to leave the bit */
+} fs_site;
+
 /* Statuses. */
 enum {
     FS_DONE,    /* the call did what it is for */
@@ -89,6 +98,27 @@ enum {
     FS_LINES_NONE,
     FS_LINES_ALL,       /* as --list */
     FS_LINES_UNDETECTED /* as --undetected */
+};
+
+/* Kinds of signals: primary inputs and scan cells, and signals of gates. */
+enum {
+    FS_SOURCE,
+    FS_AND,
+    FS_NAND,
+    FS_OR,
+    FS_NOR,
+    FS_XOR,
+    FS_XNOR,
+    FS_NOT,
+    FS_BUFF
+};
+
+/* Kinds of lines. */
+enum {
+    FS_STEM,  /* the stem of a signal */
+    FS_PIN,   /* a pin of a gate */
+    FS_DATA,  /* the data pin of a flip-flop */
+    FS_OUTPUT /* an OUTPUT line */
 };
 
 /* Stands in place of a first test if no test detects. */
@@ -163,9 +193,39 @@ uint32_t fs_fault_text(fs_job *job, uint32_t fault, uint8_t *text, size_t text_l
  * or out of range. */
 uint32_t fs_source_of(fs_job *job, uint32_t signal, uint32_t *place);
 
+/* Writes the number of the signal of a name. The status is FS_RANGE if no signal has the name. */
+uint32_t fs_signal_named(fs_job *job, const uint8_t *name, size_t name_len, uint32_t *signal);
+
+/* Writes the kind of each signal: FS_SOURCE, or the kind of the gate that drives it. kinds_len is
+ * the number of signals. */
+uint32_t fs_kinds_of(fs_job *job, uint32_t *kinds, size_t kinds_len);
+
+/* Writes the level of each signal: 0 for a source, and for the signal of a gate one more than the
+ * greatest level of the signals that the gate reads. levels_len is the number of signals. */
+uint32_t fs_levels_of(fs_job *job, uint32_t *levels, size_t levels_len);
+
+/* Writes the fan-in of each signal: the signals that the pins of its gate read, in order. Those of
+ * signal s are pins[starts[s]] up to pins[starts[s + 1] - 1]; a source has none. `wanted` is the
+ * number of all pins. starts_len is the number of signals and one more, and pins_len is `wanted`;
+ * if one of them is another number, the status is FS_RANGE. The arrays don't overlap. */
+uint32_t fs_fan_ins_of(fs_job *job, uint32_t *starts, size_t starts_len, uint32_t *pins,
+                       size_t pins_len, size_t *wanted);
+
+/* Writes the site of each fault. sites_len is the number of faults. */
+uint32_t fs_sites_of(fs_job *job, fs_site *sites, size_t sites_len);
+
+/* Writes the number of the fault of a site. The status is FS_RANGE if the circuit has no such
+ * fault, as at a pin whose signal nothing else reads. It looks at one fault after another: for many
+ * sites make a table from fs_sites_of. */
+uint32_t fs_fault_at(fs_job *job, const fs_site *site, uint32_t *fault);
+
 /* Writes the fault-free value of a signal: bit k of `word` is its value in test 64 * block + k. Bits
  * past the last test may be 1. */
 uint32_t fs_word(fs_job *job, uint32_t block, uint32_t signal, uint64_t *word);
+
+/* Writes the fault-free values of all signals in the tests of a block: words[signal] is the word
+ * that fs_word writes. words_len is the number of signals. */
+uint32_t fs_values(fs_job *job, uint32_t block, uint64_t *words, size_t words_len);
 
 /* Writes the signal of each observer, and the number of observers in `wanted`: the OUTPUT lines in
  * order, then the data pins of the flip-flops, in the order of the DFF lines. If the array has less

@@ -255,6 +255,85 @@ static uint32_t say_word(fs_job *job, fs_fault *fault) {
     return status;
 }
 
+static uint32_t say_signal(fs_job *job, fs_fault *fault) {
+    (void)fault;
+    uint32_t signal = 0;
+    const uint8_t *name = (const uint8_t *)words[2];
+    uint32_t status = fs_signal_named(job, name, strlen(words[2]), &signal);
+    if (status == FS_RANGE)
+        say("-");
+    else if (!status)
+        say("%" PRIu32, signal);
+    return status == FS_RANGE ? FS_DONE : status;
+}
+
+static uint32_t say_kinds(fs_job *job, fs_fault *fault) {
+    (void)fault;
+    uint32_t kinds[WORDS], signals = sizes_of(job).signals;
+    uint32_t status = fs_kinds_of(job, kinds, signals);
+    say_numbers(kinds, status ? 0 : signals);
+    return status;
+}
+
+static uint32_t say_levels(fs_job *job, fs_fault *fault) {
+    (void)fault;
+    uint32_t levels[WORDS], signals = sizes_of(job).signals;
+    uint32_t status = fs_levels_of(job, levels, signals);
+    say_numbers(levels, status ? 0 : signals);
+    return status;
+}
+
+static uint32_t say_fan_ins(fs_job *job, fs_fault *fault) {
+    (void)fault;
+    uint32_t starts[WORDS], pins[WORDS], signals = sizes_of(job).signals;
+    size_t wanted = 0;
+    uint32_t status = fs_fan_ins_of(job, starts, signals, pins, 0, &wanted);
+    if (status != FS_RANGE)
+        end("starts of a wrong length are taken", words[0]);
+    status = fs_fan_ins_of(job, starts, signals + 1, pins, wanted, &wanted);
+    if (!status) {
+        say_numbers(starts, signals + 1);
+        say(", ");
+        say_numbers(pins, wanted);
+    }
+    return status;
+}
+
+static uint32_t say_sites(fs_job *job, fs_fault *fault) {
+    (void)fault;
+    fs_site sites[WORDS];
+    uint32_t faults = sizes_of(job).faults;
+    uint32_t status = fs_sites_of(job, sites, faults);
+    for (uint32_t i = 0; !status && i < faults; i++) {
+        uint32_t all[] = {sites[i].kind, sites[i].at, sites[i].pin, sites[i].stuck};
+        say(i ? ", " : "");
+        say_numbers(all, 4);
+    }
+    return status;
+}
+
+static uint32_t say_fault_at(fs_job *job, fs_fault *fault) {
+    (void)fault;
+    fs_site site = {number(2), number(3), number(4), number(5)};
+    uint32_t at = 0;
+    uint32_t status = fs_fault_at(job, &site, &at);
+    if (status == FS_RANGE)
+        say("-");
+    else if (!status)
+        say("%" PRIu32, at);
+    return status == FS_RANGE ? FS_DONE : status;
+}
+
+static uint32_t say_values(fs_job *job, fs_fault *fault) {
+    (void)fault;
+    uint64_t all[WORDS];
+    fs_sizes n = sizes_of(job);
+    uint32_t status = fs_values(job, number(2), all, n.signals);
+    for (uint32_t i = 0; !status && i < n.signals; i++)
+        say(i ? " %" PRIx64 : "%" PRIx64, all[i] & lanes_of(&n, number(2)));
+    return status;
+}
+
 static uint32_t say_observers(fs_job *job, fs_fault *fault) {
     (void)fault;
     uint32_t signals[WORDS];
@@ -384,7 +463,10 @@ static const struct {
     {"set_rows", set_rows}, {"classes_of", say_classes_of}, {"stems_of", say_stems_of},
     {"name_of", say_name}, {"names", say_names}, {"sources", say_sources},
     {"fault_name", say_fault_name}, {"fault_names", say_fault_names}, {"word", say_word},
-    {"observers", say_observers}, {"responses", say_responses}, {"simulate", say_firsts},
+    {"signal_named", say_signal}, {"kinds_of", say_kinds}, {"levels_of", say_levels},
+    {"fan_ins_of", say_fan_ins}, {"sites_of", say_sites}, {"fault_at", say_fault_at},
+    {"values", say_values}, {"observers", say_observers}, {"responses", say_responses},
+    {"simulate", say_firsts},
     {"detecting", say_lanes}, {"detections", say_counts}, {"report", say_report},
     {"coverage", say_coverage}, {"firsts", say_in_one}, {"version", say_version},
     {"error", say_error}, {"status", say_status_text},

@@ -83,6 +83,30 @@ static uint32_t in_one(void) {
                      strlen(tests), firsts, n.faults, &faults, &fault);
 }
 
+/* The calls about the circuit in arrays, over memory of the program. */
+static uint32_t circuit_without(void) {
+    static uint32_t numbers[4096], pins[4096], one;
+    static uint64_t values[4096];
+    static fs_site sites[8192];
+    if (n.signals >= 4096 || n.faults > 8192)
+        end("the circuit is too large", 0);
+    uint32_t status = fs_kinds_of(&job, numbers, n.signals);
+    if (!status)
+        status = fs_levels_of(&job, numbers, n.signals);
+    size_t all = 0;
+    if (!status && fs_fan_ins_of(&job, numbers, n.signals + 1, pins, 0, &all) != FS_RANGE)
+        end("fs_fan_ins_of", 0);
+    if (!status)
+        status = fs_fan_ins_of(&job, numbers, n.signals + 1, pins, all, &all);
+    if (!status)
+        status = fs_sites_of(&job, sites, n.faults);
+    if (!status)
+        status = fs_fault_at(&job, &sites[n.faults - 1], &one);
+    if (!status)
+        status = fs_signal_named(&job, text, wanted, &one);
+    return status ? status : fs_values(&job, 0, values, n.signals);
+}
+
 /* The calls that take no memory: the first that isn't done, or FS_DONE. */
 static uint32_t without(void) {
     fs_sizes sizes;
@@ -99,6 +123,8 @@ static uint32_t without(void) {
         status = fs_source_of(&job, 0, &place);
     if (!status)
         status = fs_word(&job, 0, 0, &word);
+    if (!status)
+        status = circuit_without();
     if (!status)
         status = fs_observers_of(&job, (uint32_t *)text, text_len / 4, &observers);
     if (!status)

@@ -130,6 +130,31 @@ static std::string responses(const faultsim::Job &job) {
     return joined(words, hexadecimal);
 }
 
+static std::string number_or_none(std::optional<std::uint32_t> number) {
+    return number ? decimal(*number) : "-";
+}
+
+static std::string fan_ins(const faultsim::Job &job) {
+    faultsim::FanIns all = job.fan_ins_of();
+    Numbers by_signal;
+    for (std::uint32_t signal = 0; signal < job.sizes().signals; signal++)
+        by_signal.insert(by_signal.end(), all.of(signal).begin(), all.of(signal).end());
+    if (by_signal != all.pins)
+        return "other pins by signal";
+    return joined(all.starts, decimal) + ", " + joined(all.pins, decimal);
+}
+
+static std::string site_text(const fs_site &site) {
+    return joined(Numbers{site.kind, site.at, site.pin, site.stuck}, decimal);
+}
+
+static std::string values(const faultsim::Job &job, std::uint32_t block) {
+    Words words = job.values(block);
+    for (std::uint64_t &word : words)
+        word &= lanes_of(job, block);
+    return joined(words, hexadecimal);
+}
+
 static std::string report(const Call &call) {
     static const std::map<std::string, faultsim::Lines> lines{
         {"none", faultsim::Lines::none},
@@ -196,6 +221,18 @@ static const std::map<std::string, std::function<std::string(const Call &)>> cal
     {"fault_names", [](const Call &it) { return joined(fault_names(it.job()), same, ", "); }},
     {"classes_of", [](const Call &it) { return joined(it.job().classes_of(), decimal); }},
     {"stems_of", [](const Call &it) { return joined(it.job().stems_of(), decimal); }},
+    {"signal_named", [](const Call &it) {
+         return number_or_none(it.job().signal_named(it.words.at(0)));
+     }},
+    {"kinds_of", [](const Call &it) { return joined(it.job().kinds_of(), decimal); }},
+    {"levels_of", [](const Call &it) { return joined(it.job().levels_of(), decimal); }},
+    {"fan_ins_of", [](const Call &it) { return fan_ins(it.job()); }},
+    {"sites_of", [](const Call &it) { return joined(it.job().sites_of(), site_text, ", "); }},
+    {"fault_at", [](const Call &it) {
+         fs_site site{it.number(0), it.number(1), it.number(2), it.number(3)};
+         return number_or_none(it.job().fault_at(site));
+     }},
+    {"values", [](const Call &it) { return values(it.job(), it.number(0)); }},
     {"observers", [](const Call &it) { return joined(it.job().observers(), decimal); }},
     {"word", [](const Call &it) {
          std::uint64_t word = it.job().word(it.number(0), it.number(1));

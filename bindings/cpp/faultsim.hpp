@@ -40,6 +40,17 @@ enum class Lines : std::uint32_t {
     undetected = FS_LINES_UNDETECTED
 };
 
+// The fan-in of each signal: the signals that the pins of its gate read, in order.
+struct FanIns {
+    std::vector<std::uint32_t> starts, pins;
+
+    // Returns the fan-in of one signal; a source has none.
+    std::span<const std::uint32_t> of(std::uint32_t signal) const {
+        std::uint32_t start = starts.at(signal);
+        return std::span(pins).subspan(start, starts.at(signal + std::size_t{1}) - start);
+    }
+};
+
 // Why a call fails: a status of faultsim.h, and if a text or words are wrong a kind and a place.
 class Error : public std::runtime_error {
 public:
@@ -190,6 +201,73 @@ public:
             return std::nullopt;
         detail::check(status);
         return place;
+    }
+
+    // Returns the number of the signal of a name, or none if no signal has it.
+    std::optional<std::uint32_t> signal_named(std::string_view name) const {
+        std::uint32_t signal = 0;
+        std::uint32_t status = fs_signal_named(&handle, detail::bytes(name), name.size(), &signal);
+        if (status == FS_RANGE)
+            return std::nullopt;
+        detail::check(status);
+        return signal;
+    }
+
+    // Returns the kind of each signal: FS_SOURCE, or the kind of the gate that drives it.
+    std::vector<std::uint32_t> kinds_of() const {
+        std::vector<std::uint32_t> kinds(sizes().signals);
+        detail::check(fs_kinds_of(&handle, detail::at(std::span(kinds)), kinds.size()));
+        return kinds;
+    }
+
+    // Returns the level of each signal: 0 for a source, and for the signal of a gate one more than
+    // the greatest level of the signals that the gate reads.
+    std::vector<std::uint32_t> levels_of() const {
+        std::vector<std::uint32_t> levels(sizes().signals);
+        detail::check(fs_levels_of(&handle, detail::at(std::span(levels)), levels.size()));
+        return levels;
+    }
+
+    // Returns the fan-in of each signal.
+    FanIns fan_ins_of() const {
+        std::uint32_t nothing = 0;
+        std::size_t wanted = 0;
+        FanIns all{std::vector<std::uint32_t>(sizes().signals + std::size_t{1}), {}};
+        std::uint32_t status =
+            fs_fan_ins_of(&handle, all.starts.data(), all.starts.size(), &nothing, 0, &wanted);
+        if (status == FS_RANGE && wanted != 0) {
+            all.pins.resize(wanted);
+            status = fs_fan_ins_of(&handle, all.starts.data(), all.starts.size(), all.pins.data(),
+                                   all.pins.size(), &wanted);
+        }
+        detail::check(status);
+        return all;
+    }
+
+    // Returns the site of each fault.
+    std::vector<fs_site> sites_of() const {
+        std::vector<fs_site> sites(sizes().faults);
+        detail::check(fs_sites_of(&handle, detail::at(std::span(sites)), sites.size()));
+        return sites;
+    }
+
+    // Returns the fault of a site, or none if the circuit has no such fault. It looks at one fault
+    // after another: for many sites make a table from sites_of.
+    std::optional<std::uint32_t> fault_at(const fs_site &site) const {
+        std::uint32_t fault = 0;
+        std::uint32_t status = fs_fault_at(&handle, &site, &fault);
+        if (status == FS_RANGE)
+            return std::nullopt;
+        detail::check(status);
+        return fault;
+    }
+
+    // Returns the fault-free values of all signals in the tests of a block, a word for each signal.
+    // Bits past the last test may be 1.
+    std::vector<std::uint64_t> values(std::uint32_t block) const {
+        std::vector<std::uint64_t> words(sizes().signals);
+        detail::check(fs_values(&handle, block, detail::at(std::span(words)), words.size()));
+        return words;
     }
 
     // Returns the fault-free value of a signal: bit k is that in test 64 * block + k. Bits past the

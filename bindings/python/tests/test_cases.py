@@ -24,6 +24,10 @@ def _tests(firsts):
     return " ".join("-" if int(it) == faultsim.NONE else str(int(it)) for it in firsts)
 
 
+def _number(number):
+    return "-" if number is None else str(number)
+
+
 def _same(first, second):
     """The one result of two ways to call."""
     return first if first == second else f"{first} and {second}"
@@ -106,6 +110,32 @@ class Calls:
 
     def observers(self, handle):
         return _joined(self.jobs[handle].observers())
+
+    def signal_named(self, handle, name):
+        return _number(self.jobs[handle].signal_named(name))
+
+    def kinds_of(self, handle):
+        return _joined(faultsim.SignalKind(int(it)) for it in self.jobs[handle].kinds_of())
+
+    def levels_of(self, handle):
+        return _joined(self.jobs[handle].levels_of())
+
+    def fan_ins_of(self, handle):
+        starts, pins = self.jobs[handle].fan_ins_of()
+        return f"{_joined(starts)}, {_joined(pins)}"
+
+    def sites_of(self, handle):
+        sites = self.jobs[handle].sites_of()
+        flat = list(sites if faultsim.numpy is None else sites.reshape(-1))
+        return ", ".join(_joined(flat[at : at + 4]) for at in range(0, len(flat), 4))
+
+    def fault_at(self, handle, *site):
+        return _number(self.jobs[handle].fault_at(*map(int, site)))
+
+    def values(self, handle, block):
+        job = self.jobs[handle]
+        words = job.values(int(block))
+        return " ".join(f"{int(word) & self._lanes(job, int(block)):x}" for word in words)
 
     def word(self, handle, block, signal):
         job = self.jobs[handle]

@@ -6,7 +6,7 @@
 
 mod sys;
 
-pub use sys::{Fault, Sizes};
+pub use sys::{Fault, Site, Sizes};
 
 use std::cell::UnsafeCell;
 use std::error::Error as StdError;
@@ -34,6 +34,56 @@ pub enum Lines {
     All = 1,
     /// The faults that no test detects.
     Undetected = 2,
+}
+
+/// The kind of a signal.
+#[derive(Clone, Copy, Debug, PartialEq, Eq)]
+#[non_exhaustive]
+pub enum SignalKind {
+    /// A primary input or a scan cell.
+    Source = 0,
+    And,
+    Nand,
+    Or,
+    Nor,
+    Xor,
+    Xnor,
+    Not,
+    Buff,
+}
+
+impl SignalKind {
+    const ALL: [SignalKind; 9] = [
+        SignalKind::Source,
+        SignalKind::And,
+        SignalKind::Nand,
+        SignalKind::Or,
+        SignalKind::Nor,
+        SignalKind::Xor,
+        SignalKind::Xnor,
+        SignalKind::Not,
+        SignalKind::Buff,
+    ];
+}
+
+/// The fan-in of each signal: the signals that the pins of its gate read, in order.
+#[derive(Clone, Debug, PartialEq, Eq)]
+pub struct FanIns {
+    /// The place in `pins` at which the fan-in of each signal starts, and then the number of pins.
+    pub starts: Vec<u32>,
+    pub pins: Vec<u32>,
+}
+
+impl FanIns {
+    /// Returns the fan-in of one signal; a source has none.
+    ///
+    /// # Panics
+    ///
+    /// If the number of the signal is out of range.
+    pub fn of(&self, signal: u32) -> &[u32] {
+        let at = signal as usize;
+        &self.pins[self.starts[at] as usize..self.starts[at + 1] as usize]
+    }
 }
 
 /// Why a call fails.
@@ -269,6 +319,88 @@ impl Job {
         // SAFETY: as above; the call tests the number.
         let status = unsafe { sys::fs_source_of(self.0.get(), signal, &mut place) };
         (status == 0).then_some(place)
+    }
+
+    /// Returns the number of the signal of a name, or none if no signal has it.
+    pub fn signal_named(&self, name: &str) -> Option<u32> {
+        let mut signal = 0;
+        // SAFETY: as above.
+        let status = unsafe {
+            sys::fs_signal_named(self.0.get(), name.as_ptr(), name.len(), &mut signal)
+        };
+        (status == 0).then_some(signal)
+    }
+
+    /// Returns the kind of each signal.
+    pub fn kinds_of(&self) -> Vec<SignalKind> {
+        let mut kinds = vec![0; self.sizes().signals as usize];
+        // SAFETY: as above, and the length is the number of signals.
+        unsafe { sys::fs_kinds_of(self.0.get(), kinds.as_mut_ptr(), kinds.len()) };
+        kinds
+            .into_iter()
+            .map(|kind: u32| SignalKind::ALL[kind as usize])
+            .collect()
+    }
+
+    /// Returns the level of each signal: 0 for a source, and for the signal of a gate one more than
+    /// the greatest level of the signals that the gate reads.
+    pub fn levels_of(&self) -> Vec<u32> {
+        let mut levels = vec![0; self.sizes().signals as usize];
+        // SAFETY: as above, and the length is the number of signals.
+        unsafe { sys::fs_levels_of(self.0.get(), levels.as_mut_ptr(), levels.len()) };
+        levels
+    }
+
+    /// Returns the fan-in of each signal.
+    pub fn fan_ins_of(&self) -> FanIns {
+        let mut starts = vec![0; self.sizes().signals as usize + 1];
+        let (mut pins, mut wanted) = (Vec::new(), 0);
+        loop {
+            // SAFETY: as above.
+            let status = unsafe {
+                sys::fs_fan_ins_of(
+                    self.0.get(),
+                    starts.as_mut_ptr(),
+                    starts.len(),
+                    pins.as_mut_ptr(),
+                    pins.len(),
+                    &mut wanted,
+                )
+            };
+            if status == 0 || pins.len() == wanted {
+                return FanIns { starts, pins };
+            }
+            pins.resize(wanted, 0);
+        }
+    }
+
+    /// Returns the site of each fault.
+    pub fn sites_of(&self) -> Vec<Site> {
+        let mut sites = vec![Site::default(); self.sizes().faults as usize];
+        // SAFETY: as above, and the length is the number of faults.
+        unsafe { sys::fs_sites_of(self.0.get(), sites.as_mut_ptr(), sites.len()) };
+        sites
+    }
+
+    /// Returns the fault of a site, or none if the circuit has no such fault. It looks at one fault
+    /// after another: for many sites make a table from [`Job::sites_of`].
+    pub fn fault_at(&self, site: Site) -> Option<u32> {
+        let mut fault = 0;
+        // SAFETY: as above.
+        let status = unsafe { sys::fs_fault_at(self.0.get(), &site, &mut fault) };
+        (status == 0).then_some(fault)
+    }
+
+    /// Returns the fault-free values of all signals in the tests of a block, a word for each
+    /// signal. Bits past the last test may be 1.
+    pub fn values(&self, block: u32) -> Result<Vec<u64>, Error> {
+        let mut words = vec![0; self.sizes().signals as usize];
+        // SAFETY: as above; the call tests the block, and the length is the number of signals.
+        told(
+            unsafe { sys::fs_values(self.0.get(), block, words.as_mut_ptr(), words.len()) },
+            Fault::default(),
+        )?;
+        Ok(words)
     }
 
     /// Returns the fault-free value of a signal: bit k is that in test `64 * block + k`. Bits past the

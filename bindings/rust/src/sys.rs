@@ -41,6 +41,22 @@ pub struct Fault {
     pub place: u64,
 }
 
+/// The site of a fault: a line of the circuit, and the bit at which it is stuck. Numbers count from
+/// 0.
+#[repr(C)]
+#[derive(Clone, Copy, Debug, Default, PartialEq, Eq, Hash)]
+pub struct Site {
+    /// 0 for the stem of a signal, 1 for a pin of a gate, 2 for the data pin of a flip-flop, and 3
+    /// for an OUTPUT line.
+    pub kind: u32,
+    /// The signal, the signal of the gate, the flip-flop or the OUTPUT line.
+    pub at: u32,
+    /// The pin of the gate, or 0.
+    pub pin: u32,
+    /// 0 or 1; a transition fault is slow to leave the bit.
+    pub stuck: u32,
+}
+
 extern "C" {
     pub fn fs_version() -> u32;
     pub fn fs_release() -> *const c_char;
@@ -92,7 +108,26 @@ extern "C" {
         wanted: *mut usize,
     ) -> u32;
     pub fn fs_source_of(job: *mut Handle, signal: u32, place: *mut u32) -> u32;
+    pub fn fs_signal_named(
+        job: *mut Handle,
+        name: *const u8,
+        name_len: usize,
+        signal: *mut u32,
+    ) -> u32;
+    pub fn fs_kinds_of(job: *mut Handle, kinds: *mut u32, kinds_len: usize) -> u32;
+    pub fn fs_levels_of(job: *mut Handle, levels: *mut u32, levels_len: usize) -> u32;
+    pub fn fs_fan_ins_of(
+        job: *mut Handle,
+        starts: *mut u32,
+        starts_len: usize,
+        pins: *mut u32,
+        pins_len: usize,
+        wanted: *mut usize,
+    ) -> u32;
+    pub fn fs_sites_of(job: *mut Handle, sites: *mut Site, sites_len: usize) -> u32;
+    pub fn fs_fault_at(job: *mut Handle, site: *const Site, fault: *mut u32) -> u32;
     pub fn fs_word(job: *mut Handle, block: u32, signal: u32, word: *mut u64) -> u32;
+    pub fn fs_values(job: *mut Handle, block: u32, words: *mut u64, words_len: usize) -> u32;
     pub fn fs_observers_of(
         job: *mut Handle,
         signals: *mut u32,

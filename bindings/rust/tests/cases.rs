@@ -1,6 +1,6 @@
 //! Runs the calls of `bindings/cases.txt`, and compares their results.
 
-use faultsim::{firsts, version, Error, Fault, Job, Lines, Model};
+use faultsim::{firsts, version, Error, Fault, Job, Lines, Model, Site};
 use std::cell::Cell;
 use std::collections::HashMap;
 use std::ffi::c_void;
@@ -210,6 +210,54 @@ fn simulated(name: &str, call: &Call) -> Result<String, Error> {
     })
 }
 
+fn number_or_none(number: Option<u32>) -> String {
+    number.map_or("-".to_string(), |it| it.to_string())
+}
+
+fn fan_ins(job: &Job) -> String {
+    let all = job.fan_ins_of();
+    let by_signal: Vec<u32> = (0..job.sizes().signals)
+        .flat_map(|signal| all.of(signal).to_vec())
+        .collect();
+    assert_eq!(by_signal, all.pins);
+    format!("{}, {}", joined(all.starts, " "), joined(all.pins, " "))
+}
+
+fn site_text(site: Site) -> String {
+    joined([site.kind, site.at, site.pin, site.stuck], " ")
+}
+
+/// What a call about the circuit in arrays returns.
+fn in_arrays(name: &str, call: &Call) -> Result<String, Error> {
+    let job = call.job();
+    Ok(match name {
+        "signal_named" => number_or_none(job.signal_named(call.words[0])),
+        "kinds_of" => joined(job.kinds_of().into_iter().map(|it| it as u32), " "),
+        "levels_of" => joined(job.levels_of(), " "),
+        "fan_ins_of" => fan_ins(job),
+        "sites_of" => joined(job.sites_of().into_iter().map(site_text), ", "),
+        "fault_at" => {
+            let (kind, at) = (call.number(0), call.number(1));
+            let (pin, stuck) = (call.number(2), call.number(3));
+            number_or_none(job.fault_at(Site {
+                kind,
+                at,
+                pin,
+                stuck,
+            }))
+        }
+        "values" => {
+            let (block, words) = (call.number(0), job.values(call.number(0))?);
+            let lanes = lanes_of(job, block as usize);
+            joined(
+                words.into_iter().map(|word| format!("{:x}", word & lanes)),
+                " ",
+            )
+        }
+        _ => simulated(name, call)?,
+    })
+}
+
 /// What a call about the circuit, or about words, returns.
 fn read_off(name: &str, call: &Call) -> Result<String, Error> {
     let job = call.job();
@@ -237,7 +285,7 @@ fn read_off(name: &str, call: &Call) -> Result<String, Error> {
             format!("{:x}", word & lanes_of(job, block as usize))
         }
         "responses" => responses(job),
-        _ => simulated(name, call)?,
+        _ => in_arrays(name, call)?,
     })
 }
 

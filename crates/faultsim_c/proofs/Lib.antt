@@ -3,6 +3,7 @@ mod Firsts
 pub mod Pointed
 mod Replies
 mod Tables
+mod CircuitRows
 mod Options
 mod ObservedSignals
 mod ListsOfJobs

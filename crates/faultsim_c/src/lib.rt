@@ -26,6 +26,7 @@ ghost use Rattle.faultsim_c.specs.Following.{following};
 ghost use Rattle.faultsim_c.specs.Statuses.{AreRefusedTexts, AreTooMany, error_numbers};
 ghost use Rattle.faultsim_c.specs.declared.status.Refusal.TheVariants as refusal;
 
+mod circuit;
 mod counts;
 mod following;
 mod handle;

@@ -8,6 +8,7 @@ ghost use Rattle.patterns.specs.Tests.{blocks};
 ghost use Rattle.block_sim.specs.Parts.{Parts};
 ghost use Rattle.flat_circuit.specs.Words.{IsFaultFreeWord};
 ghost use Rattle.faultsim_c.specs.Calls.{AreStemsOf, IsCopied, job_of};
+ghost use Rattle.faultsim_c.specs.Circuits.{AreValuesOf};
 
 use crate::handle::{FsJob, put, take};
 use crate::status::{DONE, NO_JOB, RANGE};
@@ -196,5 +197,55 @@ fn source_in(job: &Job, signal: u32, place: &mut u32) -> u32
             DONE
         }
         None => RANGE,
+    }
+}
+
+/// Writes the fault-free words of all signals under a block: `words[signal]` as [`fs_word`] writes
+/// it. The length is the number of signals.
+#[unsafe(no_mangle)]
+pub extern "C" fn fs_values(alloc: Global, job: &mut FsJob, block: u32, words: &mut [u64]) -> u32
+    ensures done { (parts : Parts) → job_of job.old.held.holding ≡ Some parts
+        → block < blocks (length parts.tests.tests)
+        → length words.old ≡ length (names parts.circuit)
+        → (result ≡ 0) × AreValuesOf parts block words.new }
+    ensures range { (parts : Parts) → job_of job.old.held.holding ≡ Some parts
+        → (blocks (length parts.tests.tests) ≤ block)
+        ⊎ (length words.old ≢ length (names parts.circuit)) → result ≡ 4 }
+    ensures no_job { job.old.held.holding ≡ None → result ≡ 1 }
+    ensures untouched { result ≢ 0 → words.new ≡ words.old }
+    ensures kept { job.new.held.holding ≡ job.old.held.holding }
+{
+    let Some(holding) = take(alloc, job) else {
+        return NO_JOB;
+    };
+    let status = values_in(holding.session.job(), block, words);
+    put(alloc, job, holding);
+    status
+}
+
+/// Writes the fault-free words of all signals under a block of a job.
+fn values_in(job: &Job, block: u32, words: &mut [u64]) -> u32
+    ensures done { block < blocks (length job.now.tests.tests)
+        → length words.old ≡ length (names job.now.circuit)
+        → (result ≡ 0) × AreValuesOf job.now block words.new }
+    ensures range { (blocks (length job.now.tests.tests) ≤ block)
+        ⊎ (length words.old ≢ length (names job.now.circuit)) → result ≡ 4 }
+    ensures untouched { result ≢ 0 → words.new ≡ words.old }
+{
+    if block >= job.tests().blocks() || words.len() != job.circuit().signals() as usize {
+        return RANGE;
+    }
+    fill_values(job, block, words);
+    DONE
+}
+
+/// Fills an array with the fault-free words of the signals.
+fn fill_values(job: &Job, block: u32, words: &mut [u64])
+    requires block { block < blocks (length job.now.tests.tests) }
+    requires lengths { length words.old ≡ length (names job.now.circuit) }
+    ensures { AreValuesOf job.now block words.new }
+{
+    for signal in 0..job.circuit().signals() {
+        words[signal as usize] = job.word(block, signal);
     }
 }

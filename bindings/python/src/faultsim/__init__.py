@@ -24,14 +24,25 @@ from collections import deque
 from typing import TYPE_CHECKING, Any, Iterable, Optional, Sequence, Union
 
 from . import _library
-from ._library import NONE, Error, FsFault, FsJob, FsSizes, Kind, check, library
+from ._library import NONE, Error, FsFault, FsJob, FsSite, FsSizes, Kind, check, library
 
 try:
     import numpy
 except ImportError:
     numpy = None  # type: ignore[assignment]
 
-__all__ = ["NONE", "Error", "Job", "Kind", "Lines", "Model", "firsts", "release"]
+__all__ = [
+    "NONE",
+    "Error",
+    "Job",
+    "Kind",
+    "LineKind",
+    "Lines",
+    "Model",
+    "SignalKind",
+    "firsts",
+    "release",
+]
 __version__ = "0.3.0"
 
 Text = Union[str, bytes]
@@ -66,6 +77,30 @@ class Lines(enum.IntEnum):
     NONE = 0
     ALL = 1
     UNDETECTED = 2
+
+
+class SignalKind(enum.IntEnum):
+    """The kind of a signal: a primary input or scan cell, or the kind of its gate."""
+
+    SOURCE = 0
+    AND = 1
+    NAND = 2
+    OR = 3
+    NOR = 4
+    XOR = 5
+    XNOR = 6
+    NOT = 7
+    BUFF = 8
+
+
+class LineKind(enum.IntEnum):
+    """The kind of a fault's line: the stem of a signal, a pin of a gate, the data pin of a
+    flip-flop, or an OUTPUT line."""
+
+    STEM = 0
+    PIN = 1
+    DATA = 2
+    OUTPUT = 3
 
 
 def _bytes(text: Text) -> bytes:
@@ -448,6 +483,68 @@ class Job:
                 check(status)
                 names[place.value] = self.name_of(signal)
         return names
+
+    def signal_named(self, name: Text) -> Optional[int]:
+        """The signal of a name, or `None` if no signal has it."""
+        text, signal = _bytes(name), ctypes.c_uint32()
+        status = self._call(library.fs_signal_named, text, len(text), signal)
+        if status == _library.RANGE:
+            return None
+        check(status)
+        return signal.value
+
+    def kinds_of(self) -> Numbers:
+        """The kind of each signal, a number of `SignalKind`: an array of the shape (signals,)."""
+        kinds = _room(self.signals, "I")
+        check(self._call(library.fs_kinds_of, _address(kinds), len(kinds)))
+        return kinds
+
+    def levels_of(self) -> Numbers:
+        """The level of each signal, 0 for a source, and for the signal of a gate one more than the
+        greatest level of the signals that the gate reads: an array of the shape (signals,)."""
+        levels = _room(self.signals, "I")
+        check(self._call(library.fs_levels_of, _address(levels), len(levels)))
+        return levels
+
+    def fan_ins_of(self) -> tuple[Numbers, Numbers]:
+        """The fan-in of each signal, the signals that the pins of its gate read: `starts`, an array
+        of the shape (signals + 1,), and `pins`. Those of signal s are
+        `pins[starts[s]:starts[s + 1]]`."""
+        wanted, starts, pins = ctypes.c_size_t(), _room(self.signals + 1, "I"), _room(0, "I")
+        for _ in range(2):
+            arrays = _address(starts), len(starts), _address(pins), len(pins)
+            status = self._call(library.fs_fan_ins_of, *arrays, wanted)
+            if status != _library.RANGE or wanted.value == len(pins):
+                break
+            pins = _room(wanted.value, "I")
+        check(status)
+        return starts, pins
+
+    def sites_of(self) -> Numbers:
+        """The site of each fault, as its kind (a number of `LineKind`), the number of its signal,
+        gate, flip-flop or OUTPUT line, the pin of a gate, and the bit: an array of the shape
+        (4 * faults,), or (faults, 4) with numpy."""
+        sites = _room(4 * self.faults, "I")
+        check(self._call(library.fs_sites_of, _address(sites), self.faults))
+        return sites if numpy is None else sites.reshape(self.faults, 4)
+
+    def fault_at(self, kind: int, at: int, pin: int, stuck: int) -> Optional[int]:
+        """The fault of a site, or `None` if the circuit has no such fault. It looks at one fault
+        after another: for many sites make a table from `sites_of`."""
+        fault = ctypes.c_uint32()
+        site = FsSite(_number(kind), _number(at), _number(pin), _number(stuck))
+        status = self._call(library.fs_fault_at, site, fault)
+        if status == _library.RANGE:
+            return None
+        check(status)
+        return fault.value
+
+    def values(self, block: int) -> Words:
+        """The fault-free values of all signals in the tests of a block: an array of the shape
+        (signals,). Bits past the last test may be 1."""
+        words = _room(self.signals, "Q")
+        check(self._call(library.fs_values, _number(block), _address(words), len(words)))
+        return words
 
     def word(self, block: int, signal: int) -> int:
         """The fault-free value of a signal: bit k is that in test 64 * block + k. Bits past the

@@ -55,6 +55,17 @@ class FsFault(c.Structure):
     _fields_ = [("kind", c.c_uint32), ("place", c.c_uint64)]
 
 
+class FsSite(c.Structure):
+    """Where a fault is: `struct fs_site`."""
+
+    _fields_ = [
+        ("kind", c.c_uint32),
+        ("at", c.c_uint32),
+        ("pin", c.c_uint32),
+        ("stuck", c.c_uint32),
+    ]
+
+
 class Error(ValueError):
     """A text or words are wrong.
 
@@ -74,6 +85,8 @@ _U32, _SIZE = c.c_uint32, c.c_size_t
 # A text, or room for one; the address of an array of 32 or of 64 bits.
 _U8S, _CHARS, _U32S, _U64S = c.c_char_p, c.c_char_p, c.c_void_p, c.c_void_p
 _JOB, _SIZES, _FAULT = c.POINTER(FsJob), c.POINTER(FsSizes), c.POINTER(FsFault)
+# A site, and the address of an array of sites.
+_SITE, _SITES = c.POINTER(FsSite), c.c_void_p
 _TO_U32, _TO_U64, _TO_SIZE = (c.POINTER(it) for it in (c.c_uint32, c.c_uint64, c.c_size_t))
 
 # Each function with its result and its parameters, as faultsim.h has them (contrib/check-bindings).
@@ -93,7 +106,14 @@ SIGNATURES = {
     "fs_name_of": (_U32, [_JOB, _U32, _U8S, _SIZE, _TO_SIZE]),
     "fs_fault_text": (_U32, [_JOB, _U32, _U8S, _SIZE, _TO_SIZE]),
     "fs_source_of": (_U32, [_JOB, _U32, _TO_U32]),
+    "fs_signal_named": (_U32, [_JOB, _U8S, _SIZE, _TO_U32]),
+    "fs_kinds_of": (_U32, [_JOB, _U32S, _SIZE]),
+    "fs_levels_of": (_U32, [_JOB, _U32S, _SIZE]),
+    "fs_fan_ins_of": (_U32, [_JOB, _U32S, _SIZE, _U32S, _SIZE, _TO_SIZE]),
+    "fs_sites_of": (_U32, [_JOB, _SITES, _SIZE]),
+    "fs_fault_at": (_U32, [_JOB, _SITE, _TO_U32]),
     "fs_word": (_U32, [_JOB, _U32, _U32, _TO_U64]),
+    "fs_values": (_U32, [_JOB, _U32, _U64S, _SIZE]),
     "fs_observers_of": (_U32, [_JOB, _U32S, _SIZE, _TO_SIZE]),
     "fs_responses": (_U32, [_JOB, _U64S, _SIZE]),
     "fs_simulate": (_U32, [_JOB, _U32S, _SIZE, _U32S, _SIZE]),
