@@ -46,6 +46,8 @@ import faultsim  # noqa: E402
 QUICK = 500_000
 SHAPE = "random --gates 22179 --inputs 28 --outputs 106 --ffs 1636 --depth 47".split()
 MODELS = {"stuck": 0, "transition": 1, "transition-pairs": 2}
+# The names of columns, which the program compares and the library doesn't.
+COLUMNS = re.compile(rb"#[ \t]*columns:[^\n]*")
 
 
 def generated(*words):
@@ -178,7 +180,8 @@ def compared_on(program, folder, bench, tests, most):
     with job:
         bits = random.Random(1)
         rows = (bits.choices("01", k=job.sources) for _ in range(70))
-        texts = [*sorted(tests - {None}), "".join(f"{''.join(it)}\n" for it in rows).encode()]
+        named = [COLUMNS.sub(b"#", it) for it in sorted(tests - {None})]
+        texts = [*named, "".join(f"{''.join(it)}\n" for it in rows).encode()]
         count, differ = 0, []
         for text in texts:
             paths = written(folder, "a.bench", bench), written(folder, "a.tests", text)
