@@ -36,3 +36,6 @@ mod ObservedStems
 mod ArrangedRoom
 mod CountedSignals
 mod ReorderedStems
+mod FlipLanes
+mod FlipsInLanes
+mod ObservingTests

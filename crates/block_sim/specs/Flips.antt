@@ -1,7 +1,7 @@
 -- The effect of a complemented signal at the stem of its fanout-free region.
 use Rattle.std.specs.Prelude.{◌≡◌, ◌≢◌, ◌↔◌, ◌==◌, ◌<◌, ◌≤◌, ◌+◌, ◌*◌, ℕ, Bool, true, false, not}
 use Rattle.std.specs.Prelude.{List, length, map, bit_and}
-use Rattle.std.specs.Prelude.{Contains, Option, Some, None, if◌then◌else◌}
+use Rattle.std.specs.Prelude.{Contains, Option, Some, None, if◌then◌else◌, slice_get}
 use Rattle.std.specs.Bool.{Decides}
 use Rattle.bench_net.specs.declared.Kind.{Kind}
 use Rattle.bench_net.specs.Statement.{Name, Statement, Gate}
@@ -27,6 +27,16 @@ flip s bit = record { model = StuckAt; line = line.Stem s; stuck = not bit }
 -- bit.
 abbrev pub DetectsFlip : List Statement → Test → ℕ → Type 0
 DetectsFlip c t s = (bit : Bool) × HasBit c t (line.Stem s) bit × Detects c t (flip s bit)
+
+-- the test of this number detects the complemented signal
+abbrev pub DetectsFlipAt : List Statement → List Test → ℕ → ℕ → Type 0
+DetectsFlipAt c tests s t = (test : Test) × (slice_get tests t ≡ Some test) × DetectsFlip c test s
+
+-- the lanes of a word that are 1 are the lanes whose test of the block detects the complemented
+-- signal
+abbrev pub AreObserving : List Statement → List Test → ℕ → ℕ → ℕ → Type 0
+AreObserving c tests s block word = (k : ℕ) → k < 64
+    → Decides (lane word k) (DetectsFlipAt c tests s (64 * block + k))
 
 -- the bits of a valuation, with one signal complemented
 abbrev pub complemented_at : List Statement → ℕ → (Name → Bool) → Name → Bool

@@ -8,7 +8,7 @@
 ghost use Rattle.std.specs.Prelude.{◌≡◌, ◌≢◌, ◌⊎◌, ◌↔◌, ℕ, ◌+◌, ◌<◌, ◌≤◌, ◌==◌, Contains, List};
 ghost use Rattle.std.specs.Prelude.{IfNone, IfSome, IsTrue};
 ghost use Rattle.std.specs.Prelude.{true, false, length, bit_or, count_by, slice_index_or};
-ghost use Rattle.std.specs.Prelude.{slice_set};
+ghost use Rattle.std.specs.Prelude.{None, slice_set};
 ghost use Rattle.std.specs.Bool.{Decides};
 ghost use Rattle.bench_net.specs.Scan.{names};
 ghost use Rattle.bench_net.specs.Circuit.{IsCircuit};
@@ -21,7 +21,8 @@ ghost use Rattle.block_sim.specs.Moments.{Leads, moment, not_yet_taken};
 ghost use Rattle.block_sim.specs.Propagation.{AreShown, HaveHits, IsFirstChange, IsSettled};
 ghost use Rattle.block_sim.specs.Propagation.{LeavesSettled};
 ghost use Rattle.block_sim.specs.ActiveGates.{AreInGroup, HasActiveIn};
-ghost use Rattle.flat_circuit.specs.Words.{lane, HasWords};
+ghost use Rattle.block_sim.specs.Flips.{DetectsFlip};
+ghost use Rattle.flat_circuit.specs.Words.{lane, test_of, AreWords, HasWords};
 
 use crate::propagation_state::PropagationState;
 use event_queue::Places;
@@ -268,4 +269,36 @@ pub fn propagate(
     changes.waiting.clear(from);
     changes.overlay.clear();
     found.detected
+}
+
+/// Complements a signal in some lanes, and returns those of them in which the test detects that.
+/// Each test detects a complemented signal that is observed.
+pub fn flip_in_lanes(
+    view: BlockView<'_>,
+    signal: u32,
+    lanes: u128,
+    changes: &mut PropagationState,
+) -> u128
+    requires view { HasWords view.circuit.now.arranged view.good.now }
+    requires words { (tests : List Test) × (group : ℕ)
+        × AreWords view.circuit.now.arranged tests group None view.good.now }
+    requires room { HasRoomFor view.circuit.now.arranged changes.old }
+    requires clear { IsClear changes.old }
+    requires signal { signal < length (names view.circuit.now.arranged) }
+    ensures detection { (tests : List Test) (group : ℕ)
+        → AreWords view.entry.circuit.now.arranged tests group None view.entry.good.now
+        → (k : ℕ) → k < 128 → lane lanes k ≡ true → Decides (lane result k)
+        (DetectsFlip view.entry.circuit.now.arranged (test_of tests group k) signal) }
+    ensures room { IsAsLarge changes.old changes.new }
+    ensures clear { IsClear changes.new }
+{
+    if view.circuit.is_observed(signal) {
+        return lanes;
+    }
+    let own = BlockView {
+        circuit: view.circuit,
+        good: view.good,
+        lanes,
+    };
+    propagate(own, Extent::WholeBlock, signal, lanes, changes)
 }

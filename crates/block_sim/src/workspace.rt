@@ -27,7 +27,7 @@ use std::marker::Model;
 /// again and again, for any job with at most as many signals.
 #[derive(Drop)]
 pub struct Workspace {
-    changes: PropagationState,
+    pub(crate) changes: PropagationState,
 }
 
 impl Model for Workspace {

@@ -1,22 +1,22 @@
 -- Counts on the first tests of a list.
-use Rattle.std.proofs.Common.{◌≡◌, ◌⊎◌, ◌<◌, ◌≤◌, ◌+◌, ◌*◌, ℕ, Bool, length, min, inl, inr, sym, ap}
-use Rattle.std.proofs.Common.{◌^◌, ◌∙◌, arith, subst, refl}
-use Rattle.std.specs.Prelude.{Some, count_by, count_ones, slice_get, unwrap_or}
+use Rattle.std.proofs.Common.{◌≡◌, ◌<◌, ◌≤◌, ◌+◌, ◌-◌, ◌*◌, ℕ, Bool, length, min, ap}
+use Rattle.std.proofs.Common.{◌∙◌, arith, refl}
+use Rattle.std.specs.Prelude.{Some, count_by, slice_get}
 use Rattle.std.specs.Bool.{Decides}
-use Rattle.std.proofs.lemmas.Bool.{cases_lt}
 use Rattle.list_lemmas.proofs.Places.{within_place}
 use Rattle.fault_model.specs.Fault.{Fault}
 use Rattle.fault_model.specs.Collapse.{representatives}
 use Rattle.fault_model.specs.Detection.{DetectsAt}
 use Rattle.patterns.specs.Least.{below}
-use Rattle.region_sim.specs.GroupLanes.{AreGroupLanes}
+use Rattle.flat_circuit.specs.declared.block_span.BlockSpan.{BlockSpan}
+use Rattle.region_sim.specs.Goals.{HasTakenSpan}
+use Rattle.n_detect.specs.HitCounts.{IsHitCount}
 use Rattle.block_sim.specs.Parts.{BelongTogether, Parts}
-use Rattle.flat_circuit.specs.Words.{lane}
 use Rattle.flat_circuit.proofs.Public.{representative_at}
 use Rattle.block_sim.proofs.Public.{which_detect}
 use Rattle.n_detect.specs.Detections.{IsClassCount}
 use Rattle.n_detect.specs.Share.{IsCountBefore}
-use Rattle.n_detect.proofs.RangeCounts.{all_blocks, no_fewer, no_fewer_of_more, one_group}
+use Rattle.n_detect.proofs.RangeCounts.{all_blocks}
 
 -- no test is counted yet
 pub none_before : (job : Parts) (most class n : ℕ) → n ≡ 0 → IsCountBefore job most class 0 n
@@ -24,28 +24,17 @@ none_before job most class n is r detects of decides =
     let none : count_by detects (below 0) ≡ 0 = refl in
     omega (arith, is, none)
 
--- one group more
-pub count_group_more : (job : Parts) (most class group word before n : ℕ)
-    → IsCountBefore job most class (128 * group) before → AreGroupLanes job group class word
-    → word < 2 ^ 128 → n ≡ min most (before + count_ones word)
-    → IsCountBefore job most class (128 * (group + 1)) n
-count_group_more job most class group word before n was lanes few is r detects of decides =
-    let same : lanes.0 ≡ r = ap (λ o. unwrap_or o r) (sym lanes.1 ∙ of) in
-    let told : (k : ℕ) → k < 128
-    → Decides (lane word k) (DetectsAt job.circuit job.tests.tests r (128 * group + k)) =
-    λ k lt. subst (λ f. Decides (lane word k)
-    (DetectsAt job.circuit job.tests.tests f (128 * group + k))) same (lanes.2 k lt) in
-    let more = one_group job.circuit job.tests.tests r detects decides group word few told in
-    let so_far = was r detects of decides in
-    omega (arith, more, so_far, is)
-
--- the greatest count stays
-pub greatest_stays : (job : Parts) (most class tests later n : ℕ) → n ≡ most → tests ≤ later
-    → IsCountBefore job most class tests n → IsCountBefore job most class later n
-greatest_stays job most class tests later n is le was r detects of decides =
-    let so_far = was r detects of decides in
-    let more = no_fewer_of_more detects tests later le in
-    omega (arith, so_far, more, is)
+-- a sweep more
+pub count_more_before : (job : Parts) (most class before n : ℕ) (span : BlockSpan)
+    → IsCountBefore job most class (64 * span.first) before
+    → HasTakenSpan (IsHitCount most) job span class before n
+    → IsCountBefore job most class (64 * span.last + 64) n
+count_more_before job most class before n span was taken r detects of decides =
+    let from : 64 * span.first ≡ 64 * span.first - 0 = omega arith in
+    let to : 64 * span.last + 64 - 0 ≡ 64 * span.last + 64 = omega arith in
+    taken detects 0 (r, of, decides) (omega arith)
+    (was r detects of decides ∙ ap (λ m. min most (count_by detects (below m))) from)
+    ∙ ap (λ m. min most (count_by detects (below m))) to
 
 module _ (job : Parts) (most class tests count : ℕ) (b : BelongTogether job)
     (lt : class < length job.classes.representative) where
@@ -80,17 +69,3 @@ module _ (job : Parts) (most class tests count : ℕ) (b : BelongTogether job)
       let so_far = counted fault.0 which.0 fault.1 which.1 in
       let all = all_blocks job.circuit job.tests.tests fault.0 which.0 which.1 tests done in
       counted_by (so_far ∙ ap (min most) all)
-
-  -- some are counted, and that is enough
-  pub enough_before : count ≡ most → IsCountBefore job most class tests count
-      → IsClassCount job most class count
-  enough_before enough counted = go (cases_lt tests (length job.tests.tests))
-    where
-      go : (tests < length job.tests.tests) ⊎ (length job.tests.tests ≤ tests)
-          → IsClassCount job most class count
-      go (inl l) =
-          let so_far = counted fault.0 which.0 fault.1 which.1 in
-          let fewer = no_fewer job.circuit job.tests.tests fault.0 which.0 which.1 tests
-          (omega (arith, l)) in
-          counted_by (omega (arith, fewer, so_far, enough))
-      go (inr le) = counted_before le counted

@@ -6,7 +6,6 @@ use Rattle.std.specs.Bool.{Decides, one_answer}
 use Rattle.std.specs.Int.Count.{ones_step}
 use Rattle.std.proofs.lemmas.Nat.{ones_le_self}
 use Rattle.std.proofs.lemmas.Nat.Bits.{bit_at-suc, bit_at_lowest}
-use Rattle.std.proofs.lemmas.List.Sums.{sum_by-cons}
 use Rattle.list_lemmas.proofs.Places.{place_within}
 use Rattle.bench_net.specs.Statement.{Statement}
 use Rattle.fault_model.specs.Fault.{Fault}
@@ -14,42 +13,7 @@ use Rattle.fault_model.specs.Solution.{Test}
 use Rattle.fault_model.specs.Detection.{DetectsAt}
 use Rattle.patterns.specs.Least.{from_up, below}
 use Rattle.flat_circuit.specs.Words.{lane}
-
--- one number more at the front
-count_more : (p : ℕ → Bool) (a n : ℕ)
-    → count_by p (from_up a (suc n)) ≡ cond (p a) 1 0 + count_by p (from_up (a + 1) n)
-count_more p a n = sum_by-cons (λ x. cond (p x) 1 0) a (from_up (a + 1) n)
-
--- a range in two parts
-count_parts : (p : ℕ → Bool) (a n m : ℕ)
-    → count_by p (from_up a (n + m)) ≡ count_by p (from_up a n) + count_by p (from_up (a + n) m)
-count_parts p a zero m =
-    let all : zero + m ≡ m = omega arith in
-    let same : a ≡ a + zero = omega arith in
-    let none : count_by p (from_up (a + zero) m) ≡ 0 + count_by p (from_up (a + zero) m) =
-    omega arith in
-    ap (λ k. count_by p (from_up a k)) all ∙ ap (λ b. count_by p (from_up b m)) same ∙ none
-count_parts p a (suc n) m =
-    let all : suc n + m ≡ suc (n + m) = omega arith in
-    let same : (a + 1) + n ≡ a + suc n = omega arith in
-    let front = count_more p a (n + m) in
-    let own = count_more p a n in
-    let rest = count_parts p (a + 1) n m in
-    let later = ap (λ b. count_by p (from_up b m)) same in
-    ap (λ k. count_by p (from_up a k)) all ∙ omega (arith, front, own, rest, later)
-
--- none of a range has it
-count_none : (p : ℕ → Bool) (a n : ℕ) → ((j : ℕ) → j < n → p (a + j) ≡ false)
-    → count_by p (from_up a n) ≡ 0
-count_none p a zero none = refl
-count_none p a (suc n) none =
-    let first : p a ≡ false = ap p (let q : a ≡ a + 0 = omega arith in q) ∙ none 0 (omega arith) in
-    let number : Bool → ℕ = λ b. cond b 1 0 in
-    let here : number (p a) ≡ 0 = ap number first in
-    let rest = count_none p (a + 1) n (λ j lt.
-    ap p (let q : (a + 1) + j ≡ a + suc j = omega arith in q) ∙ none (suc j) (omega (arith, lt))) in
-    let front = count_more p a n in
-    omega (arith, front, here, rest)
+use Rattle.n_detect.specs.CountLaws.{count_more, count_none, count_parts}
 
 lowest : (r : ℕ) (b : Bool) → r < 2 → (r == 1) ≡ b → r ≡ cond b 1 0
 lowest zero false lt e = refl
@@ -59,7 +23,7 @@ lowest (suc zero) false lt e = absurd (cc)
 lowest (suc (suc r)) b lt e = absurd (omega (arith, lt))
 
 -- the bits of a word that are set are the numbers of a range, one a lane, that have the property
-ones_lanes : (k w a : ℕ) (p : ℕ → Bool) → w < 2 ^ k → ((j : ℕ) → j < k → lane w j ≡ p (a + j))
+pub ones_lanes : (k w a : ℕ) (p : ℕ → Bool) → w < 2 ^ k → ((j : ℕ) → j < k → lane w j ≡ p (a + j))
     → count_ones w ≡ count_by p (from_up a k)
 ones_lanes zero w a p few same =
     let none : w ≡ 0 = omega (arith, few) in
@@ -78,15 +42,6 @@ ones_lanes (suc k) w a p few same =
     let front = count_more p a k in
     omega (arith, step, rest, first, front)
 
--- no fewer of more numbers have it
-pub no_fewer_of_more : (p : ℕ → Bool) (n m : ℕ) → n ≤ m
-    → count_by p (below n) ≤ count_by p (below m)
-no_fewer_of_more p n m le =
-    let parts : m ≡ n + (m - n) = omega (arith, le) in
-    let both = count_parts p 0 n (m - n) in
-    let whole = ap (λ k. count_by p (below k)) parts in
-    omega (arith, both, whole)
-
 module _ (c : List Statement) (tests : List Test) (f : Fault) (detects : ℕ → Bool)
     (decides : (t : ℕ) → Decides (detects t) (DetectsAt c tests f t)) where
   -- one block more
@@ -103,21 +58,6 @@ module _ (c : List Statement) (tests : List Test) (f : Fault) (detects : ℕ →
       ap (λ n. count_by detects (below n)) all ∙ count_parts detects 0 (64 * block) 64
       ∙ ap (λ a. count_by detects (below (64 * block)) + count_by detects (from_up a 64)) start
       ∙ ap (λ n. count_by detects (below (64 * block)) + n) (sym own)
-
-  -- one group more
-  pub one_group : (group word : ℕ) → word < 2 ^ 128
-      → ((k : ℕ) → k < 128 → Decides (lane word k) (DetectsAt c tests f (128 * group + k)))
-      → count_by detects (below (128 * (group + 1)))
-      ≡ count_by detects (below (128 * group)) + count_ones word
-  one_group group word few told =
-      let all : 128 * (group + 1) ≡ 128 * group + 128 = omega arith in
-      let start : 0 + 128 * group ≡ 128 * group = omega arith in
-      let own = ones_lanes 128 word (128 * group) detects few
-      (λ j lt. one_answer (lane word j) (detects (128 * group + j)) (told j lt)
-      (decides (128 * group + j))) in
-      ap (λ n. count_by detects (below n)) all ∙ count_parts detects 0 (128 * group) 128
-      ∙ ap (λ a. count_by detects (below (128 * group)) + count_by detects (from_up a 128)) start
-      ∙ ap (λ n. count_by detects (below (128 * group)) + n) (sym own)
 
   -- no test past the last detects
   past : (t : ℕ) → length tests ≤ t → detects t ≡ false

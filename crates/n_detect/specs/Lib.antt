@@ -1,2 +1,5 @@
 pub mod Detections
 pub mod Share
+pub mod ListLanes
+pub mod HitCounts
+pub mod CountLaws

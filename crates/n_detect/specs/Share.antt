@@ -1,5 +1,5 @@
 -- The classes of one worker.
-use Rattle.std.specs.Prelude.{◌≡◌, ◌⊎◌, ◌<◌, ◌≤◌, ℕ, All, Bool, List, Some, count_by}
+use Rattle.std.specs.Prelude.{◌≡◌, ◌<◌, ℕ, All, Bool, List, Some, count_by}
 use Rattle.std.specs.Prelude.{length, min, slice_get}
 use Rattle.std.specs.Bool.{Decides}
 use Rattle.fault_model.specs.Collapse.{representatives}
@@ -8,7 +8,9 @@ use Rattle.fault_model.specs.Fault.{Fault}
 use Rattle.patterns.specs.Least.{below}
 use Rattle.flat_circuit.specs.declared.origin.ListedClass.{ListedClass}
 use Rattle.block_sim.specs.Listed.{IsListed}
-use Rattle.block_sim.specs.Parts.{HasRoom, Parts}
+use Rattle.block_sim.specs.Parts.{Parts}
+use Rattle.region_sim.specs.OpenPlaces.{AreSuccessors}
+use Rattle.region_sim.specs.RegionHits.{ServesRegions}
 use Rattle.n_detect.specs.Detections.{IsClassCount}
 use Rattle.n_detect.specs.declared.share.Share.{Share}
 
@@ -40,30 +42,30 @@ IsCountBefore job most class tests count = (r : Fault) (detects : ℕ → Bool)
     → ((t : ℕ) → Decides (detects t) (DetectsAt job.circuit job.tests.tests r t))
     → count ≡ min most (count_by detects (below tests))
 
--- On the first tests the tally of each row is the count of its class, and each class of the owner
--- has its count. A class without a row has the greatest count.
-pub record AreTallied (job : Parts) (owners : List ℕ) (owner most tests : ℕ)
-    (rows : List ListedClass) (tallies counts : List ℕ) : Type 0 where
-  pub listed : All (IsListed job) rows
-  pub many : length tallies ≡ length rows
-  pub places : length counts ≡ length job.classes.representative
-  pub tallied : (place n : ℕ) (row : ListedClass) → slice_get rows place ≡ Some row
-      → slice_get tallies place ≡ Some n → IsCountBefore job most row.class tests n
-  pub counted : (class n : ℕ) → class < length job.classes.representative
-      → slice_get owners class ≡ Some owner → slice_get counts class ≡ Some n
-      → IsCountBefore job most class tests n × (IsOpen rows class ⊎ (n ≡ most))
+-- at each place of rows stands the count of the class on the first tests, as many as the number
+abbrev pub AreCountedBefore : Parts → ℕ → ℕ → List ListedClass → List ℕ → Type 0
+AreCountedBefore job most tests rows kept = (place n : ℕ) (row : ListedClass)
+    → slice_get rows place ≡ Some row → slice_get kept place ≡ Some n
+    → IsCountBefore job most row.class tests n
+
+-- the number of each class of rows is the one at a place of the class
+abbrev pub ArePutByClass : List ListedClass → List ℕ → List ℕ → Type 0
+ArePutByClass rows kept counts = (class n : ℕ) → IsOpen rows class
+    → slice_get counts class ≡ Some n
+    → (place : ℕ) × (row : ListedClass) × (slice_get rows place ≡ Some row) × (row.class ≡ class)
+    × (slice_get kept place ≡ Some n)
 
 -- a share of an owner, with no count yet
 pub record IsShareFor (job : Parts) (owners : List ℕ) (owner : ℕ) (share : Share) : Type 0 where
   pub owner_is : share.owner ≡ owner
   pub rows : All (IsListed job) share.rows.items
   pub whole : HasRowsOf job owners owner share.rows.items
-  pub many : length share.tallies.items ≡ length share.rows.items
-  pub words : length share.rows.items ≤ length share.words.items
+  pub many : length share.kept.items ≡ length share.rows.items
   pub places : length share.counts.items ≡ length job.classes.representative
-  pub tallies : All (λ n. n ≡ 0) share.tallies.items
-  pub counts : All (λ n. n ≡ 0) share.counts.items
-  pub room : HasRoom share.detection job
+  pub kept : All (λ n. n ≡ 0) share.kept.items
+  pub nexts : length share.next.items ≡ length share.rows.items
+  pub next : AreSuccessors share.next.items
+  pub serves : ServesRegions share.simulation job (length share.rows.items)
 
 -- the counts of the classes of an owner, by the classes' numbers
 pub record HasCounted (job : Parts) (owners : List ℕ) (owner most : ℕ) (counts : List ℕ)

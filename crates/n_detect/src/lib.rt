@@ -3,18 +3,20 @@
 //! A test set that detects each fault several times also detects more of the defects that no fault
 //! model has (n-detect test sets: Ma, Franco and McCluskey, An Experimental Chip to Evaluate Test
 //! Techniques). [`detections`] counts for all faults, in threads, and [`class_detections`] for one
-//! class.
+//! class. [`list_lanes`] returns the tests themselves, for a list of classes.
 #![tactic(auto)]
 
 mod class;
+mod count;
 mod faults;
+mod lanes;
 mod owners;
 mod share;
-mod tally;
 mod threads;
 
 pub use class::class_detections;
 pub use faults::detections;
+pub use lanes::list_lanes;
 use std::alloc::{AllocError, AllocFailed};
 use thiserror::Error;
 

@@ -1,29 +1,29 @@
 //! The classes of one worker, and their counts.
 
-ghost use Rattle.std.specs.Prelude.{◌≡◌, ◌+◌, ◌*◌, ◌<◌, ◌≤◌, All, IfOk, length};
-ghost use Rattle.flat_circuit.specs.BlockSpans.{groups};
-ghost use Rattle.region_sim.specs.GroupLanes.{HaveGroupLanes};
+ghost use Rattle.std.specs.Prelude.{◌≡◌, ◌+◌, ◌*◌, ◌<◌, ◌≤◌, ◌^◌, All, IfOk, length};
+ghost use Rattle.patterns.specs.Tests.{blocks};
 ghost use Rattle.block_sim.specs.Listed.{IsListed};
-ghost use Rattle.block_sim.specs.Parts.{HasRoom};
 ghost use Rattle.region_sim.specs.ClassOrder.{AreAllByRegion};
-ghost use Rattle.n_detect.specs.Share.{AreRowsOfOwner, AreTallied, HasCounted};
+ghost use Rattle.region_sim.specs.OpenPlaces.{AreSuccessors};
+ghost use Rattle.region_sim.specs.RegionHits.{ServesRegions};
+ghost use Rattle.n_detect.specs.Share.{AreCountedBefore, ArePutByClass, AreRowsOfOwner, HasCounted};
 ghost use Rattle.n_detect.specs.Share.{HasRowsOf, IsShareFor};
 
-use crate::tally::tally;
+use crate::count::Count;
 use block_sim::{Job, ListedClass};
-use region_sim::RegionDetection;
+use region_sim::{RegionSimulation, sweep_from};
 use std::alloc::{AllocError, Global};
 
-/// The classes of one worker, with the counts of all classes by number. The rows are the classes
-/// that are still open, region by region, with a tally and a word of lanes for each.
+/// The classes of one worker, region by region, with the count of each and the place after it, and
+/// the counts of all classes by number.
 #[derive(Drop)]
 pub(crate) struct Share {
     pub(crate) owner: u32,
     pub(crate) counts: Vec<u32>,
     rows: Vec<ListedClass>,
-    tallies: Vec<u32>,
-    words: Vec<u128>,
-    detection: RegionDetection,
+    kept: Vec<u32>,
+    next: Vec<usize>,
+    simulation: RegionSimulation,
 }
 
 impl Share {
@@ -41,18 +41,32 @@ impl Share {
     {
         let counts = vec![in alloc; 0; job.classes().count() as usize]?;
         let rows = rows_of(alloc, job, classes, owners, owner)?;
-        let tallies = vec![in alloc; 0; rows.len()]?;
-        let words = vec![in alloc; 0; rows.len()]?;
-        let detection = RegionDetection::new(alloc, job)?;
+        let kept = vec![in alloc; 0; rows.len()]?;
+        let next = successors(alloc, rows.len())?;
+        let mut simulation = RegionSimulation::new(alloc, job)?;
+        simulation.make_room(rows.len())?;
         Ok(Share {
             owner,
             counts,
             rows,
-            tallies,
-            words,
-            detection,
+            kept,
+            next,
+            simulation,
         })
     }
+}
+
+/// Returns for each of some places the one after it.
+pub(crate) fn successors(alloc: Global, places: usize) -> Result<Vec<usize>, AllocError>
+    requires { places < 2 ^ 63 }
+    ensures count { IfOk result (λ next. length next.items ≡ places) }
+    ensures next { IfOk result (λ next. AreSuccessors next.items) }
+{
+    let mut next = Vec::with_capacity(alloc, places)?;
+    for place in 0..places {
+        next.push(place + 1)?;
+    }
+    Ok(next)
 }
 
 /// Returns the classes of a worker, in their order.
@@ -79,64 +93,58 @@ fn rows_of(
     Ok(rows)
 }
 
-/// Counts for the classes of a share, one group of tests after the other. A class whose count has
-/// reached `most` leaves the rows. `owners` has the worker of each class.
+/// Counts for the classes of a share. A class whose count has reached `most` is left out. `owners`
+/// has the worker of each class.
 pub(crate) fn count_share(job: &Job, owners: &[u32], most: u32, share: &mut Share)
     requires { IsShareFor job.now owners.now share.old.owner share.old }
     ensures { HasCounted job.now owners.now share.old.owner most share.new.counts.items }
 {
     let _owners = owners;
-    for group in 0..job.tests().blocks().div_ceil(2) {
-        if share.rows.is_empty() {
-            break;
-        }
-        count_group(job, owners, group, most, share);
+    let _tests = job.tests();
+    let rows = share.rows.as_slice();
+    let next = share.next.as_slice();
+    let kept = share.kept.as_mut_slice();
+    count_rows(job, most, rows, next, &mut share.simulation, kept);
+    let counts = share.counts.as_mut_slice();
+    put_by_class(rows, share.kept.as_slice(), counts);
+}
+
+/// Counts for the classes of rows, sweep after sweep.
+fn count_rows(
+    job: &Job,
+    most: u32,
+    rows: &[ListedClass],
+    next: &[usize],
+    simulation: &mut RegionSimulation,
+    kept: &mut [u32],
+)
+    requires rows { All (IsListed job.now) rows.now }
+    requires serves { ServesRegions simulation.old job.now (length rows.now) }
+    requires next { (length next.now ≡ length rows.now) × AreSuccessors next.now }
+    requires places { length kept.old ≡ length rows.now }
+    requires none { All (λ n. n ≡ 0) kept.old }
+    ensures counted { AreCountedBefore job.now most (64 * blocks (length job.now.tests.tests))
+        rows.now kept.new }
+    ensures places { length kept.new ≡ length kept.old }
+{
+    let goal = Count { most };
+    let mut block = 0;
+    while block < job.tests().blocks() {
+        let span = sweep_from(job, block);
+        simulation.simulate(job, span, rows, next, &goal, kept);
+        block = span.last + 1;
     }
 }
 
-/// Counts for the open classes of a share on one group more.
-fn count_group(job: &Job, owners: &[u32], group: u32, most: u32, share: &mut Share)
-    requires group { group < groups (length job.now.tests.tests) }
-    requires room { HasRoom share.old.detection job.now }
-    requires words { length share.old.rows.items ≤ length share.old.words.items }
-    requires tallied { AreTallied job.now owners.now share.old.owner most (128 * group)
-        share.old.rows.items share.old.tallies.items share.old.counts.items }
-    ensures room { HasRoom share.new.detection job.now }
-    ensures words { length share.new.rows.items ≤ length share.new.words.items }
-    ensures owner { share.new.owner ≡ share.old.owner }
-    ensures tallied { AreTallied job.now owners.now share.old.owner most (128 * (group + 1))
-        share.new.rows.items share.new.tallies.items share.new.counts.items }
+/// Puts the number at each place at the number of the class there.
+fn put_by_class(rows: &[ListedClass], kept: &[u32], counts: &mut [u32])
+    requires places { length kept.now ≡ length rows.now }
+    requires classes { All (λ row. row.class < length counts.old) rows.now }
+    ensures places { length counts.new ≡ length counts.old }
+    ensures put { ArePutByClass rows.now kept.now counts.new }
 {
-    let _owners = owners;
-    let rows = share.rows.as_slice();
-    let words = share.words.as_mut_slice();
-    find_lanes(job, group, rows, &mut share.detection, words);
-    let rows = share.rows.as_mut_slice();
-    let tallies = share.tallies.as_mut_slice();
-    let counts = share.counts.as_mut_slice();
-    let kept = tally(most, rows, tallies, share.words.as_slice(), counts);
-    share.rows.truncate(kept);
-    share.tallies.truncate(kept);
-}
-
-/// Finds the tests of a group that detect the class of each row.
-fn find_lanes(
-    job: &Job,
-    group: u32,
-    rows: &[ListedClass],
-    detection: &mut RegionDetection,
-    words: &mut [u128],
-)
-    requires group { group < groups (length job.now.tests.tests) }
-    requires rows { All (IsListed job.now) rows.now }
-    requires room { HasRoom detection.old job.now }
-    requires places { length rows.now ≤ length words.old }
-    ensures found { HaveGroupLanes job.now group rows.now 0 (length rows.now) words.new }
-    ensures places { length words.new ≡ length words.old }
-    ensures room { HasRoom detection.new job.now }
-{
-    let mut at = 0;
-    while at < rows.len() {
-        at = detection.detect_region(job, group, rows, at, words);
+    for place in 0..rows.len() {
+        let class = rows[place].class;
+        counts[class as usize] = kept[place];
     }
 }

@@ -1,11 +1,12 @@
 -- The dead classes at the end of a list: no test detects them, so a run over the others does for
 -- the whole list.
 use Rattle.std.proofs.Common.{◌≡◌, ◌<◌, ◌≤◌, ◌+◌, ◌-◌, ◌++◌, ◌⊎◌, inl, inr, ℕ, zero, suc, List}
-use Rattle.std.proofs.Common.{[], ◌∷◌, All, Option, Some, None, length, refl, sym, ap, ◌∙◌, subst}
+use Rattle.std.proofs.Common.{[], ◌∷◌, All, Option, Some, None, false, length, refl, sym, ap, ◌∙◌}
+use Rattle.std.proofs.Common.{subst}
 use Rattle.std.proofs.Common.{arith}
 use Rattle.std.specs.Prelude.{slice_get}
 use Rattle.std.specs.Option.{option_map}
-use Rattle.std.proofs.lemmas.Bool.{cases_lt}
+use Rattle.std.proofs.lemmas.Bool.{cases_lt, false≢true}
 use Rattle.std.proofs.lemmas.List.{length-append, length-map}
 use Rattle.std.proofs.lemmas.Option.{slice_get-map, slice_get_within}
 use Rattle.list_lemmas.proofs.Places.{from_mapped, within_place}
@@ -13,6 +14,7 @@ use Rattle.patterns.specs.Least.{least}
 use Rattle.patterns.specs.Tests.{blocks}
 use Rattle.flat_circuit.specs.declared.block_span.BlockSpan.{BlockSpan}
 use Rattle.flat_circuit.specs.declared.origin.ListedClass.{ListedClass}
+use Rattle.region_sim.specs.Goals.{is_unknown}
 use Rattle.region_sim.specs.OpenPlaces.{AreNextOpen}
 use Rattle.block_sim.specs.Listed.{IsListed}
 use Rattle.block_sim.specs.Parts.{BelongTogether, Parts}
@@ -21,41 +23,26 @@ use Rattle.block_sim.proofs.Public.{true_table}
 use Rattle.workers.specs.Stops.{Stops}
 use Rattle.region_runs.specs.declared.stretch_run.Stop.{Stop}
 use Rattle.region_sim.specs.ClassOrder.{classes_of}
-use Rattle.region_runs.specs.BlockSweeps.{AreAllNotStopped, AreDeadFrom, between}
+use Rattle.region_runs.specs.BlockSweeps.{AreAllNotStopped, AreDeadFrom}
 use Rattle.region_runs.specs.StretchRuns.{AreFoundUpTo, ArePassed, HasEnded, IsEarlier}
 use Rattle.region_runs.specs.StretchRuns.{IsUndetected}
-use Rattle.region_runs.proofs.BlockSweeps.{row_listed, true_clear}
+use Rattle.region_runs.proofs.FirstHits.{never_hit, row_listed}
 use Rattle.region_runs.proofs.StretchRuns.{done_high, found_none, one_count}
-use Rattle.region_runs.proofs.SweepRests.{still_undetected}
 
 -- ---- places in two lists, one behind the other
-get_left : {X : Type 0} (xs ys : List X) (k : ℕ) → k < length xs
+pub get_left : {X : Type 0} (xs ys : List X) (k : ℕ) → k < length xs
     → slice_get (xs ++ ys) k ≡ slice_get xs k
 get_left [] ys k lt = absurd (omega (arith, lt))
 get_left (x ∷ xs) ys zero lt = refl
 get_left (x ∷ xs) ys (suc k) lt = get_left xs ys k (omega (arith, lt))
 
-get_behind : {X : Type 0} (xs ys : List X) (k : ℕ) → length xs ≤ k
+pub get_behind : {X : Type 0} (xs ys : List X) (k : ℕ) → length xs ≤ k
     → slice_get (xs ++ ys) k ≡ slice_get ys (k - length xs)
 get_behind [] ys k le = let e : k ≡ k - 0 = omega arith in ap (slice_get ys) e
 get_behind (x ∷ xs) ys zero le = absurd (omega (arith, le))
 get_behind (x ∷ xs) ys (suc k) le =
     let e : k - length xs ≡ suc k - length (x ∷ xs) = omega arith in
     get_behind xs ys k (omega (arith, le)) ∙ ap (slice_get ys) e
-
--- no test detects a class that no test of any blocks detects
-never : (job : Parts) → BelongTogether job → (class : ℕ)
-    → class < length job.classes.representative
-    → ((span : BlockSpan) → IsFirstOn job span class None) → (n : ℕ)
-    → n ≤ blocks (length job.tests.tests) → IsUndetected job class n
-never job b class lt dead zero le = λ table is. refl
-never job b class lt dead (suc n) le =
-    let one : n + 1 ≡ suc n = omega arith in
-    subst (IsUndetected job class) one
-    (still_undetected job b class n lt (omega (arith, le))
-    (never job b class lt dead n (omega (arith, le)))
-    (true_clear job n class n None (λ t e. (let bad : None ≡ Some t = e in absurd (cc)))
-    (omega arith) (dead (between n n))))
 
 -- ---- a list of live classes, and dead ones behind them
 module _ (job : Parts) (b : BelongTogether job) (live dead : List ListedClass) where
@@ -79,8 +66,10 @@ module _ (job : Parts) (b : BelongTogether job) (live dead : List ListedClass) w
         let at = within_place (classes_of (live ++ dead)) k (omega (arith, lt, count)) in
         none.each table.0 table.1 k at.0 0 first at.1 e (done_high 0 0 k (omega arith))
 
-    none_known : {A : Type 0} (k t : ℕ) → slice_get (was ++ rest) k ≡ Some (Some t) → A
-    none_known k t e = let bad : Some t ≡ None = all_unknown k (Some t) e in absurd (cc)
+    known_not : {A : Type 0} (k : ℕ) (first : Option ℕ) → slice_get (was ++ rest) k ≡ Some first
+        → is_unknown first ≡ false → A
+    known_not k first e known =
+        absurd (false≢true (sym known ∙ ap is_unknown (all_unknown k first e)))
 
     pub live_none : AreFoundUpTo job (classes_of live) 0 0 was
     live_none =
@@ -90,7 +79,7 @@ module _ (job : Parts) (b : BelongTogether job) (live dead : List ListedClass) w
         (get_left was rest k (slice_get_within was k first e) ∙ e))
 
     pub live_next : (next more : List ℕ) → length next ≡ length live
-        → AreNextOpen (was ++ rest) (next ++ more) → AreNextOpen was next
+        → AreNextOpen is_unknown (was ++ rest) (next ++ more) → AreNextOpen is_unknown was next
     live_next next more count before = record {
       count = count ∙ sym long;
       following = λ p q e. before.following p q (there p q e);
@@ -98,11 +87,11 @@ module _ (job : Parts) (b : BelongTogether job) (live dead : List ListedClass) w
         | inl lt ↦ (let low = slice_get_within next p q e in
             let x = before.between p q (there p q e) (length was)
             (omega (arith, low, count, long)) lt in
-            none_known (length was) x.0 x.1)
+            known_not (length was) x.0 x.1 x.2)
         | inr le ↦ le
       ]);
       between = λ p q e k le lt.
-          let x = before.between p q (there p q e) k le lt in none_known k x.0 x.1;
+          let x = before.between p q (there p q e) k le lt in known_not k x.0 x.1 x.2;
     }
       where
         there : (p q : ℕ) → slice_get next p ≡ Some q → slice_get (next ++ more) p ≡ Some q
@@ -119,7 +108,7 @@ module _ (job : Parts) (b : BelongTogether job) (live dead : List ListedClass)
       let x = from_mapped (λ (at : ListedClass). at.class) (live ++ dead) k class e in
       let own = row_listed job (live ++ dead) k x.0 listed x.1 in
       subst (λ c. IsUndetected job c (blocks (length job.tests.tests))) x.2
-      (never job b x.0.class own.within (are k x.0 le x.1) (blocks (length job.tests.tests))
+      (never_hit job b x.0.class own.within (are k x.0 le x.1) (blocks (length job.tests.tests))
       (omega arith))
 
   -- the gate was asked for each of them

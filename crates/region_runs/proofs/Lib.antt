@@ -5,9 +5,9 @@ mod FaultFirsts
 mod ListedRuns
 mod StretchRuns
 mod PassedPieces
-mod BlockSweeps
+mod FirstHits
 mod OpenClasses
-mod SweepRests
+mod AskedPieces
 mod DeadClasses
 mod StretchSeats
 mod ClaimedStretches

@@ -1,20 +1,32 @@
 //! The places of a list whose classes may be open: for each place the next one.
 
-ghost use Rattle.std.specs.Prelude.{◌≡◌, ◌+◌, ◌<◌, IfOk, Some, length, slice_get};
+ghost use Rattle.std.specs.Prelude.{◌≡◌, ◌+◌, ◌^◌, ◌<◌, IfOk, Some, length, slice_get};
 ghost use Rattle.std.specs.Prelude.{slice_set};
-ghost use Rattle.region_sim.specs.OpenPlaces.{AreNextOpen};
+ghost use Rattle.region_sim.specs.Goals.{is_unknown};
+ghost use Rattle.region_sim.specs.OpenPlaces.{AreNextOpen, AreSuccessors};
 
 use std::alloc::{AllocError, Global};
 
 /// Returns the next place of each, before any first test is known.
 pub(crate) fn all_open(alloc: Global, firsts: &[Option<u32>]) -> Result<Vec<usize>, AllocError>
-    ensures { IfOk result (λ next. AreNextOpen firsts.now next.items) }
+    ensures { IfOk result (λ next. AreNextOpen is_unknown firsts.now next.items) }
 {
     let mut next = Vec::with_capacity(alloc, firsts.len())?;
     for place in 0..firsts.len() {
         next.push(place + 1)?;
     }
     Ok(next)
+}
+
+/// Lets the place after it be the next one of each place.
+pub(crate) fn follow_all(next: &mut [usize])
+    requires { length next.old < 2 ^ 63 }
+    ensures count { length next.new ≡ length next.old }
+    ensures next { AreSuccessors next.new }
+{
+    for place in 0..next.len() {
+        next[place] = place + 1;
+    }
 }
 
 /// Returns the next place whose class may be open.

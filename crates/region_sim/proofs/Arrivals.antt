@@ -2,36 +2,19 @@
 use Rattle.std.proofs.Common.{◌<◌, ◌≤◌, ℕ, sym, ◌∙◌, ap, subst, List, [], ◌∷◌}
 use Rattle.std.proofs.Common.{◌++◌, length}
 use Rattle.std.proofs.Common.{inl, inr, ◌⊎◌, arith}
-use Rattle.std.specs.Prelude.{bit_and}
 use Rattle.list_lemmas.proofs.Members.{Among, among, among_append}
 use Rattle.list_lemmas.proofs.Members.{contained}
 use Rattle.bench_net.specs.Scan.{names}
 use Rattle.bench_net.specs.Circuit.{IsWellFormed}
 use Rattle.flat_circuit.specs.declared.block_span.BlockSpan.{BlockSpan}
-use Rattle.block_sim.specs.First.{TellsFirst}
 use Rattle.block_sim.specs.declared.propagation.Followed.{Followed}
 use Rattle.block_sim.specs.declared.propagation_state.PropagationState.{PropagationState}
 use Rattle.block_sim.specs.PropagationState.{HasRoomFor, IsAtRest}
 use Rattle.block_sim.specs.Parts.{Parts}
-use Rattle.block_sim.specs.Flips.{TellsFirstFlips}
-use Rattle.region_sim.specs.Arrivals.{AreFollowed, HasArrived, TellsFirstIn}
-use Rattle.flat_circuit.specs.BlockSpans.{AreInSpan, group_of}
+use Rattle.region_sim.specs.Arrivals.{AreFollowed, HasArrived}
+use Rattle.flat_circuit.specs.BlockSpans.{AreInSpan}
 use Rattle.flat_circuit.specs.Words.{lane}
-use Rattle.block_sim.proofs.Public.{lanes_first, lanes_law}
-
--- the first test that detects a class that reached a stem in some lanes
-pub arrived_first : (job : Parts) (span : BlockSpan) (stem class word seen : ℕ)
-    → HasArrived job span stem class word
-    → TellsFirstFlips job.circuit job.tests.tests (group_of span) word stem seen
-    → TellsFirstIn job span class (bit_and word seen)
-arrived_first job span stem class word seen a detection = (
-  a.0,
-  a.3,
-  subst (λ w. TellsFirst job.circuit job.tests.tests span a.0 (bit_and w seen)) (sym a.6)
-      (lanes_law job.circuit job.tests.tests span a.0 stem a.1 a.2 seen a.4 a.5
-      (subst (λ w. TellsFirstFlips job.circuit job.tests.tests (group_of span) w stem seen) a.6
-      detection)),
-)
+use Rattle.block_sim.proofs.Public.{lanes_first}
 
 -- a class reached a stem only in lanes of tests
 pub arrived_within : (job : Parts) (span : BlockSpan) (stem class word : ℕ)

@@ -1,18 +1,22 @@
 -- Classes that are followed on a unit, one after the other.
-use Rattle.std.proofs.Common.{◌≡◌, ◌+◌, ◌<◌, ◌≤◌, ℕ, sym, ◌∙◌, ap, subst, List, length, arith}
-use Rattle.std.specs.Prelude.{◌⊎◌, None, Option, Some, slice_get}
+use Rattle.std.proofs.Common.{◌≡◌, ◌+◌, ◌<◌, ◌≤◌, ◌⊎◌, ℕ, sym, ◌∙◌, ap, subst, Bool, List, length}
+use Rattle.std.proofs.Common.{arith, true}
+use Rattle.std.specs.Prelude.{Some, slice_get}
 use Rattle.wide_words.specs.Wide.{number}
 use Rattle.flat_circuit.specs.declared.origin.ListedClass.{ListedClass}
 use Rattle.region_sim.specs.declared.unit_simulation.UnitClass.{UnitClass}
 use Rattle.block_sim.specs.Parts.{Parts}
-use Rattle.region_sim.specs.UnitHits.{AreClassesAt, AreClassesOpen, HaveArrivedInUnit}
-use Rattle.region_sim.specs.UnitHits.{HaveFirstsBeside, IsFoundOrCame}
+use Rattle.region_sim.specs.OpenPlaces.{KeepsClosed}
+use Rattle.region_sim.specs.UnitHits.{AreClassesAt, AreClassesInOrder, AreClassesOpen}
+use Rattle.region_sim.specs.UnitHits.{AreClassesStill, HaveArrivedInUnit, HaveTakenBeside}
+use Rattle.region_sim.specs.UnitHits.{IsTakenOrCame}
 use Rattle.region_sim.specs.Units.{ArrivesInUnit, unit_span}
 use Rattle.region_sim.proofs.FollowedRows as rows_followed
 
 -- ---- one row more
-module _ (job : Parts) (group : ℕ) (row : ListedClass) (p : ℕ) (was classes : List UnitClass)
-    (old hits : List (Option ℕ)) (step : IsFoundOrCame job group row p was classes old hits) where
+module _ {K : Type 0} (is_open : K → Bool) (means : (ℕ → Bool) → ℕ → ℕ → K → Type 0) (job : Parts)
+    (group : ℕ) (row : ListedClass) (p : ℕ) (was classes : List UnitClass) (old now : List K)
+    (step : IsTakenOrCame means job group row p was classes old now) where
   abbrev class_of : UnitClass → ℕ
   class_of one = one.class
 
@@ -22,67 +26,77 @@ module _ (job : Parts) (group : ℕ) (row : ListedClass) (p : ℕ) (was classes 
   abbrev Came : UnitClass → Type 0
   Came one = ArrivesInUnit job group row.stem one.class (number one.lanes)
 
-  pub as_many : length hits ≡ length old
-  as_many = rows_followed.as_many class_of place_of Came job (unit_span group) row p was classes old
-      hits step
+  pub as_many : length now ≡ length old
+  as_many = rows_followed.as_many is_open means class_of place_of Came job (unit_span group) row p
+      was classes old now step
 
   pub one_more : length classes ≤ length was + 1
-  one_more = rows_followed.one_more class_of place_of Came job (unit_span group) row p was classes
-      old hits step
+  one_more = rows_followed.one_more is_open means class_of place_of Came job (unit_span group) row p
+      was classes old now step
 
   pub arrived_more : (stem : ℕ) → row.stem ≡ stem → HaveArrivedInUnit job group stem was
       → HaveArrivedInUnit job group stem classes
   arrived_more stem of =
-      rows_followed.each_more class_of place_of Came job (unit_span group) row p was classes old
-      hits step (λ (one : UnitClass). ArrivesInUnit job group stem one.class (number one.lanes))
+      rows_followed.each_more is_open means class_of place_of Came job (unit_span group) row p was
+      classes old now step
+      (λ (one : UnitClass). ArrivesInUnit job group stem one.class (number one.lanes))
       (λ one class place came.
       subst (λ s. ArrivesInUnit job group s one.class (number one.lanes)) of came)
 
-  pub found_more : (rows : List ListedClass) (firsts : List (Option ℕ)) (from : ℕ)
-      → slice_get rows p ≡ Some row → p < length old
-      → HaveFirstsBeside job group rows firsts was from p old
-      → HaveFirstsBeside job group rows firsts classes from (p + 1) hits
-  found_more = rows_followed.found_more class_of place_of Came job (unit_span group) row p was
-      classes old hits step
+  pub taken_more : (rows : List ListedClass) (before : List K) (from : ℕ)
+      → slice_get rows p ≡ Some row → slice_get old p ≡ slice_get before p
+      → HaveTakenBeside is_open means job group rows was from p before old
+      → HaveTakenBeside is_open means job group rows classes from (p + 1) before now
+  taken_more = rows_followed.taken_more is_open means class_of place_of Came job (unit_span group)
+      row p was classes old now step
 
-  pub others_more : (from : ℕ) (first : List (Option ℕ)) → from ≤ p
+  pub others_more : (from : ℕ) (first : List K) → from ≤ p
       → ((place : ℕ) → (place < from) ⊎ (p ≤ place) → slice_get old place ≡ slice_get first place)
       → (place : ℕ) → (place < from) ⊎ (p + 1 ≤ place)
-      → slice_get hits place ≡ slice_get first place
-  others_more = rows_followed.others_more class_of place_of Came job (unit_span group) row p was
-      classes old hits step
+      → slice_get now place ≡ slice_get first place
+  others_more = rows_followed.others_more is_open means class_of place_of Came job (unit_span group)
+      row p was classes old now step
 
-  pub known_more : (firsts first : List (Option ℕ)) → slice_get firsts p ≡ Some None
-      → ((place test : ℕ) → slice_get firsts place ≡ Some (Some test)
-      → slice_get old place ≡ slice_get first place)
-      → (place test : ℕ) → slice_get firsts place ≡ Some (Some test)
-      → slice_get hits place ≡ slice_get first place
-  known_more = rows_followed.known_more class_of place_of Came job (unit_span group) row p was
-      classes old hits step
+  pub closed_more : (first : List K) (own : K) → slice_get first p ≡ Some own
+      → is_open own ≡ true → KeepsClosed is_open first old → KeepsClosed is_open first now
+  closed_more = rows_followed.closed_more is_open means class_of place_of Came job (unit_span group)
+      row p was classes old now step
 
-  pub open_more : (firsts : List (Option ℕ)) → slice_get firsts p ≡ Some None
-      → AreClassesOpen firsts was → AreClassesOpen firsts classes
-  open_more firsts unknown =
-      rows_followed.each_more class_of place_of Came job (unit_span group) row p was classes old
-      hits step (λ (one : UnitClass). slice_get firsts one.place ≡ Some None)
-      (λ one class place came. ap (slice_get firsts) place ∙ unknown)
+  pub open_more : (first : List K) (own : K) → slice_get first p ≡ Some own → is_open own ≡ true
+      → AreClassesOpen is_open first was → AreClassesOpen is_open first classes
+  open_more first own own_is wanted =
+      rows_followed.each_more is_open means class_of place_of Came job (unit_span group) row p was
+      classes old now step
+      (λ (one : UnitClass). (x : K) × (slice_get first one.place ≡ Some x) × (is_open x ≡ true))
+      (λ one class place came. (own, ap (slice_get first) place ∙ own_is, wanted))
 
-  pub at_more : (rows : List ListedClass) (from : ℕ) → from ≤ p → slice_get rows p ≡ Some row
-      → AreClassesAt rows from p was → AreClassesAt rows from (p + 1) classes
-  at_more rows from after is before =
-      rows_followed.each_more class_of place_of Came job (unit_span group) row p was classes old
-      hits step
-      (λ (one : UnitClass). (from ≤ one.place) × (one.place < p + 1)
-      × (r : ListedClass) × (slice_get rows one.place ≡ Some r) × (r.class ≡ one.class))
-      (λ one class place came. (
-        omega (arith, place, after),
-        omega (arith, place),
-        row,
-        ap (slice_get rows) place ∙ is,
-        sym class,
-      ))
-      (λ one there. let b = before one there in let lt = b.1 in
-      (b.0, omega (arith, lt), b.2, b.3, b.4))
+  module _ (rows : List ListedClass) (from : ℕ) (after : from ≤ p)
+      (is : slice_get rows p ≡ Some row) (at : AreClassesAt rows from p was) where
+    pub at_more : AreClassesAt rows from (p + 1) classes
+    at_more =
+        rows_followed.each_more is_open means class_of place_of Came job (unit_span group) row p was
+        classes old now step
+        (λ (one : UnitClass). (from ≤ one.place) × (one.place < p + 1)
+        × (r : ListedClass) × (slice_get rows one.place ≡ Some r) × (r.class ≡ one.class))
+        (λ one class place came. (
+          omega (arith, place, after),
+          omega (arith, place),
+          row,
+          ap (slice_get rows) place ∙ is,
+          sym class,
+        ))
+        (λ one there. let b = at one there in let lt = b.1 in
+        (b.0, omega (arith, lt), b.2, b.3, b.4))
+
+    pub order_more : AreClassesInOrder was → AreClassesInOrder classes
+    order_more = rows_followed.order_more is_open means class_of place_of Came job (unit_span group)
+        row p was classes old now step (λ one there. (at one there).1)
+
+    pub still_more : (before : List K) → slice_get old p ≡ slice_get before p
+        → AreClassesStill was before old → AreClassesStill classes before now
+    still_more before agree = rows_followed.still_more is_open means class_of place_of Came job
+        (unit_span group) row p was classes old now step before agree
+        (λ one there. (at one there).1)
 
 -- ---- over places whose classes are settled
 pub at_over : (rows : List ListedClass) (from p q : ℕ) (classes : List UnitClass) → p ≤ q

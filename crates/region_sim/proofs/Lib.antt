@@ -1,6 +1,7 @@
-mod FlipLanes
+mod Goals
 mod FaultLanes
 mod Arrivals
+mod SpanHits
 mod RegionHits
 mod ArrangedReaches
 mod UnitLanes
@@ -10,6 +11,7 @@ mod UnitStarts
 mod UnitApproaches
 mod UnitHits
 mod UnitParts
+mod ListParts
 mod FollowedRows
 mod FollowedUnits
 mod KnownWords
@@ -32,7 +34,5 @@ mod PackRuns
 mod PackRanges
 mod PackKept
 mod PackBegins
-mod GroupLanes
-mod FlipsInLanes
 mod ClassOrders
 pub mod Public

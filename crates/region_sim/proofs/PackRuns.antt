@@ -224,8 +224,8 @@ module _ (l : Layout) (sizes : IsLayout l) (c : List Statement) (well : IsWellFo
       (low_stem : (k : ℕ) → slot_of l k < length slots → stem_at l slots k < length (names c))
       (all : (k : ℕ) (one : Followed) → k < 512 → IsIn l slots followed k one
       → lane begun k ≡ true)
-      (settled : (k : ℕ) → k < 512 → lane begun k ≡ true → lane kept k ≡ false
-      → AreHitIn l slots followed seen k)
+      (every : Bool) (settled : (k : ℕ) → k < 512 → lane begun k ≡ true → lane kept k ≡ false
+      → (every ≡ false) × AreHitIn l slots followed seen k)
       (stop : (kept ≡ 0) ⊎ ((s : ℕ) → slice_index_or at s 0 ≡ 0)) where
     abbrev those : Lanes c 512
     those = stem_lanes l sizes c well rising tests group good words slots
@@ -275,29 +275,39 @@ module _ (l : Layout) (sizes : IsLayout l) (c : List Statement) (well : IsWellFo
           number in
           subst (λ b. Detects c (those.test k) (flip (stem_at l slots k) b)) same d.2
 
-    pub told : TellsPack l c tests group slots followed seen
+    abbrev IsLeast : ℕ → Followed → Type 0
+    IsLeast k one = (j : ℕ) → j < 512 → slot_of l j ≡ slot_of l k → lane_in l j ≤ lane_in l k
+        → lane one.lanes (lane_in l j) ≡ true → lane seen j ≡ false
+
+    pub told : TellsPack every l c tests group slots followed seen
     told = record {
       found = λ k lt on slot. flip_found k lt (low_stem k slot) on;
-      clear = λ k one lt own none d. miss k one lt own
-          (low_stem k (listed_within slots (slot_of l k) own.slot own.stands)) none d
+      clear = λ k one lt own unseen least d. miss k one lt own
+          (low_stem k (listed_within slots (slot_of l k) own.slot own.stands)) unseen least d
           (bit_cases (lane kept k));
     }
       where
         miss : (k : ℕ) (one : Followed) → k < 512 → IsIn l slots followed k one
-            → stem_at l slots k < length (names c)
-            → ((j : ℕ) → j < 512 → slot_of l j ≡ slot_of l k → lane_in l j ≤ lane_in l k
-            → lane one.lanes (lane_in l j) ≡ true → lane seen j ≡ false)
+            → stem_at l slots k < length (names c) → lane seen k ≡ false
+            → (every ≡ true) ⊎ IsLeast k one
             → DetectsFlip c (those.test k) (stem_at l slots k)
             → (lane kept k ≡ true) ⊎ (lane kept k ≡ false) → ⊥
-        miss k one lt own low none d (inr off) =
-            let j = settled k lt (all k one lt own) off one own in
-            false≢true (sym (none j.0 j.1 j.2 j.3 j.4) ∙ j.5)
-        miss k one lt own low none d (inl on) = go stop
+        miss k one lt own low unseen least d (inr off) = go least
+          where
+            left : (every ≡ false) × AreHitIn l slots followed seen k
+            left = settled k lt (all k one lt own) off
+
+            go : (every ≡ true) ⊎ IsLeast k one → ⊥
+            go (inl on) = false≢true (sym left.0 ∙ on)
+            go (inr none) =
+                let j = left.1 one own in
+                false≢true (sym (none j.0 j.1 j.2 j.3 j.4) ∙ j.5)
+        miss k one lt own low unseen least d (inl on) = go stop
           where
             go : (kept ≡ 0) ⊎ ((s : ℕ) → slice_index_or at s 0 ≡ 0) → ⊥
             go (inl empty) = lane_some kept k on empty
-            go (inr idle) = unseen_misses c well rising 512 those last h k lt on
-                (none k lt refl (omega arith) own.comes) idle (flip_detects k lt low d)
+            go (inr idle) = unseen_misses c well rising 512 those last h k lt on unseen idle
+                (flip_detects k lt low d)
 
 -- the fault-free words of a group have for each gate the bit that its kind gives
 pub gate_words : (c : List Statement) (well : IsWellFormed c) (tests : List Test) (group : ℕ)

@@ -1,81 +1,32 @@
 -- What a simulation of regions finds out, by the places of a list of classes.
-use Rattle.std.proofs.Common.{◌≡◌, ◌≢◌, ◌+◌, ◌*◌, ◌-◌, ◌<◌, ◌≤◌, ◌⊎◌, inl, inr, ℕ, zero, suc}
-use Rattle.std.proofs.Common.{refl, sym, ◌∙◌, ap, subst, List, [], ◌∷◌, length, set, arith}
-use Rattle.std.proofs.Common.{All, Option, Some, None}
-use Rattle.std.specs.Prelude.{Contains, bit_and, slice_get}
-use Rattle.std.proofs.lemmas.Bool.{cases_eq}
-use Rattle.std.proofs.lemmas.List.{length-set}
+use Rattle.std.proofs.Common.{◌≡◌, ◌≢◌, ◌+◌, ◌*◌, ◌<◌, ◌≤◌, ◌⊎◌, inl, inr, ℕ, zero, suc}
+use Rattle.std.proofs.Common.{refl, sym, ◌∙◌, ap, subst, List, [], ◌∷◌, length, arith}
+use Rattle.std.proofs.Common.{All, Bool, Some, true, false}
+use Rattle.std.specs.Prelude.{Contains, bit_and, slice_get, unwrap_or}
+use Rattle.std.proofs.lemmas.Bool.{cases_eq, cases_lt}
 use Rattle.std.proofs.lemmas.Option.{get_or_from_slice_get, slice_get-get_or, slice_get_within}
 use Rattle.list_lemmas.proofs.Members.{Among, among, contained}
-use Rattle.bench_net.specs.Statement.{Statement}
-use Rattle.fault_model.specs.Detection.{DetectsAt}
-use Rattle.fault_model.specs.Fault.{Fault}
-use Rattle.fault_model.specs.Solution.{Test}
 use Rattle.flat_circuit.specs.declared.origin.ListedClass.{ListedClass}
 use Rattle.flat_circuit.specs.declared.block_span.BlockSpan.{BlockSpan}
+use Rattle.flat_circuit.specs.BlockSpans.{group_of}
 use Rattle.block_sim.specs.declared.propagation.Followed.{Followed}
-use Rattle.block_sim.specs.First.{TellsFirst, IsFirstIn, IsFirstOn}
-use Rattle.region_sim.specs.OpenPlaces.{AreSettled}
 use Rattle.block_sim.specs.Listed.{IsListed}
 use Rattle.block_sim.specs.Parts.{Parts}
-use Rattle.region_sim.specs.RegionHits.{AreConcluded, AreFollowedAt, AreOpen, HasFirst, HaveFirsts}
-use Rattle.region_sim.specs.RegionHits.{HaveFirstsBut, HaveStem, IsFollowedAt, IsFoundOrFollowed}
-use Rattle.region_sim.specs.RegionHits.{IsTestOf}
-use Rattle.block_sim.specs.Flips.{TellsFirstFlips}
-use Rattle.region_sim.specs.Arrivals.{AreFollowed, HasArrived, TellsFirstIn}
-use Rattle.flat_circuit.specs.BlockSpans.{IsInSpan, IsSpan, group_of}
+use Rattle.region_sim.specs.Arrivals.{HasArrived}
+use Rattle.region_sim.specs.Goals.{HasTakenAt, HaveTaken}
+use Rattle.region_sim.specs.OpenPlaces.{AgreeFrom, AreNextOpen, AreSettled, AreSuccessors}
+use Rattle.region_sim.specs.OpenPlaces.{KeepsClosed}
+use Rattle.region_sim.specs.RegionHits.{AreFollowedAt, AreInOrder, AreOpen, AreStill, HasTakenWord}
+use Rattle.region_sim.specs.RegionHits.{HaveStem, HaveTakenBut, HaveTakenOpen, IsFollowedAt}
+use Rattle.region_sim.specs.RegionHits.{IsTakenOrFollowed}
 use Rattle.region_sim.proofs.FollowedRows as rows_followed
-use Rattle.region_sim.proofs.Arrivals.{arrived_first}
-use Rattle.flat_circuit.proofs.Public.{set_here, set_there}
-
--- ---- the test of the least lane is the first one
-pub first_of_lane : (c : List Statement) (tests : List Test) (span : BlockSpan) (f : Fault)
-    (word : ℕ)
-    (hit : Option ℕ) → IsSpan (length tests) span → TellsFirst c tests span f word
-    → IsTestOf span word hit → IsFirstIn c tests span f hit
-first_of_lane c tests span f word (Some t) is detection h =
-    let k = h.0 in
-    let at : t ≡ 128 * group_of span + k = h.2 in
-    let found = detection.found k h.1 h.3 in (
-      subst (IsInSpan (length tests) span) (sym at) found.0,
-      subst (DetectsAt c tests f) (sym at) found.1,
-      λ earlier own lt.
-          let from = own.from in
-          let j = earlier - 128 * group_of span in
-          let same : 128 * group_of span + j ≡ earlier = omega (arith, from) in
-          let low : j < k = omega (arith, from, lt, at) in
-          let below = h.1 in
-          subst (λ n. ¬ DetectsAt c tests f n) same
-          (detection.clear j (omega (arith, low, below))
-          (subst (IsInSpan (length tests) span) (sym same) own)
-          (λ i le. h.4 i (omega (arith, le, low)))),
-    )
-first_of_lane c tests span f word None is detection h = λ t own.
-    let from = own.from in
-    let to = own.to in
-    let one = is.one_group in
-    let j = t - 128 * group_of span in
-    let same : 128 * group_of span + j ≡ t = omega (arith, from) in
-    let low : j < 128 = omega (arith, from, to, one) in
-    subst (λ n. ¬ DetectsAt c tests f n) same
-    (detection.clear j low (subst (IsInSpan (length tests) span) (sym same) own)
-    (λ i le. h i (omega (arith, le, low))))
-
-pub first_of_word : (job : Parts) (span : BlockSpan) (class word : ℕ) (hit : Option ℕ)
-    → IsSpan (length job.tests.tests) span → TellsFirstIn job span class word
-    → IsTestOf span word hit → IsFirstOn job span class hit
-first_of_word job span class word hit is detection h = (
-  detection.0,
-  detection.1,
-  first_of_lane job.circuit job.tests.tests span detection.0 word hit is detection.2 h,
-)
+use Rattle.region_sim.proofs.OneLane.{bit_cases}
 
 -- ---- one row more
-module _ (job : Parts) (span : BlockSpan) (rows : List ListedClass) (firsts : List (Option ℕ))
-    (from p : ℕ)
-    (row : ListedClass) (was followed : List Followed) (old hits : List (Option ℕ))
-    (is : slice_get rows p ≡ Some row) (low : p < length old) (after : from ≤ p)
-    (step : IsFoundOrFollowed job span row p was followed old hits) where
+module _ {K : Type 0} (is_open : K → Bool) (means : (ℕ → Bool) → ℕ → ℕ → K → Type 0) (job : Parts)
+    (span : BlockSpan) (rows : List ListedClass) (from p : ℕ) (row : ListedClass)
+    (was followed : List Followed) (old now : List K) (is : slice_get rows p ≡ Some row)
+    (after : from ≤ p) (step : IsTakenOrFollowed means job span row p was followed old now) where
   abbrev class_of : Followed → ℕ
   class_of one = one.class
 
@@ -85,17 +36,20 @@ module _ (job : Parts) (span : BlockSpan) (rows : List ListedClass) (firsts : Li
   abbrev Came : Followed → Type 0
   Came one = HasArrived job span row.stem one.class one.lanes
 
-  pub as_many : length hits ≡ length old
-  as_many = rows_followed.as_many class_of place_of Came job span row p was followed old hits step
+  pub as_many : length now ≡ length old
+  as_many = rows_followed.as_many is_open means class_of place_of Came job span row p was followed
+      old now step
 
-  pub found_more : HaveFirstsBut job span rows firsts was from p old
-      → HaveFirstsBut job span rows firsts followed from (p + 1) hits
-  found_more = rows_followed.found_more class_of place_of Came job span row p was followed old hits
-      step rows firsts from is low
+  pub taken_more : (before : List K) → slice_get old p ≡ slice_get before p
+      → HaveTakenBut is_open means job span rows was from p before old
+      → HaveTakenBut is_open means job span rows followed from (p + 1) before now
+  taken_more before = rows_followed.taken_more is_open means class_of place_of Came job span row p
+      was followed old now step rows before from is
 
   pub at_more : AreFollowedAt rows from p was → AreFollowedAt rows from (p + 1) followed
   at_more before =
-      rows_followed.each_more class_of place_of Came job span row p was followed old hits step
+      rows_followed.each_more is_open means class_of place_of Came job span row p was followed old
+      now step
       (λ (one : Followed). (from ≤ one.place) × (one.place < p + 1)
       × (r : ListedClass) × (slice_get rows one.place ≡ Some r) × (r.class ≡ one.class))
       (λ one class place came. (
@@ -108,28 +62,35 @@ module _ (job : Parts) (span : BlockSpan) (rows : List ListedClass) (firsts : Li
       (λ one there. let b = before one there in let lt = b.1 in
       (b.0, omega (arith, lt), b.2, b.3, b.4))
 
-  pub others_more : (first : List (Option ℕ))
+  pub order_more : AreFollowedAt rows from p was → AreInOrder was → AreInOrder followed
+  order_more at = rows_followed.order_more is_open means class_of place_of Came job span row p was
+      followed old now step (λ one there. (at one there).1)
+
+  pub still_more : (before : List K) → slice_get old p ≡ slice_get before p
+      → AreFollowedAt rows from p was → AreStill was before old → AreStill followed before now
+  still_more before agree at = rows_followed.still_more is_open means class_of place_of Came job
+      span row p was followed old now step before agree (λ one there. (at one there).1)
+
+  pub others_more : (first : List K)
       → ((place : ℕ) → (place < from) ⊎ (p ≤ place) → slice_get old place ≡ slice_get first place)
       → (place : ℕ) → (place < from) ⊎ (p + 1 ≤ place)
-      → slice_get hits place ≡ slice_get first place
-  others_more first = rows_followed.others_more class_of place_of Came job span row p was followed
-      old hits step from first after
+      → slice_get now place ≡ slice_get first place
+  others_more first = rows_followed.others_more is_open means class_of place_of Came job span row p
+      was followed old now step from first after
 
-  -- what was found of a class whose first test is known is still, and none that is followed is one
-  module _ (idle : slice_get firsts p ≡ Some None) where
-    pub known_more : (first : List (Option ℕ))
-        → ((place test : ℕ) → slice_get firsts place ≡ Some (Some test)
-        → slice_get old place ≡ slice_get first place)
-        → (place test : ℕ) → slice_get firsts place ≡ Some (Some test)
-        → slice_get hits place ≡ slice_get first place
-    known_more first = rows_followed.known_more class_of place_of Came job span row p was followed
-        old hits step firsts first idle
+  -- what is no longer open stays, and of each that is followed something is open
+  module _ (first : List K) (own : K) (own_is : slice_get first p ≡ Some own)
+      (wanted : is_open own ≡ true) where
+    pub closed_more : KeepsClosed is_open first old → KeepsClosed is_open first now
+    closed_more = rows_followed.closed_more is_open means class_of place_of Came job span row p was
+        followed old now step first own own_is wanted
 
-    pub open_more : AreOpen firsts was → AreOpen firsts followed
+    pub open_more : AreOpen is_open first was → AreOpen is_open first followed
     open_more =
-        rows_followed.each_more class_of place_of Came job span row p was followed old hits step
-        (λ (one : Followed). slice_get firsts one.place ≡ Some None)
-        (λ one class place came. ap (slice_get firsts) place ∙ idle)
+        rows_followed.each_more is_open means class_of place_of Came job span row p was followed
+        old now step
+        (λ (one : Followed). (x : K) × (slice_get first one.place ≡ Some x) × (is_open x ≡ true))
+        (λ one class place came. (own, ap (slice_get first) place ∙ own_is, wanted))
 
 -- ---- what those that were followed are told
 -- the list has what stands at a place
@@ -142,55 +103,53 @@ pub place_of_member : {X : Type 0} (xs : List X) (x : X) → Contains xs x
 place_of_member xs x there =
     (there.0, slice_get-get_or xs there.0 x there.1 ∙ ap Some there.2)
 
--- the first so many of those that are followed have been told
-pub record AreToldBelow (span : BlockSpan) (seen : ℕ) (followed : List Followed) (n : ℕ)
-    (first hits : List (Option ℕ)) : Type 0 where
-  pub count : length hits ≡ length first
-  pub kept : (place : ℕ) → ((i : ℕ) (one : Followed) → i < n → slice_get followed i ≡ Some one
-      → one.place ≡ place → ⊥) → slice_get hits place ≡ slice_get first place
-  pub detection : (i : ℕ) (one : Followed) → i < n → slice_get followed i ≡ Some one
-      → (other : Followed) × Contains followed other × (other.place ≡ one.place)
-      × (hit : Option ℕ) × (slice_get hits one.place ≡ Some hit)
-      × IsTestOf span (bit_and other.lanes seen) hit
+-- the tests of the first so many of those that are followed were taken
+pub record AreTakenBelow {K : Type 0} (all : Bool) (means : (ℕ → Bool) → ℕ → ℕ → K → Type 0)
+    (span : BlockSpan) (seen : ℕ) (followed : List Followed) (n : ℕ) (first now : List K) :
+    Type 0 where
+  pub count : length now ≡ length first
+  pub others : (place : ℕ) → ((i : ℕ) (one : Followed) → i < n → slice_get followed i ≡ Some one
+      → one.place ≡ place → ⊥) → slice_get now place ≡ slice_get first place
+  pub taken : (i : ℕ) (one : Followed) → i < n → slice_get followed i ≡ Some one
+      → HasTakenWord all means (group_of span) (bit_and one.lanes seen) first now one.place
 
-pub told_more : (span : BlockSpan) (seen : ℕ) (followed : List Followed) (n : ℕ)
-    (first hits : List (Option ℕ)) (now : Followed) (hit : Option ℕ)
-    → slice_get followed n ≡ Some now → now.place < length hits
-    → IsTestOf span (bit_and now.lanes seen) hit
-    → AreToldBelow span seen followed n first hits
-    → AreToldBelow span seen followed (n + 1) first (set hits now.place hit)
-told_more span seen followed n first hits now hit at low test before = record {
-  count = length-set hits now.place hit ∙ before.count;
-  kept = λ place none.
-      set_there hits now.place place hit (λ e. none n now (omega arith) at (sym e))
-      ∙ before.kept place (λ i one lt is e. none i one (omega (arith, lt)) is e);
-  detection = λ i one lt is. go i one lt is (cases_eq one.place now.place);
-}
+pub taken_below : {K : Type 0} (all : Bool) (means : (ℕ → Bool) → ℕ → ℕ → K → Type 0)
+    (span : BlockSpan) (seen : ℕ) (followed : List Followed) (n : ℕ) (first before now : List K)
+    (one : Followed) → AreInOrder followed → slice_get followed n ≡ Some one
+    → length now ≡ length before
+    → ((other : ℕ) → other ≢ one.place → slice_get now other ≡ slice_get before other)
+    → HasTakenWord all means (group_of span) (bit_and one.lanes seen) before now one.place
+    → AreTakenBelow all means span seen followed n first before
+    → AreTakenBelow all means span seen followed (n + 1) first now
+taken_below all means span seen followed n first before now one ordered at count others took was =
+    record {
+      count = count ∙ was.count;
+      others = λ place none.
+          others place (λ e. none n one (omega arith) at (sym e))
+          ∙ was.others place (λ i x lt is e. none i x (omega (arith, lt)) is e);
+      taken = λ i x lt is. go i x lt is (cases_eq i n);
+    }
   where
-    go : (i : ℕ) (one : Followed) → i < n + 1 → slice_get followed i ≡ Some one
-        → (one.place ≡ now.place) ⊎ (one.place ≢ now.place)
-        → (other : Followed) × Contains followed other × (other.place ≡ one.place)
-        × (h : Option ℕ) × (slice_get (set hits now.place hit) one.place ≡ Some h)
-        × IsTestOf span (bit_and other.lanes seen) h
-    go i one lt is (inl same) = (
-      now,
-      member_at followed n now at,
-      sym same,
-      hit,
-      ap (slice_get (set hits now.place hit)) same ∙ set_here hits now.place hit low,
-      test,
-    )
-    go i one lt is (inr ne) =
-        let other : i ≢ n = λ e. ne (let both : Some one ≡ Some now = sym is
-        ∙ (ap (slice_get followed) e ∙ at) in let same : one ≡ now = cc in
-        ap (λ (x : Followed). x.place) same) in
-        let b = before.detection i one (omega (arith, lt, other)) is in (
-          b.0,
-          b.1,
-          b.2,
-          b.3,
-          set_there hits now.place one.place hit ne ∙ b.4,
-          b.5,
+    go : (i : ℕ) (x : Followed) → i < n + 1 → slice_get followed i ≡ Some x
+        → (i ≡ n) ⊎ (i ≢ n)
+        → HasTakenWord all means (group_of span) (bit_and x.lanes seen) first now x.place
+    go i x lt is (inl same) =
+        let both : Some x ≡ Some one = sym is ∙ (ap (slice_get followed) same ∙ at) in
+        let one_is : one ≡ x = ap (λ o. unwrap_or o one) (sym both) in
+        let before_is = was.others one.place (λ j y low there e.
+        let behind = ordered j n y one low there at in omega (arith, behind, e)) in
+        subst (λ (y : Followed).
+        HasTakenWord all means (group_of span) (bit_and y.lanes seen) first now y.place)
+        one_is (took.0, took.1, sym before_is ∙ took.2, took.3, took.4)
+    go i x lt is (inr ne) =
+        let low : i < n = omega (arith, lt, ne) in
+        let t = was.taken i x low is in
+        let behind = ordered i n x one low is at in (
+          t.0,
+          t.1,
+          t.2,
+          others x.place (λ e. omega (arith, behind, e)) ∙ t.3,
+          t.4,
         )
 
 pub some_at : {X : Type 0} (xs : List X) (i : ℕ) → i < length xs
@@ -221,46 +180,6 @@ followed_or_not (one ∷ followed) place = go (cases_eq one.place place)
         out x at (inl same) = ne (ap (λ (y : Followed). y.place) same ∙ at)
         out x at (inr there) = none (x, contained followed x there, at)
 
--- all of them are concluded
-pub concluded : (job : Parts) (span : BlockSpan) (stem : ℕ) (rows : List ListedClass)
-    (firsts : List (Option ℕ)) (followed : List Followed) (from to seen : ℕ)
-    (old hits : List (Option ℕ)) → IsSpan (length job.tests.tests) span
-    → HaveFirstsBut job span rows firsts followed from to old → AreFollowedAt rows from to followed
-    → AreFollowed job span stem followed
-    → ((one : Followed) → Contains followed one
-    → TellsFirstFlips job.circuit job.tests.tests (group_of span) one.lanes stem seen)
-    → ((place : ℕ) → (IsFollowedAt followed place → ⊥) → slice_get hits place ≡ slice_get old place)
-    → AreConcluded span seen followed hits
-    → HaveFirsts job span rows firsts from to hits
-concluded job span stem rows firsts followed from to seen old hits is before at came detection kept
-    are
-    place row le lt idle = go (followed_or_not followed place)
-  where
-    kept_first : (IsFollowedAt followed place → ⊥)
-        → HasFirst job span row old place ⊎ IsFollowedAt followed place
-        → HasFirst job span row hits place
-    kept_first none (inl h) = (h.0, kept place none ∙ h.1, h.2)
-    kept_first none (inr h) = absurd (none h)
-
-    go : IsFollowedAt followed place ⊎ (IsFollowedAt followed place → ⊥)
-        → HasFirst job span row hits place
-    go (inr none) = kept_first none (before place row le lt idle)
-    go (inl there) =
-        let t = are place there in
-        let one = t.0 in
-        let own = at one t.1 in
-        let both : Some own.2 ≡ Some row = sym own.3 ∙ (ap (slice_get rows) t.2 ∙ idle.row_is) in
-        let same : own.2 ≡ row = cc in
-        let class : one.class ≡ row.class = sym own.4 ∙ ap (λ (r : ListedClass). r.class) same in (
-          t.3,
-          t.4,
-          subst (λ n. IsFirstOn job span n t.3) class
-              (first_of_word job span one.class (bit_and one.lanes seen) t.3 is
-              (arrived_first job span stem one.class one.lanes seen (came one t.1).1
-              (detection one t.1))
-              t.5),
-        )
-
 -- each row stands for its class
 pub listed_at : (job : Parts) (rows : List ListedClass) (i : ℕ) (row : ListedClass)
     → All (IsListed job) rows
@@ -270,44 +189,75 @@ listed_at job rows i row all e =
     (all i row (slice_get_within rows i row e))
 
 -- ---- over places whose classes are settled
-pub settled_from : (firsts : List (Option ℕ)) (p q test : ℕ) → slice_get firsts p ≡ Some (Some test)
-    → AreSettled firsts (p + 1) q → AreSettled firsts p q
-settled_from firsts p q test here after k le lt = go (cases_eq k p)
+pub settled_from : {K : Type 0} (is_open : K → Bool) (kept : List K) (p q : ℕ) (one : K)
+    → slice_get kept p ≡ Some one → is_open one ≡ false → AreSettled is_open kept (p + 1) q
+    → AreSettled is_open kept p q
+settled_from {K} is_open kept p q one here closed after k le lt = go (cases_eq k p)
   where
-    go : (k ≡ p) ⊎ (k ≢ p) → (t : ℕ) × (slice_get firsts k ≡ Some (Some t))
-    go (inl same) = (test, ap (slice_get firsts) same ∙ here)
+    go : (k ≡ p) ⊎ (k ≢ p) → (x : K) × (slice_get kept k ≡ Some x) × (is_open x ≡ false)
+    go (inl same) = (one, ap (slice_get kept) same ∙ here, closed)
     go (inr ne) = after k (omega (arith, le, ne)) lt
 
-module _ (rows : List ListedClass) (firsts : List (Option ℕ)) (from p q : ℕ) (up : p ≤ q)
-    (settled : AreSettled firsts p q) where
-  pub stems_over : (stem : ℕ) → HaveStem rows firsts from p stem → HaveStem rows firsts from q stem
-  stems_over stem = rows_followed.each_over rows firsts from p q (λ k row. row.stem ≡ stem) settled
+-- in a list that has the same from there on
+pub settled_there : {K : Type 0} (is_open : K → Bool) (from p q : ℕ) (before now : List K)
+    → from ≤ p → AgreeFrom from before now → AreSettled is_open now p q
+    → AreSettled is_open before p q
+settled_there is_open from p q before now up agree settled k le lt =
+    let s = settled k le lt in (s.0, sym (agree k (omega (arith, up, le))) ∙ s.1, s.2)
 
-  pub found_over : (job : Parts) (span : BlockSpan) (followed : List Followed)
-      (hits : List (Option ℕ))
-      → HaveFirstsBut job span rows firsts followed from p hits
-      → HaveFirstsBut job span rows firsts followed from q hits
-  found_over job span followed hits = rows_followed.each_over rows firsts from p q
-      (λ k row. HasFirst job span row hits k ⊎ IsFollowedAt followed k) settled
+-- places that lead on still do, if what is no longer open has stayed
+pub next_still : {K : Type 0} (is_open : K → Bool) (before now : List K) (next : List ℕ)
+    → length now ≡ length before → KeepsClosed is_open before now
+    → AreNextOpen is_open before next → AreNextOpen is_open now next
+next_still is_open before now next count keeps h = record {
+  count = h.count ∙ sym count;
+  following = h.following;
+  within = λ p q e. (let le = h.within p q e in omega (arith, le, count));
+  between = λ p q e k le lt.
+      let s = h.between p q e k le lt in
+      (s.0, keeps k s.0 s.1 s.2 ∙ s.1, s.2);
+}
 
-  pub at_over : (followed : List Followed) → AreFollowedAt rows from p followed
-      → AreFollowedAt rows from q followed
-  at_over followed before one there = let b = before one there in let low = b.1 in
-      (b.0, omega (arith, low, up), b.2, b.3, b.4)
+-- what stays as it was over two steps
+pub closed_on : {K : Type 0} (is_open : K → Bool) (first before now : List K)
+    → KeepsClosed is_open first before → KeepsClosed is_open before now
+    → KeepsClosed is_open first now
+closed_on is_open first before now a b place one is closed =
+    let same = a place one is closed in b place one (same ∙ is) closed ∙ same
 
-  pub others_over : (hits first : List (Option ℕ))
-      → ((place : ℕ) → (place < from) ⊎ (p ≤ place) → slice_get hits place ≡ slice_get first place)
-      → (place : ℕ) → (place < from) ⊎ (q ≤ place)
-      → slice_get hits place ≡ slice_get first place
-  others_over hits first before place (inl lt) = before place (inl lt)
-  others_over hits first before place (inr le) = before place (inr (omega (arith, le, up)))
+module _ {K : Type 0} (is_open : K → Bool) (rows : List ListedClass) (before : List K)
+    (from p q : ℕ) (up : p ≤ q) (settled : AreSettled is_open before p q) where
+  pub stems_over : (stem : ℕ) → HaveStem is_open rows before from p stem
+      → HaveStem is_open rows before from q stem
+  stems_over stem =
+      rows_followed.each_over is_open rows before from p q (λ k row. row.stem ≡ stem) settled
+
+  pub taken_over : (means : (ℕ → Bool) → ℕ → ℕ → K → Type 0) (job : Parts) (span : BlockSpan)
+      (followed : List Followed) (now : List K)
+      → HaveTakenBut is_open means job span rows followed from p before now
+      → HaveTakenBut is_open means job span rows followed from q before now
+  taken_over means job span followed now = rows_followed.each_over is_open rows before from p q
+      (λ k row. HasTakenAt means job span row before now k
+      ⊎ (IsFollowedAt followed k × (slice_get now k ≡ slice_get before k))) settled
+
+pub at_over : (rows : List ListedClass) (from p q : ℕ) → p ≤ q → (followed : List Followed)
+    → AreFollowedAt rows from p followed → AreFollowedAt rows from q followed
+at_over rows from p q up followed before one there = let b = before one there in let low = b.1 in
+    (b.0, omega (arith, low, up), b.2, b.3, b.4)
+
+pub others_over : {K : Type 0} (from p q : ℕ) → p ≤ q → (now first : List K)
+    → ((place : ℕ) → (place < from) ⊎ (p ≤ place) → slice_get now place ≡ slice_get first place)
+    → (place : ℕ) → (place < from) ⊎ (q ≤ place) → slice_get now place ≡ slice_get first place
+others_over from p q up now first before place (inl lt) = before place (inl lt)
+others_over from p q up now first before place (inr le) =
+    before place (inr (omega (arith, le, up)))
 
 -- one row more of the stem
-pub stems_more : (rows : List ListedClass) (firsts : List (Option ℕ)) (from p stem : ℕ)
-    (row : ListedClass)
-    → slice_get rows p ≡ Some row → row.stem ≡ stem → HaveStem rows firsts from p stem
-    → HaveStem rows firsts from (p + 1) stem
-stems_more rows firsts from p stem row is of before k other le lt idle = go (cases_eq k p)
+pub stems_more : {K : Type 0} (is_open : K → Bool) (rows : List ListedClass) (kept : List K)
+    (from p stem : ℕ) (row : ListedClass)
+    → slice_get rows p ≡ Some row → row.stem ≡ stem → HaveStem is_open rows kept from p stem
+    → HaveStem is_open rows kept from (p + 1) stem
+stems_more is_open rows kept from p stem row is of before k other le lt idle = go (cases_eq k p)
   where
     go : (k ≡ p) ⊎ (k ≢ p) → other.stem ≡ stem
     go (inl same) =
@@ -315,3 +265,63 @@ stems_more rows firsts from p stem row is of before k other le lt idle = go (cas
         let one : other ≡ row = cc in
         ap (λ (r : ListedClass). r.stem) one ∙ of
     go (inr ne) = before k other le (omega (arith, lt, ne)) idle
+
+-- the tests of a span were taken of all classes: of those of which nothing is open nothing changed
+pub all_taken : {K : Type 0} (is_open : K → Bool) (means : (ℕ → Bool) → ℕ → ℕ → K → Type 0)
+    (job : Parts) (span : BlockSpan) (rows : List ListedClass) (from to : ℕ) (before now : List K)
+    → span.first ≤ span.last
+    → ((one : K) → is_open one ≡ false → (hits : ℕ → Bool) (low high more : ℕ) → high ≤ more
+    → means hits low high one → means hits low more one)
+    → length before ≡ length rows → KeepsClosed is_open before now
+    → HaveTakenOpen is_open means job span rows from to before now
+    → HaveTaken means job span rows from to before now
+all_taken {K} is_open means job span rows from to before now up law count keeps so place row le lt
+    at =
+    go (bit_cases (is_open one.0))
+  where
+    one : (x : K) × (slice_get before place ≡ Some x)
+    one = some_at before place (let low = slice_get_within rows place row at in
+        omega (arith, low, count))
+
+    go : (is_open one.0 ≡ true) ⊎ (is_open one.0 ≡ false)
+        → HasTakenAt means job span row before now place
+    go (inl wanted) = so place row le lt
+        (record { row_is = at; one = one.0; kept_is = one.1; wanted = wanted })
+    go (inr closed) = (
+      one.0,
+      one.0,
+      one.1,
+      keeps place one.0 one.1 closed ∙ one.1,
+      λ hits low h le was. law one.0 closed hits low (64 * span.first) (64 * span.last + 64)
+          (omega (arith, up)) was,
+    )
+
+-- the tests were taken up to a place, and then from there to another one
+pub taken_on : {K : Type 0} (means : (ℕ → Bool) → ℕ → ℕ → K → Type 0) (job : Parts)
+    (span : BlockSpan) (rows : List ListedClass) (from to : ℕ) (first before now : List K)
+    → HaveTaken means job span rows 0 from first before
+    → ((place : ℕ) → from ≤ place → slice_get before place ≡ slice_get first place)
+    → HaveTaken means job span rows from to before now
+    → ((place : ℕ) → (place < from) ⊎ (to ≤ place) → slice_get now place ≡ slice_get before place)
+    → HaveTaken means job span rows 0 to first now
+taken_on means job span rows from to first before now was later more others place row le lt at =
+    go (cases_lt place from)
+  where
+    go : (place < from) ⊎ (from ≤ place) → HasTakenAt means job span row first now place
+    go (inl low) =
+        let t = was place row le low at in
+        (t.0, t.1, t.2, others place (inl low) ∙ t.3, t.4)
+    go (inr up) =
+        let t = more place row up lt at in
+        (t.0, t.1, sym (later place up) ∙ t.2, t.3, t.4)
+
+-- no place has an open one between it and the one after it
+pub successors_open : {K : Type 0} (is_open : K → Bool) (kept : List K) (next : List ℕ)
+    → length next ≡ length kept → AreSuccessors next → AreNextOpen is_open kept next
+successors_open is_open kept next count are = record {
+  count = count;
+  following = λ p q e. (let is = are p q e in omega (arith, is));
+  within = λ p q e. (let is = are p q e in let lt = slice_get_within next p q e in
+      omega (arith, is, lt, count));
+  between = λ p q e k le lt. (let is = are p q e in absurd (omega (arith, is, le, lt)));
+}

@@ -1,66 +1,26 @@
 -- What is found of the classes of one slot after the other.
-use Rattle.std.proofs.Common.{◌≡◌, ◌+◌, ◌-◌, ◌<◌, ◌≤◌, ◌⊎◌, inl, inr, ℕ, zero, suc}
-use Rattle.std.proofs.Common.{refl, sym, ◌∙◌, ap, List, [], ◌∷◌, ◌++◌, length, arith}
-use Rattle.std.proofs.Common.{take, drop, Option, Some, None}
-use Rattle.std.specs.Prelude.{slice_get, slice_range}
+use Rattle.std.proofs.Common.{◌≡◌, ◌+◌, ◌*◌, ◌-◌, ◌<◌, ◌≤◌, ◌⊎◌, inl, inr, ℕ, Bool, refl, sym, ◌∙◌}
+use Rattle.std.proofs.Common.{ap, subst, List, length, arith, Some}
+use Rattle.std.specs.Prelude.{bit_and, slice_get, slice_range}
 use Rattle.std.proofs.lemmas.Bool.{cases_lt}
 use Rattle.wide_words.specs.Lanes.{Layout}
 use Rattle.flat_circuit.specs.declared.block_span.BlockSpan.{BlockSpan}
+use Rattle.flat_circuit.specs.BlockSpans.{group_of}
 use Rattle.region_sim.specs.declared.pack.Slot.{Slot}
 use Rattle.block_sim.specs.declared.propagation.Followed.{Followed}
-use Rattle.region_sim.specs.RegionHits.{AreConcluded, AreSlotsConcluded, IsFollowedAt, IsInSlot}
-use Rattle.region_sim.specs.RegionHits.{IsPart, IsSlotConcluded}
+use Rattle.region_sim.specs.RegionHits.{AreApart, AreConcluded, AreInOrder, AreSlotsConcluded}
+use Rattle.region_sim.specs.RegionHits.{HasTakenWord, IsFollowedAt, IsInSlot, IsPart}
+use Rattle.region_sim.specs.RegionHits.{IsSlotConcluded}
+use Rattle.region_sim.proofs.ListParts.{into_range, out_of_range}
 use Rattle.region_sim.proofs.RegionHits.{followed_or_not, member_at, place_of_member}
 
--- ---- places in parts of a list
-pub get_left : {X : Type 0} (xs ys : List X) (i : ℕ) → i < length xs
-    → slice_get (xs ++ ys) i ≡ slice_get xs i
-get_left [] ys i lt = absurd (omega (arith, lt))
-get_left (x ∷ xs) ys zero lt = refl
-get_left (x ∷ xs) ys (suc i) lt = get_left xs ys i (omega (arith, lt))
-
-pub get_right : {X : Type 0} (xs ys : List X) (i : ℕ)
-    → slice_get (xs ++ ys) (length xs + i) ≡ slice_get ys i
-get_right [] ys i = let e : 0 + i ≡ i = omega arith in ap (slice_get ys) e
-get_right (x ∷ xs) ys i =
-    let e : length (x ∷ xs) + i ≡ suc (length xs + i) = omega arith in
-    ap (slice_get (x ∷ xs ++ ys)) e ∙ get_right xs ys i
-
-get_dropped : {X : Type 0} (xs : List X) (a i : ℕ) → slice_get (drop a xs) i ≡ slice_get xs (a + i)
-get_dropped xs zero i = let e : i ≡ 0 + i = omega arith in ap (slice_get xs) e
-get_dropped [] (suc a) i = let e : suc a + i ≡ suc (a + i) =
-    omega arith in sym (ap (slice_get []) e)
-get_dropped (x ∷ xs) (suc a) i =
-    let e : suc a + i ≡ suc (a + i) = omega arith in
-    get_dropped xs a i ∙ sym (ap (slice_get (x ∷ xs)) e)
-
-get_taken : {X : Type 0} (xs : List X) (n i : ℕ) → i < n → slice_get (take n xs) i ≡ slice_get xs i
-get_taken xs zero i lt = absurd (omega (arith, lt))
-get_taken [] (suc n) i lt = refl
-get_taken (x ∷ xs) (suc n) zero lt = refl
-get_taken (x ∷ xs) (suc n) (suc i) lt = get_taken xs n i (omega (arith, lt))
-
-taken_few : {X : Type 0} (xs : List X) (n i : ℕ) (x : X) → slice_get (take n xs) i ≡ Some x → i < n
-taken_few xs zero i x e = let bad : None ≡ Some x = e in cc
-taken_few [] (suc n) i x e = let bad : None ≡ Some x = e in cc
-taken_few (y ∷ xs) (suc n) zero x e = omega arith
-taken_few (y ∷ xs) (suc n) (suc i) x e = let lt = taken_few xs n i x e in omega (arith, lt)
-
-pub out_of_range : {X : Type 0} (xs : List X) (a b i : ℕ) (x : X)
-    → slice_get (slice_range xs a b) i ≡ Some x
-    → (i < b - a) × (slice_get xs (a + i) ≡ Some x)
-out_of_range xs a b i x e =
-    let lt : i < b - a = taken_few (drop a xs) (b - a) i x e in (
-      lt,
-      sym (get_dropped xs a i) ∙ (sym (get_taken (drop a xs) (b - a) i lt) ∙ e),
-    )
-
-pub into_range : {X : Type 0} (xs : List X) (a b i : ℕ) (x : X) → a ≤ i → i < b
-    → slice_get xs i ≡ Some x → slice_get (slice_range xs a b) (i - a) ≡ Some x
-into_range xs a b i x low high e =
-    let at : a + (i - a) ≡ i = omega (arith, low) in
-    get_taken (drop a xs) (b - a) (i - a) (omega (arith, low, high))
-    ∙ (get_dropped xs a (i - a) ∙ (ap (slice_get xs) at ∙ e))
+-- a part of those that stand in order is in order
+pub order_within : (followed : List Followed) (a b : ℕ) → AreInOrder followed
+    → AreInOrder (slice_range followed a b)
+order_within followed a b ordered i k one other lt is there =
+    let first = out_of_range followed a b i one is in
+    let second = out_of_range followed a b k other there in
+    ordered (a + i) (a + k) one other (omega (arith, lt)) first.1 second.1
 
 -- ---- one slot more
 module _ (layout : Layout) (span : BlockSpan) (seen : ℕ) (followed : List Followed)
@@ -137,13 +97,31 @@ module _ (layout : Layout) (span : BlockSpan) (seen : ℕ) (followed : List Foll
             h.there,
           ))
 
-  module _ (word : ℕ) (before mid after : List (Option ℕ)) (part : IsPart layout seen n word)
-      (first : AreSlotsConcluded layout span seen followed stems n before mid)
+  -- no class of this slot is one of those before it
+  module _ (ordered : AreInOrder followed) (apart : AreApart stems) where
+    pub not_before : (place : ℕ) → IsFollowedAt own place → IsInSlot followed stems n place → ⊥
+    unfolding in_own
+    not_before place h before =
+        let here = in_own place h in
+        let low = before.below in
+        let gap = apart before.number n before.slot slot low before.stands stands in
+        let above = here.low in
+        let below = before.high in
+        let up = ordered before.at here.at before.one here.one (omega (arith, below, gap, above))
+        before.listed here.listed in
+        let same = before.there in
+        let at = here.there in
+        omega (arith, up, same, at)
+
+  module _ {K : Type 0} (all : Bool) (means : (ℕ → Bool) → ℕ → ℕ → K → Type 0) (word : ℕ)
+      (before mid after : List K) (part : IsPart layout seen n word) (ordered : AreInOrder followed)
+      (apart : AreApart stems)
+      (first : AreSlotsConcluded all means layout span seen followed stems n before mid)
       (many : length after ≡ length mid)
       (kept : (place : ℕ) → (IsFollowedAt own place → ⊥)
       → slice_get after place ≡ slice_get mid place)
-      (told : AreConcluded span word own after) where
-    pub slot_more : AreSlotsConcluded layout span seen followed stems (n + 1) before after
+      (took : AreConcluded all means span word own mid after) where
+    pub slot_more : AreSlotsConcluded all means layout span seen followed stems (n + 1) before after
     unfolding higher in_own
     slot_more = record {
       many = many ∙ first.many;
@@ -153,36 +131,35 @@ module _ (layout : Layout) (span : BlockSpan) (seen : ℕ) (followed : List Foll
     }
       where
         still : (place : ℕ) → (IsFollowedAt own place → ⊥)
-            → IsSlotConcluded layout span seen followed stems n mid place
-            → IsSlotConcluded layout span seen followed stems (n + 1) after place
+            → IsSlotConcluded all means layout span seen followed stems n before mid place
+            → IsSlotConcluded all means layout span seen followed stems (n + 1) before after place
         still place none c = record {
           class = higher place c.class;
           word = c.word;
           part = c.part;
-          hit = c.hit;
-          kept = kept place none ∙ c.kept;
-          test = c.test;
+          taken = (let t = c.taken in (t.0, t.1, t.2, kept place none ∙ t.3, t.4));
         }
 
         go : (place : ℕ) → IsInSlot followed stems (n + 1) place
             → IsFollowedAt own place ⊎ (IsFollowedAt own place → ⊥)
-            → IsSlotConcluded layout span seen followed stems (n + 1) after place
+            → IsSlotConcluded all means layout span seen followed stems (n + 1) before after place
         go place h (inr none) = still place none (first.each place (lower place h none))
         go place h (inl there) =
-            let t = told place there in
+            let t = subst (HasTakenWord all means (group_of span)
+            (bit_and (there.0).lanes word) mid after) there.2 (took there.0 there.1) in
+            let was = first.others place (not_before ordered apart place there) in
             record {
-              class = in_own place (t.0, t.1, t.2);
+              class = in_own place there;
               word = word;
               part = part;
-              hit = t.3;
-              kept = t.4;
-              test = t.5;
+              taken = (t.0, t.1, sym was ∙ t.2, t.3, t.4);
             }
 
-pub no_slots : (layout : Layout) (span : BlockSpan) (seen : ℕ) (followed : List Followed)
-    (stems : List Slot) (before : List (Option ℕ))
-    → AreSlotsConcluded layout span seen followed stems 0 before before
-no_slots layout span seen followed stems before = record {
+pub no_slots : {K : Type 0} (all : Bool) (means : (ℕ → Bool) → ℕ → ℕ → K → Type 0)
+    (layout : Layout) (span : BlockSpan) (seen : ℕ) (followed : List Followed)
+    (stems : List Slot) (before : List K)
+    → AreSlotsConcluded all means layout span seen followed stems 0 before before
+no_slots all means layout span seen followed stems before = record {
   many = refl;
   others = λ place none. refl;
   each = λ place h. (let bad = h.below in absurd (omega (arith, bad)));

@@ -1,15 +1,14 @@
 -- The lanes of a unit, and what the simulation's circuit tells of the job's.
 use Rattle.std.proofs.Common.{◌≡◌, ◌<◌, ◌≤◌, ◌+◌, ◌*◌, ◌/◌, ◌%◌, ℕ, refl, sym, ◌∙◌, ap}
 use Rattle.std.proofs.Common.{subst}
-use Rattle.std.proofs.Common.{Bool, true, false, List, [], length, arith, ◌-◌}
-use Rattle.std.specs.Prelude.{◌↔◌, Option, Some, None, bit_and, slice_get, slice_index_or}
+use Rattle.std.proofs.Common.{Bool, true, false, List, [], length, arith, inl, inr}
+use Rattle.std.specs.Prelude.{◌↔◌, ◌⊎◌, Option, None, bit_and, slice_index_or}
 use Rattle.std.specs.Prelude.{unwrap_or}
 use Rattle.std.specs.Bool.{Decides}
 use Rattle.std.proofs.lemmas.Bool.{false≢true}
 use Rattle.std.proofs.lemmas.Option.{slice_get-get_or}
 use Rattle.bench_net.specs.Statement.{Statement}
 use Rattle.bench_net.specs.Circuit.{IsWellFormed}
-use Rattle.fault_model.specs.Collapse.{representatives}
 use Rattle.fault_model.specs.Detection.{DetectsAt, LooksBack}
 use Rattle.fault_model.specs.Fault.{Fault}
 use Rattle.fault_model.specs.Reordered.{moved_fault, place}
@@ -23,21 +22,14 @@ use Rattle.flat_circuit.specs.Arranged.{IsArranged}
 use Rattle.block_sim.specs.Flips.{DetectsFlip}
 use Rattle.block_sim.specs.Parts.{Parts}
 use Rattle.block_sim.specs.First.{IsFirstOn}
-use Rattle.region_sim.specs.Units.{ArrivesInUnit, HaveCome, IsTestInUnit, IsWideReached}
+use Rattle.region_sim.specs.Goals.{AreHits, HasTakenSpan}
+use Rattle.region_sim.specs.UnitHits.{HasTakenUnit, TellUnitHits}
+use Rattle.region_sim.specs.Units.{ArrivesInUnit, HaveCome, IsWideReached}
 use Rattle.region_sim.specs.Units.{TellsUnit, group_in, lane_test, unit_span}
 use Rattle.flat_circuit.specs.Words.{lane, test_of}
-use Rattle.flat_circuit.proofs.Public.{reordered}
+use Rattle.flat_circuit.proofs.Public.{lane_zero, reordered}
+use Rattle.region_sim.proofs.OneLane.{bit_cases}
 use Rattle.block_sim.proofs.Public.{lanes_both, lanes_first, lanes_second, same_flips}
-
--- The least lane of a word that is 1 has the first test of the unit that detects the class: each
--- lane that is 1 has such a test, and no test of the unit that comes before all of them detects it.
-pub record TellsFirstInUnit (job : Parts) (group class word : ℕ) : Type 0 where
-  pub fault : Fault
-  pub stands : slice_get (representatives job.list.model job.circuit) class ≡ Some fault
-  pub found : (k : ℕ) → k < 512 → lane word k ≡ true
-      → DetectsAt job.circuit job.tests.tests fault (128 * group + k)
-  pub clear : (k : ℕ) → k < 512 → ((j : ℕ) → j ≤ k → lane word j ≡ false)
-      → ¬ DetectsAt job.circuit job.tests.tests fault (128 * group + k)
 
 -- the test of a lane, by its number
 pub lane_number : (tests : List Test) (group k : ℕ)
@@ -108,80 +100,97 @@ module _ (c d : List Statement) (well : IsWellFormed c) (arranged : IsArranged c
       flips : (t : Test) → DetectsFlip c t s ↔ DetectsFlip d t (place c d s)
       flips t = (same_flips c d well (reordered c d well arranged)).detected t s
 
--- ---- the first test of a class on a unit
-pub first_in_unit : (job : Parts) (group class word : ℕ) (hit : Option ℕ)
-    → 128 * group + 512 ≤ length job.tests.tests → TellsFirstInUnit job group class word
-    → IsTestInUnit group word hit → IsFirstOn job (unit_span group) class hit
-first_in_unit job group class word (Some t) full told h =
-    let at : t ≡ 128 * group + h.0 = h.2 in
-    let low : h.0 < 512 = h.1 in (
-      told.fault,
-      told.stands,
-      (
-        record {
-          from = omega (arith, at);
-          to = omega (arith, at, low);
-          listed = omega (arith, at, low, full);
-        },
-        subst (DetectsAt job.circuit job.tests.tests told.fault) (sym at) (told.found h.0 low h.3),
-        λ earlier own lt.
-            let from = own.from in
-            let j = earlier - 128 * group in
-            let same : 128 * group + j ≡ earlier = omega (arith, from) in
-            let less : j < h.0 = omega (arith, from, lt, at) in
-            let below : j < 512 = omega (arith, less, low) in
-            subst (λ n. ¬ DetectsAt job.circuit job.tests.tests told.fault n) same
-            (told.clear j below (λ i le. h.4 i (omega (arith, le, less)))),
-      ),
-    )
-first_in_unit job group class word None full told h = (
-  told.fault,
-  told.stands,
-  λ t own.
-      let from = own.from in
-      let to = own.to in
-      let j = t - 128 * group in
-      let same : 128 * group + j ≡ t = omega (arith, from) in
-      let below : j < 512 = omega (arith, from, to) in
-      subst (λ n. ¬ DetectsAt job.circuit job.tests.tests told.fault n) same
-      (told.clear j below (λ i le. h i (omega (arith, le, below)))),
-)
+-- ---- the hits of a class on a unit
+module _ (job : Parts) (group class : ℕ) (all : Bool) (hits : ℕ → Bool)
+    (h : AreHits job class hits) where
+  -- lanes that are known tell them
+  pub unit_known : (word : ℕ) → TellsUnit job group class word
+      → TellUnitHits all hits group word
+  unit_known word told =
+      let same : told.0 ≡ h.0 = ap (λ o. unwrap_or o told.0) (sym told.1 ∙ h.1) in
+      let detects = λ (k : ℕ). DetectsAt job.circuit job.tests.tests told.0 (128 * group + k)
+      in
+      record {
+        right = λ k lt on. (h.2 (128 * group + k)).1
+            (subst (λ f. DetectsAt job.circuit job.tests.tests f (128 * group + k)) same
+            ((told.2 k lt).0 on));
+        whole = λ k lt hit least. (told.2 k lt).1
+            (subst (λ f. DetectsAt job.circuit job.tests.tests f (128 * group + k)) (sym same)
+            ((h.2 (128 * group + k)).0 hit));
+      }
 
--- lanes that are known tell it
-pub known_first : (job : Parts) (group class word : ℕ) → TellsUnit job group class word
-    → TellsFirstInUnit job group class word
-known_first job group class word told = record {
-  fault = told.0;
-  stands = told.1;
-  found = λ k lt e. (told.2 k lt).0 e;
-  clear = λ k lt none d. false≢true (sym (none k (omega arith)) ∙ (told.2 k lt).1 d);
-}
+  -- no lane tells that there is none
+  pub unit_none : (word : ℕ) → word ≡ 0 → IsFirstOn job (unit_span group) class None
+      → 128 * group + 512 ≤ length job.tests.tests → TellUnitHits all hits group word
+  unit_none word zero none full =
+      let same : none.0 ≡ h.0 = ap (λ o. unwrap_or o none.0) (sym none.1 ∙ h.1) in
+      record {
+        right = λ k lt on.
+            absurd (false≢true (sym (ap (λ w. lane w k) zero ∙ lane_zero k) ∙ on));
+        whole = λ k lt hit least. absurd (none.2 (128 * group + k)
+            (record {
+              from = omega arith;
+              to = omega (arith, lt);
+              listed = omega (arith, lt, full);
+            })
+            (subst (λ f. DetectsAt job.circuit job.tests.tests f (128 * group + k)) (sym same)
+            ((h.2 (128 * group + k)).0 hit)));
+      }
 
--- and so do those of a class that came to the stem in which the complemented stem is detected: of
--- the lanes in which the class came to it, all up to the least need be seen
-pub arrived_first : (job : Parts) (group stem class word seen : ℕ)
-    → ArrivesInUnit job group stem class word
-    → ((k : ℕ) → k < 512 → lane word k ≡ true → lane seen k ≡ true
-    → DetectsFlip job.circuit (test_of job.tests.tests group k) stem)
-    → ((k : ℕ) → k < 512 → lane word k ≡ true
-    → ((j : ℕ) → j ≤ k → lane word j ≡ true → lane seen j ≡ false)
-    → ¬ DetectsFlip job.circuit (test_of job.tests.tests group k) stem)
-    → TellsFirstInUnit job group class (bit_and word seen)
-arrived_first job group stem class word seen came right missed = record {
-  fault = came.0;
-  stands = came.1;
-  found = λ k lt e.
-      let on = lanes_first word seen k e in
-      (came.2 k lt).1 (on, right k lt on (lanes_second word seen k e));
-  clear = λ k lt none d.
-      let own = (came.2 k lt).0 d in
-      missed k lt own.0 (λ j le on. unseen j (none j le) on) own.1;
-}
-  where
-    unseen : (j : ℕ) → lane (bit_and word seen) j ≡ false → lane word j ≡ true
-        → lane seen j ≡ false
-    unseen j none on = go (lane seen j) refl
-      where
-        go : (b : Bool) → lane seen j ≡ b → lane seen j ≡ false
-        go true e = absurd (false≢true (sym none ∙ lanes_both word seen j on e))
-        go false e = e
+  -- and so do those in which a class came to the stem and the complemented stem is seen
+  pub unit_arrived : (stem word seen : ℕ) → ArrivesInUnit job group stem class word
+      → ((k : ℕ) → k < 512 → lane word k ≡ true → lane seen k ≡ true
+      → DetectsFlip job.circuit (test_of job.tests.tests group k) stem)
+      → ((k : ℕ) → k < 512 → lane word k ≡ true → lane seen k ≡ false
+      → (all ≡ true) ⊎ ((j : ℕ) → j < k → j / 128 ≡ k / 128 → lane word j ≡ true
+      → lane seen j ≡ false)
+      → ¬ DetectsFlip job.circuit (test_of job.tests.tests group k) stem)
+      → TellUnitHits all hits group (bit_and word seen)
+  unit_arrived stem word seen came right missed =
+      let same : came.0 ≡ h.0 = ap (λ o. unwrap_or o came.0) (sym came.1 ∙ h.1) in
+      record {
+        right = λ k lt e.
+            let on = lanes_first word seen k e in
+            (h.2 (128 * group + k)).1
+            (subst (λ f. DetectsAt job.circuit job.tests.tests f (128 * group + k)) same
+            ((came.2 k lt).1 (on, right k lt on (lanes_second word seen k e))));
+        whole = λ k lt hit least.
+            let own = (came.2 k lt).0
+            (subst (λ f. DetectsAt job.circuit job.tests.tests f (128 * group + k)) (sym same)
+            ((h.2 (128 * group + k)).0 hit)) in
+            lit k lt own.0 own.1 (least_of k least) (bit_cases (lane seen k));
+      }
+    where
+      unseen : (j : ℕ) → lane (bit_and word seen) j ≡ false → lane word j ≡ true
+          → lane seen j ≡ false
+      unseen j none on = go (lane seen j) refl
+        where
+          go : (b : Bool) → lane seen j ≡ b → lane seen j ≡ false
+          go true e = absurd (false≢true (sym none ∙ lanes_both word seen j on e))
+          go false e = e
+
+      least_of : (k : ℕ) → (all ≡ true) ⊎ ((j : ℕ) → j < k → j / 128 ≡ k / 128
+          → lane (bit_and word seen) j ≡ false) → (all ≡ true) ⊎ ((j : ℕ) → j < k
+          → j / 128 ≡ k / 128 → lane word j ≡ true → lane seen j ≡ false)
+      least_of k (inl every) = inl every
+      least_of k (inr none) = inr (λ j lt group_is on. unseen j (none j lt group_is) on)
+
+      lit : (k : ℕ) → k < 512 → lane word k ≡ true
+          → DetectsFlip job.circuit (test_of job.tests.tests group k) stem
+          → (all ≡ true) ⊎ ((j : ℕ) → j < k → j / 128 ≡ k / 128 → lane word j ≡ true
+          → lane seen j ≡ false)
+          → (lane seen k ≡ true) ⊎ (lane seen k ≡ false) → lane (bit_and word seen) k ≡ true
+      lit k lt on flip least (inl shown) = lanes_both word seen k on shown
+      lit k lt on flip least (inr off) = absurd (missed k lt on off least flip)
+
+-- what is taken by them is taken of the span
+pub takes_unit : {K : Type 0} (all : Bool) (means : (ℕ → Bool) → ℕ → ℕ → K → Type 0) (job : Parts)
+    (group class word : ℕ) (old new : K) → HasTakenUnit all means group word old new
+    → ((hits : ℕ → Bool) → AreHits job class hits → TellUnitHits all hits group word)
+    → HasTakenSpan means job (unit_span group) class old new
+takes_unit all means job group class word old new taken tells hits low h le was =
+    let begin : 128 * group ≡ 64 * (2 * group) = omega arith in
+    let end : 128 * group + 512 ≡ 64 * (2 * group + 7) + 64 = omega arith in
+    subst (λ n. means hits low n new) end
+    (taken hits low (omega (arith, le)) (tells hits h)
+    (subst (λ n. means hits low n old) (sym begin) was))

@@ -1,9 +1,8 @@
 -- What the complemented stem of a unit tells of the classes that came to it, and the gates that it
 -- makes active.
-use Rattle.std.proofs.Common.{◌≡◌, ◌≢◌, ◌<◌, ◌≤◌, ◌+◌, ◌*◌, ◌⊎◌, inl, inr, ℕ, refl, sym, ◌∙◌, ap}
-use Rattle.std.proofs.Common.{subst, List, [], ◌∷◌, length, arith, true, false}
-use Rattle.std.specs.Prelude.{◌↔◌, Contains, Option, Some, None, bit_and, slice_get}
-use Rattle.std.specs.Prelude.{slice_index_or}
+use Rattle.std.proofs.Common.{◌≡◌, ◌≢◌, ◌<◌, ◌≤◌, ◌/◌, ◌⊎◌, inl, inr, ℕ, refl, sym, ◌∙◌}
+use Rattle.std.proofs.Common.{ap, subst, Bool, List, [], ◌∷◌, length, arith, true, false}
+use Rattle.std.specs.Prelude.{◌↔◌, Contains, Some, bit_and, slice_get, slice_index_or}
 use Rattle.std.proofs.lemmas.Bool.{cases_eq}
 use Rattle.std.proofs.lemmas.Option.{slice_get-get_or}
 use Rattle.list_lemmas.proofs.Members.{Among, among, contained}
@@ -11,27 +10,30 @@ use Rattle.bench_net.specs.Circuit.{IsWellFormed}
 use Rattle.bench_net.specs.Scan.{names}
 use Rattle.bench_net.specs.Statement.{Statement}
 use Rattle.fault_model.specs.Reordered.{IsReordered, place}
-use Rattle.wide_words.specs.Lanes.{slot_of}
+use Rattle.wide_words.specs.Lanes.{lane_in, slot_of}
 use Rattle.wide_words.specs.Layouts.{both_layout}
 use Rattle.wide_words.specs.Wide.{number}
+use Rattle.flat_circuit.specs.declared.block_span.BlockSpan.{BlockSpan}
 use Rattle.flat_circuit.specs.declared.origin.ListedClass.{ListedClass}
 use Rattle.region_sim.specs.declared.pack.Slot.{Slot}
 use Rattle.block_sim.specs.declared.propagation.Followed.{Followed}
 use Rattle.region_sim.specs.declared.unit_simulation.UnitClass.{UnitClass}
 use Rattle.flat_circuit.specs.Readers.{IsObserved}
+use Rattle.region_sim.specs.Goals.{HasTakenAt, HasTakenSpan}
 use Rattle.region_sim.specs.OpenPlaces.{AreSettled}
 use Rattle.region_sim.specs.Pack.{AreSlots, TellsPack, stem_at}
 use Rattle.block_sim.specs.Parts.{Parts}
-use Rattle.region_sim.specs.RegionHits.{HasFirst, HaveFirsts}
-use Rattle.block_sim.specs.First.{IsFirstOn}
+use Rattle.region_sim.specs.RegionHits.{HaveTakenOpen}
 use Rattle.block_sim.specs.Flips.{DetectsFlip}
-use Rattle.region_sim.specs.UnitHits.{AreClassesAt, AreParted, AreUnitConcluded, HaveArrivedInUnit}
-use Rattle.region_sim.specs.UnitHits.{HaveFirstsBeside, IsClassAt}
+use Rattle.region_sim.specs.UnitHits.{AreClassesAt, AreClassesStill, AreParted, AreUnitConcluded}
+use Rattle.region_sim.specs.UnitHits.{HasTakenUnitAt}
+use Rattle.region_sim.specs.UnitHits.{HaveArrivedInUnit, HaveTakenBeside, IsClassAt, IsPartIn}
 use Rattle.region_sim.specs.Units.{group_in, lane_test, unit_span}
 use Rattle.flat_circuit.specs.Words.{lane, test_of}
+use Rattle.region_sim.proofs.FollowedRows.{each_over}
 use Rattle.region_sim.proofs.PackedRegions.{stem_is}
 use Rattle.block_sim.proofs.Public.{same_flips}
-use Rattle.region_sim.proofs.UnitApproaches.{arrived_first, first_in_unit, lane_number}
+use Rattle.region_sim.proofs.UnitApproaches.{lane_number, takes_unit, unit_arrived}
 
 -- whether a class that came to the stem is that of a place
 pub class_or_not : (classes : List UnitClass) (place : ℕ)
@@ -55,27 +57,30 @@ class_or_not (one ∷ classes) place = go (cases_eq one.place place) (class_or_n
         out x at (inr there) = none (x, contained classes x there, at)
 
 -- places whose classes are settled have no open row
-pub settled_firsts : (job : Parts) (group : ℕ) (rows : List ListedClass)
-    (firsts : List (Option ℕ)) (from to : ℕ) (hits : List (Option ℕ)) → AreSettled firsts from to
-    → HaveFirsts job (unit_span group) rows firsts from to hits
-settled_firsts job group rows firsts from to hits settled place row le lt idle =
-    let known = settled place le lt in
-    let bad : Some None ≡ Some (Some known.0) = sym idle.unknown ∙ known.1 in
-    absurd (cc)
+pub settled_taken : {K : Type 0} (is_open : K → Bool) (means : (ℕ → Bool) → ℕ → ℕ → K → Type 0)
+    (job : Parts) (span : BlockSpan) (rows : List ListedClass) (from to : ℕ) (before now : List K)
+    → AreSettled is_open before from to
+    → HaveTakenOpen is_open means job span rows from to before now
+settled_taken is_open means job span rows from to before now settled =
+    each_over is_open rows before from from to (λ place row. HasTakenAt means job span row
+    before now
+    place) settled (λ place row le lt idle. absurd (omega (arith, le, lt)))
 
--- if no class came to the stem, all is found
-pub none_came : (job : Parts) (group : ℕ) (rows : List ListedClass) (firsts : List (Option ℕ))
-    (classes : List UnitClass) (from to : ℕ) (hits : List (Option ℕ)) → classes ≡ []
-    → HaveFirstsBeside job group rows firsts classes from to hits
-    → HaveFirsts job (unit_span group) rows firsts from to hits
-none_came job group rows firsts classes from to hits none found place row le lt idle =
-    go (found place row le lt idle)
+-- if no class came to the stem, all is taken
+pub none_came : {K : Type 0} (is_open : K → Bool) (means : (ℕ → Bool) → ℕ → ℕ → K → Type 0)
+    (job : Parts) (group : ℕ) (rows : List ListedClass) (classes : List UnitClass) (from to : ℕ)
+    (before now : List K) → classes ≡ []
+    → HaveTakenBeside is_open means job group rows classes from to before now
+    → HaveTakenOpen is_open means job (unit_span group) rows from to before now
+none_came is_open means job group rows classes from to before now none so place row le lt idle =
+    go (so place row le lt idle)
   where
-    go : HasFirst job (unit_span group) row hits place ⊎ IsClassAt classes place
-        → HasFirst job (unit_span group) row hits place
+    go : HasTakenAt means job (unit_span group) row before now place
+        ⊎ (IsClassAt classes place × (slice_get now place ≡ slice_get before place))
+        → HasTakenAt means job (unit_span group) row before now place
     go (inl h) = h
     go (inr h) =
-        let there = h.1.1 in
+        let there = h.0.1.1 in
         let empty = ap length none in absurd (omega (arith, there, empty))
 
 -- ---- the slots of a unit have one stem
@@ -104,8 +109,9 @@ module _ (stem : ℕ) (classes : List UnitClass) (slots : List Slot) (followed :
   -- what is found of all classes that came to it
   module _ (job : Parts) (d : List Statement) (well : IsWellFormed job.circuit)
       (is : IsReordered job.circuit d) (group signal : ℕ)
-      (moved : stem ≡ place job.circuit d signal) (seen : ℕ)
-      (told : TellsPack both_layout d job.tests.tests (group_in group) slots followed seen) where
+      (moved : stem ≡ place job.circuit d signal) (seen : ℕ) (every : Bool)
+      (told : TellsPack every both_layout d job.tests.tests (group_in group) slots followed
+      seen) where
     flips : (k : ℕ) → k < 512
         → DetectsFlip job.circuit (test_of job.tests.tests group k) signal
         ↔ DetectsFlip d (lane_test job.tests.tests both_layout (group_in group) k)
@@ -130,48 +136,71 @@ module _ (stem : ℕ) (classes : List UnitClass) (slots : List Slot) (followed :
         (flips k lt).1 (told.found k lt e (omega (arith, lt, many)))
 
     missed : (one : UnitClass) → Contains classes one → (k : ℕ) → k < 512
-        → lane (number one.lanes) k ≡ true
-        → ((j : ℕ) → j ≤ k → lane (number one.lanes) j ≡ true → lane seen j ≡ false)
+        → lane (number one.lanes) k ≡ true → lane seen k ≡ false
+        → (every ≡ true) ⊎ ((j : ℕ) → j < k → j / 128 ≡ k / 128
+        → lane (number one.lanes) j ≡ true → lane seen j ≡ false)
         → ¬ DetectsFlip job.circuit (test_of job.tests.tests group k) signal
-    missed one member k lt on none d =
+    missed one member k lt on off least d =
         let own = parted.each one k member lt on in
-        told.clear k own.0 lt own.1
-        (λ j less same le lit. none j (omega (arith, same, le)) (sym (own.2 j less same) ∙ lit))
-        ((flips k lt).0 d)
+        told.clear k own.0 lt own.1 off (least_of own.0 own.2 least) ((flips k lt).0 d)
+      where
+        least_of : (part : Followed) → IsPartIn one k part
+            → (every ≡ true) ⊎ ((j : ℕ) → j < k → j / 128 ≡ k / 128
+            → lane (number one.lanes) j ≡ true → lane seen j ≡ false)
+            → (every ≡ true) ⊎ ((j : ℕ) → j < 512
+            → slot_of both_layout j ≡ slot_of both_layout k
+            → lane_in both_layout j ≤ lane_in both_layout k
+            → lane part.lanes (lane_in both_layout j) ≡ true → lane seen j ≡ false)
+        least_of part is (inl all) = inl all
+        least_of part is (inr none) = inr (λ j less same le lit.
+            go j same (sym (is j less same) ∙ lit) (omega (arith, same, le)) (cases_eq j k))
+          where
+            go : (j : ℕ) → j / 128 ≡ k / 128 → lane (number one.lanes) j ≡ true → j ≤ k
+                → (j ≡ k) ⊎ (j ≢ k) → lane seen j ≡ false
+            go j same lit le (inl here) = ap (lane seen) here ∙ off
+            go j same lit le (inr ne) = none j (omega (arith, le, ne)) same lit
 
-    module _ (rows : List ListedClass) (firsts : List (Option ℕ)) (from to : ℕ)
-        (before hits : List (Option ℕ)) (full : 128 * group + 512 ≤ length job.tests.tests)
+    module _ {K : Type 0} (is_open : K → Bool) (means : (ℕ → Bool) → ℕ → ℕ → K → Type 0)
+        (rows : List ListedClass) (from to : ℕ) (before mid now : List K)
         (arrived : HaveArrivedInUnit job group signal classes)
         (at : AreClassesAt rows from to classes)
-        (found : HaveFirstsBeside job group rows firsts classes from to before)
-        (kept : (place : ℕ) → (IsClassAt classes place → ⊥)
-        → slice_get hits place ≡ slice_get before place)
-        (concluded : AreUnitConcluded group seen classes hits) where
-      pub found_in_unit : HaveFirsts job (unit_span group) rows firsts from to hits
-      found_in_unit place row le lt idle = go (class_or_not classes place)
+        (so : HaveTakenBeside is_open means job group rows classes from to before mid)
+        (still : AreClassesStill classes before mid)
+        (others : (place : ℕ) → (IsClassAt classes place → ⊥)
+        → slice_get now place ≡ slice_get mid place)
+        (concluded : AreUnitConcluded every means group seen classes mid now) where
+      pub taken_in_unit : HaveTakenOpen is_open means job (unit_span group) rows from to before now
+      taken_in_unit place row le lt idle = go (class_or_not classes place)
         where
-          still : (IsClassAt classes place → ⊥)
-              → HasFirst job (unit_span group) row before place ⊎ IsClassAt classes place
-              → HasFirst job (unit_span group) row hits place
-          still none (inl h) = (h.0, kept place none ∙ h.1, h.2)
-          still none (inr h) = absurd (none h)
+          untouched : (IsClassAt classes place → ⊥)
+              → HasTakenAt means job (unit_span group) row before mid place
+              ⊎ (IsClassAt classes place × (slice_get mid place ≡ slice_get before place))
+              → HasTakenAt means job (unit_span group) row before now place
+          untouched none (inl h) = (h.0, h.1, h.2, others place none ∙ h.3, h.4)
+          untouched none (inr h) = absurd (none h.0)
 
           go : IsClassAt classes place ⊎ (IsClassAt classes place → ⊥)
-              → HasFirst job (unit_span group) row hits place
-          go (inr none) = still none (found place row le lt idle)
+              → HasTakenAt means job (unit_span group) row before now place
+          go (inr none) = untouched none (so place row le lt idle)
           go (inl h) =
-              let t = concluded place h in
-              let one = t.0 in
-              let own = at one t.1 in
-              let both : Some own.2 ≡ Some row = sym own.3 ∙ (ap (slice_get rows) t.2
+              let one = h.0 in
+              let own = at one h.1 in
+              let both : Some own.2 ≡ Some row = sym own.3 ∙ (ap (slice_get rows) h.2
               ∙ idle.row_is) in
               let same : own.2 ≡ row = cc in
               let class : one.class ≡ row.class =
-              sym own.4 ∙ ap (λ (r : ListedClass). r.class) same in (
+              sym own.4 ∙ ap (λ (r : ListedClass). r.class) same in
+              let t = subst (HasTakenUnitAt every means group (bit_and (number one.lanes) seen) mid
+              now) h.2 (concluded one h.1) in
+              let unchanged = subst (λ n. slice_get mid n ≡ slice_get before n) h.2
+              (still one h.1) in (
+                t.0,
+                t.1,
+                sym unchanged ∙ t.2,
                 t.3,
-                t.4,
-                subst (λ n. IsFirstOn job (unit_span group) n t.3) class
-                    (first_in_unit job group one.class (bit_and (number one.lanes) seen) t.3 full
-                    (arrived_first job group signal one.class (number one.lanes) seen
-                    (arrived one t.1) (λ k low on e. right k low e) (missed one t.1)) t.5),
+                subst (λ n. HasTakenSpan means job (unit_span group) n t.0 t.1) class
+                    (takes_unit every means job group one.class (bit_and (number one.lanes) seen)
+                    t.0 t.1 t.4 (λ hits are. unit_arrived job group one.class every hits are signal
+                    (number one.lanes) seen (arrived one h.1) (λ k low on e. right k low e)
+                    (missed one h.1))),
               )

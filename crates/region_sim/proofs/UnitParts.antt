@@ -15,7 +15,7 @@ use Rattle.region_sim.specs.UnitHits.{ArePartsAdded, IsPartIn}
 use Rattle.flat_circuit.specs.Words.{lane}
 use Rattle.flat_circuit.proofs.Public.{lane_zero, pushed_get, at_end}
 use Rattle.region_sim.proofs.RegionHits.{member_at}
-use Rattle.region_sim.proofs.SlotHits.{get_left, get_right}
+use Rattle.region_sim.proofs.ListParts.{get_left, get_right}
 
 -- the parts of the first n classes
 pub record ArePartsOf (slot : ℕ) (classes : List UnitClass) (n : ℕ)

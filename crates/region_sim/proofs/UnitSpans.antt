@@ -1,23 +1,72 @@
--- The blocks of a unit.
-use Rattle.std.proofs.Common.{◌≡◌, ◌+◌, ◌*◌, ◌/◌, ◌%◌, ℕ, ap, ◌∙◌, arith, true, false}
-use Rattle.std.specs.Prelude.{Bool, if◌then◌else◌}
+-- The blocks that are simulated at once: those of a unit, or of one group.
+use Rattle.std.proofs.Common.{◌≡◌, ◌<◌, ◌≤◌, ◌+◌, ◌-◌, ◌*◌, ◌/◌, inl, inr, ℕ, ap, ◌∙◌}
+use Rattle.std.proofs.Common.{arith, refl}
+use Rattle.std.specs.Prelude.{◌↔◌}
+use Rattle.patterns.specs.Tests.{blocks}
 use Rattle.flat_circuit.specs.declared.block_span.BlockSpan.{BlockSpan}
-use Rattle.flat_circuit.specs.BlockSpans.{begins_unit, span_of, unit_of}
+use Rattle.flat_circuit.specs.BlockSpans.{IsSpan, IsTogether, IsUnit}
+use Rattle.region_sim.specs.Goals.{IsSweep}
 use Rattle.region_sim.specs.Units.{unit_span}
 
-abbrev whole_unit : ℕ → BlockSpan
-whole_unit block = record { first = block; last = block + 7 }
+abbrev unit_from : ℕ → ℕ → BlockSpan
+unit_from first last = record { first = first; last = last }
 
--- a unit has four groups
-pub unit_begins : (tests block : ℕ) → begins_unit tests block ≡ true → block % 8 ≡ 0
-    → unit_of tests block ≡ unit_span (block / 2)
-unit_begins tests block begins whole =
-    let first : block ≡ 2 * (block / 2) = omega (arith, whole) in
-    ap (λ (b : Bool). if b then whole_unit block else span_of tests block) begins
-    ∙ ap whole_unit first
+-- a sweep of more than two blocks is a unit
+module _ (tests : ℕ) (span : BlockSpan) (is : IsSweep tests span) where
+  pub in_order : span.first ≤ span.last
+  in_order = elim is [
+    | inl s ↦ s.ordered
+    | inr u ↦ (let last = u.1 in omega (arith, last))
+  ]
 
--- where no unit begins there are the blocks of a group
-pub no_unit_begins : (tests block : ℕ) → begins_unit tests block ≡ false
-    → unit_of tests block ≡ span_of tests block
-no_unit_begins tests block none =
-    ap (λ (b : Bool). if b then whole_unit block else span_of tests block) none
+  pub sweep_unit : 1 < span.last - span.first
+      → IsUnit tests span.first × (span.last ≡ span.first + 7)
+  sweep_unit many = elim is [
+    | inl s ↦ (let one = s.one_group in let up = s.ordered in absurd (omega (arith, many, one, up)))
+    | inr u ↦ u
+  ]
+
+  pub unit_is : 1 < span.last - span.first → span ≡ unit_span (span.first / 2)
+  unit_is many =
+      let u = sweep_unit many in
+      let whole = u.0.whole in
+      let first : span.first ≡ 2 * (span.first / 2) = omega (arith, whole) in
+      let last : span.last ≡ 2 * (span.first / 2) + 7 = omega (arith, first, u.1) in
+      ap (λ n. unit_from n span.last) first
+      ∙ ap (unit_from (2 * (span.first / 2))) last
+
+  -- and no other one is
+  pub sweep_span : span.last - span.first ≤ 1 → IsSpan tests span
+  sweep_span few = elim is [
+    | inl s ↦ s
+    | inr u ↦ (let last = u.1 in absurd (omega (arith, few, last)))
+  ]
+
+-- what is simulated at once from a block on is a sweep
+module _ (tests block last : ℕ) (low : block < blocks tests)
+    (together : (other : ℕ) → ((block ≤ other) × (other ≤ last)) ↔ IsTogether tests block other)
+  where
+    pub from_block : block ≤ last
+    from_block = ((together block).1 (inr (record {
+      ordered = omega arith;
+      one_group = refl;
+      within = low;
+      alone = λ lt. refl;
+    }))).1
+
+    pub is_sweep : IsSweep tests (unit_from block last)
+    is_sweep = elim ((together last).0 (from_block, omega arith)) [
+      | inl u ↦ inr (
+        u.0,
+        (let below = u.2 in
+            let whole = ((together (block + 7)).1 (inl (u.0, omega arith, omega arith))).1 in
+            omega (arith, below, whole)),
+      )
+      | inr p ↦ inl (record { ordered = p.ordered; one_group = p.one_group; within = p.within })
+    ]
+
+    pub last_within : last < blocks tests
+    last_within = elim ((together last).0 (from_block, omega arith)) [
+      | inl u ↦ (let below = u.2 in let full = u.0.full in omega (arith, below, full))
+      | inr p ↦ p.within
+    ]

@@ -10,17 +10,10 @@ use Rattle.region_sim.specs.declared.region.Approach.{Approach}
 use Rattle.region_sim.specs.declared.region.Approach.TheVariants.{Known, Stem}
 use Rattle.block_sim.specs.declared.propagation.Followed.{Followed}
 use Rattle.flat_circuit.specs.declared.block_span.BlockSpan.{BlockSpan}
-use Rattle.block_sim.specs.First.{TellsFirst}
 use Rattle.block_sim.specs.Parts.{Parts}
 use Rattle.block_sim.specs.Flips.{AreLanesFor, HasCome}
 use Rattle.flat_circuit.specs.BlockSpans.{IsInSpan, group_of}
 use Rattle.flat_circuit.specs.Words.{lane}
-
--- the least lane of a word that is 1 has the first test of the span that detects the class
-abbrev pub TellsFirstIn : Parts → BlockSpan → ℕ → ℕ → Type 0
-TellsFirstIn job span class word =
-    (r : Fault) × (slice_get (representatives job.list.model job.circuit) class ≡ Some r)
-    × TellsFirst job.circuit job.tests.tests span r word
 
 -- the lanes of a word that are 1 are those whose test is one of the span and detects the
 -- representative of the class

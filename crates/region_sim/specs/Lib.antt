@@ -6,7 +6,8 @@ pub mod KnownWords
 pub mod KnownWide
 pub mod Sensitized
 pub mod OpenPlaces
+pub mod Goals
+pub mod GoalLaws
 pub mod RegionHits
 pub mod Pack
-pub mod GroupLanes
 pub mod ClassOrder

@@ -1,5 +1,6 @@
 -- Packs: the lanes of a wide word stand for pairs of a test and a stem.
-use Rattle.std.specs.Prelude.{◌≡◌, ◌≢◌, ℕ, ◌<◌, ◌≤◌, Bool, true, false, List, All, Contains, None}
+use Rattle.std.specs.Prelude.{◌≡◌, ◌≢◌, ◌⊎◌, ℕ, ◌<◌, ◌≤◌, Bool, true, false, List, All, Contains}
+use Rattle.std.specs.Prelude.{None}
 use Rattle.std.specs.Prelude.{Some}
 use Rattle.std.specs.Prelude.{length, map, bit_and, bit_or, slice_get, slice_index_or, slice_range}
 use Rattle.std.specs.Prelude.{slice_set}
@@ -159,15 +160,16 @@ pub record IsPackClear (pack : Pack) : Type 0 where
   pub deltas : All (λ word. word ≡ 0) pack.deltas
   pub gates : All (λ at. at ≡ 0) pack.waiting
 
--- A wide word has the lanes whose tests detect the complemented stem of their slot: of each class
--- up to its least. In lanes above that each 1 of it is right.
-pub record TellsPack (layout : Layout) (c : List Statement) (tests : List Test)
+-- A wide word has the lanes whose tests detect the complemented stem of their slot. If all lanes
+-- count, it has each in which a class came to the stem; if not, of each class up to its least.
+pub record TellsPack (every : Bool) (layout : Layout) (c : List Statement) (tests : List Test)
     (group : ℕ → ℕ) (stems : List Slot) (followed : List Followed) (word : ℕ) : Type 0 where
   pub found : (k : ℕ) → k < 512 → lane word k ≡ true → slot_of layout k < length stems
       → DetectsFlip c (test_of tests (group (slot_of layout k)) (lane_in layout k)) (stem_at layout
       stems k)
   pub clear : (k : ℕ) (one : Followed) → k < 512 → IsIn layout stems followed k one
-      → ((j : ℕ) → j < 512 → slot_of layout j ≡ slot_of layout k
+      → lane word k ≡ false
+      → (every ≡ true) ⊎ ((j : ℕ) → j < 512 → slot_of layout j ≡ slot_of layout k
       → lane_in layout j ≤ lane_in layout k → lane one.lanes (lane_in layout j) ≡ true
       → lane word j ≡ false)
       → ¬ DetectsFlip c (test_of tests (group (slot_of layout k)) (lane_in layout k)) (stem_at

@@ -1,7 +1,7 @@
--- The first tests that a simulation of regions found out on a unit, by the places of a list of
--- classes.
-use Rattle.std.specs.Prelude.{◌≡◌, ◌⊎◌, ℕ, ◌<◌, ◌≤◌, List, Contains, Option, Some, None, true}
-use Rattle.std.specs.Prelude.{[], ◌∷◌, ◌++◌, All, bit_and, length, slice_get, slice_set}
+-- What a simulation of regions takes of the tests of a unit, by the places of a list of classes.
+use Rattle.std.specs.Prelude.{◌≡◌, ◌≢◌, ◌⊎◌, ◌+◌, ◌*◌, ◌/◌, ℕ, ◌<◌, ◌≤◌, Bool, List, Contains, Some}
+use Rattle.std.specs.Prelude.{true, false}
+use Rattle.std.specs.Prelude.{[], ◌∷◌, ◌++◌, All, bit_and, length, slice_get}
 use Rattle.std.specs.Prelude.{vec_capacity}
 use Rattle.wide_words.specs.Lanes.{lane_in, slot_of}
 use Rattle.wide_words.specs.Layouts.{both_layout}
@@ -14,22 +14,24 @@ use Rattle.region_sim.specs.declared.unit_simulation.Unit.{Unit as UnitRoom}
 use Rattle.region_sim.specs.declared.unit_simulation.UnitClass.{UnitClass}
 use Rattle.region_sim.specs.Pack.{IsIn, IsPackClear, IsWithin}
 use Rattle.block_sim.specs.Parts.{Parts}
-use Rattle.region_sim.specs.RegionHits.{HasFirst, IsOpenAt}
-use Rattle.block_sim.specs.First.{IsFirstOn}
-use Rattle.region_sim.specs.Units.{ArrivesInUnit, IsTestInUnit, unit_span}
+use Rattle.region_sim.specs.Goals.{HasTakenAt}
+use Rattle.region_sim.specs.RegionHits.{IsOpenAt}
+use Rattle.region_sim.specs.Units.{ArrivesInUnit, unit_span}
 use Rattle.flat_circuit.specs.Words.{lane}
 
 -- the place is that of a class that came to the stem
 abbrev pub IsClassAt : List UnitClass → ℕ → Type 0
 IsClassAt classes place = (one : UnitClass) × Contains classes one × (one.place ≡ place)
 
--- at each place from one up to another whose class is open its first test on the unit is kept, but
--- at the places of classes that came to the stem
-abbrev pub HaveFirstsBeside : Parts → ℕ → List ListedClass → List (Option ℕ) → List UnitClass
-    → ℕ → ℕ → List (Option ℕ) → Type 0
-HaveFirstsBeside job group rows firsts classes from to hits = (place : ℕ) (row : ListedClass)
-    → from ≤ place → place < to → IsOpenAt rows firsts place row
-    → HasFirst job (unit_span group) row hits place ⊎ IsClassAt classes place
+-- for each open class from one place up to another the tests of the unit were taken, or it came to
+-- the stem and nothing was taken
+abbrev pub HaveTakenBeside : {K : Type 0} → (K → Bool) → ((ℕ → Bool) → ℕ → ℕ → K → Type 0) → Parts
+    → ℕ → List ListedClass → List UnitClass → ℕ → ℕ → List K → List K → Type 0
+HaveTakenBeside is_open means job group rows classes from to before now =
+    (place : ℕ) (row : ListedClass) → from ≤ place → place < to
+    → IsOpenAt is_open rows before place row
+    → HasTakenAt means job (unit_span group) row before now place
+    ⊎ (IsClassAt classes place × (slice_get now place ≡ slice_get before place))
 
 -- each class that came to the stem is that of its place, which is one of those from one up to
 -- another
@@ -43,18 +45,51 @@ abbrev pub HaveArrivedInUnit : Parts → ℕ → ℕ → List UnitClass → Type
 HaveArrivedInUnit job group stem classes = (one : UnitClass) → Contains classes one
     → ArrivesInUnit job group stem one.class (number one.lanes)
 
--- each of them is a class whose first test isn't known
-abbrev pub AreClassesOpen : List (Option ℕ) → List UnitClass → Type 0
-AreClassesOpen firsts classes = (one : UnitClass) → Contains classes one
-    → slice_get firsts one.place ≡ Some None
+-- something is open of each of them
+abbrev pub AreClassesOpen : {K : Type 0} → (K → Bool) → List K → List UnitClass → Type 0
+AreClassesOpen {K} is_open kept classes = (one : UnitClass) → Contains classes one
+    → (own : K) × (slice_get kept one.place ≡ Some own) × (is_open own ≡ true)
 
--- At each place of a class the result has the first of the lanes in which such a class came to the
--- stem and in which the complemented stem is detected.
-abbrev pub AreUnitConcluded : ℕ → ℕ → List UnitClass → List (Option ℕ) → Type 0
-AreUnitConcluded group seen classes hits = (place : ℕ) → IsClassAt classes place
-    → (one : UnitClass) × Contains classes one × (one.place ≡ place)
-    × (hit : Option ℕ) × (slice_get hits place ≡ Some hit)
-    × IsTestInUnit group (bit_and (number one.lanes) seen) hit
+-- they stand in the order of their places, and none has the place of another
+abbrev pub AreClassesInOrder : List UnitClass → Type 0
+AreClassesInOrder classes = (i k : ℕ) (one other : UnitClass) → i < k
+    → slice_get classes i ≡ Some one → slice_get classes k ≡ Some other → one.place < other.place
+
+-- at their places stands what stood there before
+abbrev pub AreClassesStill : {K : Type 0} → List UnitClass → List K → List K → Type 0
+AreClassesStill classes before now = (one : UnitClass) → Contains classes one
+    → slice_get now one.place ≡ slice_get before one.place
+
+-- The lanes of a wide word tell which tests of a unit are hits. Each lane that is 1 is a hit. If
+-- all lanes count, each hit has its lane; if not, each hit of a group has its lane that has no lane
+-- below it in the group.
+pub record TellUnitHits (all : Bool) (hits : ℕ → Bool) (group word : ℕ) : Type 0 where
+  pub right : (k : ℕ) → k < 512 → lane word k ≡ true → hits (128 * group + k) ≡ true
+  pub whole : (k : ℕ) → k < 512 → hits (128 * group + k) ≡ true
+      → (all ≡ true) ⊎ ((j : ℕ) → j < k → j / 128 ≡ k / 128 → lane word j ≡ false)
+      → lane word k ≡ true
+
+-- the tests of a unit were taken
+abbrev pub HasTakenUnit : {K : Type 0} → Bool → ((ℕ → Bool) → ℕ → ℕ → K → Type 0) → ℕ → ℕ → K → K
+    → Type 0
+HasTakenUnit all means group word old new = (hits : ℕ → Bool) (low : ℕ) → low ≤ 128 * group
+    → TellUnitHits all hits group word → means hits low (128 * group) old
+    → means hits low (128 * group + 512) new
+
+-- at a place
+abbrev pub HasTakenUnitAt : {K : Type 0} → Bool → ((ℕ → Bool) → ℕ → ℕ → K → Type 0) → ℕ → ℕ
+    → List K → List K → ℕ → Type 0
+HasTakenUnitAt {K} all means group word before after place = (old : K) × (new : K)
+    × (slice_get before place ≡ Some old) × (slice_get after place ≡ Some new)
+    × HasTakenUnit all means group word old new
+
+-- of each class that came to the stem those of its lanes were taken in which the complemented stem
+-- is detected
+abbrev pub AreUnitConcluded : {K : Type 0} → Bool → ((ℕ → Bool) → ℕ → ℕ → K → Type 0) → ℕ → ℕ
+    → List UnitClass → List K → List K → Type 0
+AreUnitConcluded all means group seen classes before after = (one : UnitClass)
+    → Contains classes one
+    → HasTakenUnitAt all means group (bit_and (number one.lanes) seen) before after one.place
 
 -- a part of a class: its lanes in the slot of a lane
 abbrev pub IsPartIn : UnitClass → ℕ → Followed → Type 0
@@ -86,14 +121,15 @@ pub record ArePartsAdded (slot : ℕ) (classes : List UnitClass) (before after :
       → (one : UnitClass) × Contains classes one
       × ((k : ℕ) → k < 512 → slot_of both_layout k ≡ slot → IsPartIn one k part)
 
--- One row more is followed alone: what was found out of its class is kept at its place, or it came
--- to the stem.
-abbrev pub IsFoundOrCame : Parts → ℕ → ListedClass → ℕ → List UnitClass → List UnitClass
-    → List (Option ℕ) → List (Option ℕ) → Type 0
-IsFoundOrCame job group row place was classes old hits =
-    ((classes ≡ was) × (hit : Option ℕ) × IsFirstOn job (unit_span group) row.class hit
-    × (hits ≡ slice_set old place hit))
-    ⊎ ((hits ≡ old) × (one : UnitClass) × (one.class ≡ row.class) × (one.place ≡ place)
+-- One row more is followed alone: the tests of the unit were taken of its class, or it came to the
+-- stem.
+abbrev pub IsTakenOrCame : {K : Type 0} → ((ℕ → Bool) → ℕ → ℕ → K → Type 0) → Parts → ℕ
+    → ListedClass → ℕ → List UnitClass → List UnitClass → List K → List K → Type 0
+IsTakenOrCame {K} means job group row place was classes old now =
+    ((classes ≡ was) × (length now ≡ length old)
+    × ((other : ℕ) → other ≢ place → slice_get now other ≡ slice_get old other)
+    × HasTakenAt means job (unit_span group) row old now place)
+    ⊎ ((now ≡ old) × (one : UnitClass) × (one.class ≡ row.class) × (one.place ≡ place)
     × ArrivesInUnit job group row.stem one.class (number one.lanes) × (classes ≡ was ++ one ∷ []))
 
 -- no word differs and no gate waits, and there is room for this many signals and for four slots

@@ -1,6 +1,6 @@
 -- Units: gates, lane by lane, on the words of a wide word's slots, with some of their pins
 -- complemented.
-use Rattle.std.specs.Prelude.{◌≡◌, ◌↔◌, ◌<◌, ◌≤◌, ◌+◌, ◌*◌, ℕ, ◌==◌, ◌&&◌, Bool, true, false, List}
+use Rattle.std.specs.Prelude.{◌≡◌, ◌↔◌, ◌<◌, ◌≤◌, ◌+◌, ◌*◌, ℕ, ◌==◌, ◌&&◌, Bool, true, List}
 use Rattle.std.specs.Prelude.{Option, Some, None, length, map, slice_get, slice_index_or}
 use Rattle.std.specs.Prelude.{vec_capacity}
 use Rattle.bench_net.specs.Statement.{Statement}
@@ -145,12 +145,6 @@ abbrev pub IsUnitApproach : Parts → ℕ → ℕ → ℕ → UnitApproach → T
 IsUnitApproach job group stem class (Known word) = TellsUnit job group class (number word)
 IsUnitApproach job group stem class (AtStem word) =
     ArrivesInUnit job group stem class (number word)
-
--- the test of the least lane of a unit's word that is 1, or none where none is
-abbrev pub IsTestInUnit : ℕ → ℕ → Option ℕ → Type 0
-IsTestInUnit group word (Some t) = (k : ℕ) × (k < 512) × (t ≡ 128 * group + k)
-    × (lane word k ≡ true) × ((j : ℕ) → j < k → lane word j ≡ false)
-IsTestInUnit group word None = (k : ℕ) → k < 512 → lane word k ≡ false
 
 -- the blocks of a unit that begins with a group
 abbrev pub unit_span : ℕ → BlockSpan

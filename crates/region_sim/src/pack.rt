@@ -30,6 +30,7 @@ ghost use Rattle.region_sim.specs.Pack.{IsPackClear, IsWithin, TellsPack, wide_b
 ghost use Rattle.flat_circuit.specs.SlotWords.{AreWithin};
 ghost use Rattle.flat_circuit.specs.Words.{lane};
 
+use crate::goal::Goal;
 use block_sim::flat::{FlatCircuit, FlatGate};
 use block_sim::propagation::{Followed, below_hits, schedule_fanout};
 use block_sim::wide_lanes::in_each_wide_lane;
@@ -383,7 +384,7 @@ fn begin_stems<C: Copies>(
 
 /// Returns the lanes that are followed and seen, after an observer saw a difference in fresh ones.
 #[inline(always)]
-fn follow_on<C: Copies>(
+fn follow_on<C: Copies, G: Goal>(
     copies: C,
     followed: &[Followed],
     stems: &[Slot],
@@ -397,13 +398,17 @@ fn follow_on<C: Copies>(
     ensures narrow { (k : ℕ) → k < 512 → lane (number result.kept) k ≡ true
         → lane (number found.kept) k ≡ true }
     ensures rest { (k : ℕ) → k < 512 → lane (number found.kept) k ≡ true
-        → lane (number result.kept) k ≡ false
-        → AreHitIn C.layout stems.now followed.now (number result.seen) k }
+        → lane (number result.kept) k ≡ false → (G.ALL_LANES ≡ false)
+        × AreHitIn C.layout stems.now followed.now (number result.seen) k }
 {
     if fresh.is_none() {
         return found;
     }
     let seen = found.seen.or(fresh);
+    if G::ALL_LANES {
+        let kept = found.kept;
+        return PackFound { kept, seen };
+    }
     let kept = kept_after(copies, followed, stems, found.kept, fresh, seen);
     PackFound { kept, seen }
 }
@@ -428,8 +433,8 @@ fn next_gate(kept: Wide, from: u32, waiting: &mut Places) -> Option<u32>
 }
 
 /// Complements the stems of a pack, none of which is observed, and returns lanes in which an
-/// observer sees that: of each class up to the least.
-pub fn propagate<C: Copies>(
+/// observer sees that: all of them, or of each class up to the least, as the goal asks for.
+pub fn propagate<C: Copies, G: Goal>(
     circuit: &FlatCircuit,
     copies: C,
     followed: &[Followed],
@@ -444,8 +449,8 @@ pub fn propagate<C: Copies>(
     requires slots { AreSlots C.layout circuit.now.arranged pack.old.slots.items followed.now }
     ensures detected { (tests : List Test) (group : ℕ → ℕ)
         → AreRows circuit.now.arranged tests C.layout group (C.rows copies)
-        → TellsPack C.layout circuit.now.arranged tests group pack.old.slots.items followed.now
-        (number result) }
+        → TellsPack G.ALL_LANES C.layout circuit.now.arranged tests group pack.old.slots.items
+        followed.now (number result) }
     ensures slots { pack.new.slots ≡ pack.old.slots }
     ensures room { (length pack.new.deltas ≡ length pack.old.deltas)
         × (length pack.new.waiting ≡ length pack.old.waiting) }
@@ -463,7 +468,7 @@ pub fn propagate<C: Copies>(
     };
     while let Some(gate) = next_gate(found.kept, from, waiting) {
         let fresh = evaluate_waiting(circuit, copies, found.kept, gate, deltas, waiting);
-        found = follow_on(copies, followed, stems, found, fresh);
+        found = follow_on::<C, G>(copies, followed, stems, found, fresh);
         from = gate + 1;
     }
     waiting.clear(from);

@@ -1,35 +1,37 @@
-//! The first tests of the classes of a list, computed region by region.
+//! The tests that detect the classes of a list, computed region by region.
 
-ghost use Rattle.std.specs.Prelude.{◌≡◌, ◌⊎◌, ◌+◌, ◌++◌, ◌^◌, ◌<◌, ◌≤◌, ◌∷◌, ℕ, All, Contains};
-ghost use Rattle.std.specs.Prelude.{IfOk, List, [], None, OnOk, Option, Some, length, slice_get};
-ghost use Rattle.std.specs.Prelude.{◌-◌, replicate, slice_set};
+ghost use Rattle.std.specs.Prelude.{◌≡◌, ◌≢◌, ◌⊎◌, ◌+◌, ◌*◌, ◌++◌, ◌^◌, ◌<◌, ◌≤◌, ◌∷◌, ℕ, All};
+ghost use Rattle.std.specs.Prelude.{Contains, IfOk, List, [], OnOk, Some, length, slice_get};
 ghost use Rattle.std.specs.Prelude.{vec_capacity, vec_len};
-ghost use Rattle.std.specs.List.{sum_by};
 ghost use Rattle.bench_net.specs.Scan.{names};
 ghost use Rattle.patterns.specs.Tests.{blocks};
 ghost use Rattle.wide_words.specs.Lanes.{slots};
 ghost use Rattle.wide_words.specs.Wide.{number};
-ghost use Rattle.flat_circuit.specs.BlockSpans.{AreInSpan, IsSpan, unit_of};
+ghost use Rattle.flat_circuit.specs.BlockSpans.{IsSpan};
 ghost use Rattle.flat_circuit.specs.Readers.{IsObserved};
-ghost use Rattle.region_sim.specs.OpenPlaces.{AreNextOpen};
 ghost use Rattle.block_sim.specs.Listed.{IsListed};
 ghost use Rattle.block_sim.specs.Parts.{Parts};
-ghost use Rattle.region_sim.specs.Pack.{AreSlots, HasPackRoom, IsPackClear, IsWithin};
 ghost use Rattle.block_sim.specs.PropagationState.{HasRoomFor, IsAsLarge, IsClear};
-ghost use Rattle.region_sim.specs.RegionHits.{AreConcluded, AreCopied, AreFollowedAt, AreGathered};
-ghost use Rattle.region_sim.specs.RegionHits.{AreOpen, AreSlotsConcluded, HasAdded, HasSameRoom};
-ghost use Rattle.region_sim.specs.RegionHits.{HaveFirsts, HaveFirstsBut, IsEndOfRegion};
-ghost use Rattle.region_sim.specs.RegionHits.{IsFollowedAt, IsFoundOrFollowed, IsHiddenStem};
-ghost use Rattle.region_sim.specs.RegionHits.{IsOpenAt, IsPackAsLarge, IsTestOf, ServesRegions};
-ghost use Rattle.region_sim.specs.Sensitized.{HasBegun, HasRoomForRegions, IsSameRegion, IsViewOf};
 ghost use Rattle.region_sim.specs.Arrivals.{IsApproach};
+ghost use Rattle.region_sim.specs.Goals.{HaveTaken, IsSweep};
+ghost use Rattle.region_sim.specs.OpenPlaces.{AgreeFrom, AreNextOpen, KeepsClosed};
+ghost use Rattle.region_sim.specs.Pack.{AreSlots, HasPackRoom, IsPackClear, IsWithin};
+ghost use Rattle.region_sim.specs.RegionHits.{AreApart, AreConcluded, AreCopied, AreFollowedAt};
+ghost use Rattle.region_sim.specs.RegionHits.{AreGathered};
+ghost use Rattle.region_sim.specs.RegionHits.{AreInOrder, AreOpen, AreSlotsConcluded, AreStill};
+ghost use Rattle.region_sim.specs.RegionHits.{HasAdded, HasSameRoom, HasTakenWord, HaveTakenBut};
+ghost use Rattle.region_sim.specs.RegionHits.{HaveTakenOpen, IsEndOfRegion, IsFollowedAt};
+ghost use Rattle.region_sim.specs.RegionHits.{IsHiddenStem, IsPackAsLarge, IsTakenOrFollowed};
+ghost use Rattle.region_sim.specs.RegionHits.{ServesRegions};
+ghost use Rattle.region_sim.specs.Sensitized.{HasBegun, HasRoomForRegions, IsSameRegion, IsViewOf};
 
+use crate::goal::Goal;
 use crate::pack::{Pack, Slot, propagate};
 use crate::region::{Approach, Arrival, Reach};
 use crate::sensitized::{Sensitized, follow_within};
 use crate::unit_simulation::{Unit, simulate_unit};
 use block_sim::Job;
-use block_sim::block_span::{BlockSpan, is_unit};
+use block_sim::block_span::BlockSpan;
 use block_sim::block_view::BlockView;
 use block_sim::launch_condition::launch_lanes;
 use block_sim::origin::{ListedClass, origin_of};
@@ -44,12 +46,11 @@ use wide_words::{Both, Copies, High, Low, Wide};
 /// followed to the stem of the region, and the stem is complemented once (Lee and Ha, HOPE: An
 /// Efficient Parallel Fault Simulator).
 ///
-/// It keeps the last test that it found for the class at each place of the list.
+/// Each class has a place in the list. What the goal of the simulation keeps of it stands there.
 #[derive(Drop)]
 pub struct RegionSimulation {
     changes: PropagationState,
     followed: Vec<Followed>,
-    hits: Vec<Option<u32>>,
     region: Sensitized,
     pack: Pack,
     unit: Unit,
@@ -63,7 +64,6 @@ impl Model for RegionSimulation {
 
     ghost view = { λ s. record {
       signals = length s.changes.overlay;
-      hits = s.hits.items;
       capacity = vec_capacity s.followed;
     } };
 
@@ -75,19 +75,16 @@ impl RegionSimulation {
     /// ([`RegionSimulation::make_room`]). It takes a few words and numbers for each signal.
     pub fn new(alloc: Global, job: &Job) -> Result<RegionSimulation, AllocError>
         ensures serves { IfOk result (λ simulation. ServesRegions simulation job.now 0) }
-        ensures none { IfOk result (λ simulation. simulation.hits ≡ []) }
     {
         let signals = job.circuit().signals();
         let changes = PropagationState::new(alloc, signals)?;
         let followed = Vec::new(alloc);
-        let hits = Vec::new(alloc);
         let region = Sensitized::new(alloc, signals)?;
         let pack = Pack::new(alloc, signals)?;
         let unit = Unit::new(alloc, signals)?;
         Ok(RegionSimulation {
             changes,
             followed,
-            hits,
             region,
             pack,
             unit,
@@ -101,80 +98,104 @@ impl RegionSimulation {
             → OnOk result (ServesRegions self.new job places) }
         ensures kept { (job : Parts) → ServesRegions self.old job 0
             → ServesRegions self.new job 0 }
-        ensures none { OnOk result (self.new.hits
-            ≡ self.old.hits ++ replicate (places - length self.old.hits) None) }
     {
-        let longest = self.hits.len().max(places);
-        self.hits.resize(longest, None)?;
         self.followed.clear();
         self.followed.reserve(places)
     }
 
-    /// Returns the last test, counted from 0, that it found for the class at a place of the list.
-    pub fn hit_at(&self, place: usize) -> Option<u32>
-        requires { place < length self.now.hits }
-        ensures { slice_get self.now.hits place ≡ Some result }
+    /// Simulates all regions whose classes are in a list, on the blocks of a span: the goal takes
+    /// the tests of these blocks of each class that is open. `next` has for each place a later one,
+    /// such that no place between the two has an open class. It takes no memory.
+    pub fn simulate<G: Goal>(
+        &mut self,
+        job: &Job,
+        span: BlockSpan,
+        rows: &[ListedClass],
+        next: &[usize],
+        goal: &G,
+        kept: &mut [G::Kept],
+    )
+        requires serves { ServesRegions self.old job.now (length rows.now) }
+        requires span { IsSweep (length job.now.tests.tests) span }
+        requires rows { All (IsListed job.now) rows.now }
+        requires places { length kept.old ≡ length rows.now }
+        requires next { AreNextOpen (G.wants goal.now) kept.old next.now }
+        ensures taken { HaveTaken (G.means goal.now) job.now span rows.now 0 (length rows.now)
+            kept.old kept.new }
+        ensures closed { KeepsClosed (G.wants goal.now) kept.old kept.new }
+        ensures places { length kept.new ≡ length kept.old }
+        ensures serves { ServesRegions self.new job.now (length rows.now) }
     {
-        self.hits[place]
+        let mut place = 0;
+        while place < rows.len() {
+            place = self.simulate_region(job, span, rows, next, place, goal, kept);
+        }
     }
 
     /// Simulates the region whose classes are in a list from a place on, with a few regions after
-    /// it: finds the first test that detects each of their open classes, on a block and the blocks
-    /// that are simulated with it ([`Job::last_together`]). A class is open if no first test of it
-    /// is known yet. `next` has for each place a later one, such that no place between the two has
-    /// an open class. Returns the place after the last class that was simulated. It takes no
-    /// memory.
+    /// it, on the blocks of a span. Returns the place after the last class that was simulated.
     #[inline(never)]
-    pub fn simulate_region(
+    fn simulate_region<G: Goal>(
         &mut self,
         job: &Job,
-        block: u32,
+        span: BlockSpan,
         rows: &[ListedClass],
         next: &[usize],
         from: usize,
-        firsts: &[Option<u32>],
+        goal: &G,
+        kept: &mut [G::Kept],
     ) -> usize
         requires serves { ServesRegions self.old job.now (length rows.now) }
-        requires block { block < blocks (length job.now.tests.tests) }
+        requires span { IsSweep (length job.now.tests.tests) span }
         requires rows { All (IsListed job.now) rows.now }
-        requires firsts { length firsts.now ≡ length rows.now }
-        requires next { AreNextOpen firsts.now next.now }
+        requires places { length kept.old ≡ length rows.now }
+        requires next { AreNextOpen (G.wants goal.now) kept.old next.now }
         requires from { from < length rows.now }
         ensures low { from < result }
         ensures within { result ≤ length rows.now }
-        ensures found { HaveFirsts job.now (unit_of (length job.now.tests.tests) block) rows.now
-            firsts.now from result self.new.hits }
+        ensures taken { HaveTaken (G.means goal.now) job.now span rows.now from result kept.old
+            kept.new }
         ensures others { (place : ℕ) → (place < from) ⊎ (result ≤ place)
-            → slice_get self.new.hits place ≡ slice_get self.old.hits place }
-        ensures known { (place test : ℕ) → slice_get firsts.now place ≡ Some (Some test)
-            → slice_get self.new.hits place ≡ slice_get self.old.hits place }
+            → slice_get kept.new place ≡ slice_get kept.old place }
+        ensures closed { KeepsClosed (G.wants goal.now) kept.old kept.new }
+        ensures places { length kept.new ≡ length kept.old }
         ensures serves { ServesRegions self.new job.now (length rows.now) }
     {
-        if is_unit(job.tests(), block) {
+        let _tests = job.tests();
+        if span.last - span.first > 1 {
             let unit = &mut self.unit;
             let pack = &mut self.pack;
-            let hits = self.hits.as_mut_slice();
-            let group = block / 2;
-            return simulate_unit(job, group, rows, next, from, firsts, unit, pack, hits);
+            let group = span.first / 2;
+            return simulate_unit(job, group, rows, next, from, unit, pack, goal, kept);
         }
-        let span = BlockSpan::from(job.tests(), block);
         let view = view_of(job, span);
         let room = stems_at_once(span);
         let region = &mut self.region;
         let changes = &mut self.changes;
         let followed = &mut self.followed;
         let pack = &mut self.pack;
-        let hits = self.hits.as_mut_slice();
         followed.clear();
         pack.slots.clear();
         let stems = &mut pack.slots;
         let end = gather_regions(
-            job, view, span, rows, next, from, firsts, room, region, changes, followed, stems, hits,
+            job, view, span, rows, next, from, room, region, changes, followed, stems, goal, kept,
         );
         let all = followed.as_slice();
-        flip_all(job, view, span, all, pack, hits);
+        flip_all(job, view, span, all, pack, goal, kept);
         end
     }
+}
+
+/// Returns the blocks that are simulated at once from a block on ([`Job::last_together`]).
+pub fn sweep_from(job: &Job, block: u32) -> BlockSpan
+    requires { block < blocks (length job.now.tests.tests) }
+    ensures sweep { IsSweep (length job.now.tests.tests) result }
+    ensures first { result.first ≡ block }
+    ensures ordered { block ≤ result.last }
+    ensures within { result.last < blocks (length job.now.tests.tests) }
+{
+    let last = job.last_together(block);
+    BlockSpan { first: block, last }
 }
 
 /// Returns how many stems a pack has at most on a span.
@@ -184,33 +205,32 @@ fn stems_at_once(span: BlockSpan) -> usize
     if span.first == span.last { 8 } else { 4 }
 }
 
-/// Follows the open classes of one region after the other to their stems, from a place on, until so
-/// slot has a stem or the list ends. Returns the place after the last class that was
+/// Follows the open classes of one region after the other to their stems, from a place on, until
+/// this many slots have a stem or the list ends. Returns the place after the last class that was
 /// followed.
-fn gather_regions(
+fn gather_regions<G: Goal>(
     job: &Job,
     view: BlockView<'_>,
     span: BlockSpan,
     rows: &[ListedClass],
     next: &[usize],
     from: usize,
-    firsts: &[Option<u32>],
     room: usize,
     region: &mut Sensitized,
     changes: &mut PropagationState,
     followed: &mut Vec<Followed>,
     stems: &mut Vec<Slot>,
-    hits: &mut [Option<u32>],
+    goal: &G,
+    kept: &mut [G::Kept],
 ) -> usize
     requires span { IsSpan (length job.now.tests.tests) span }
     requires low { span.first < 2 ^ 20 }
     requires room { HasRoomFor job.now.circuit changes.old }
     requires clear { IsClear changes.old }
     requires rows { All (IsListed job.now) rows.now }
-    requires firsts { length firsts.now ≡ length rows.now }
-    requires next { AreNextOpen firsts.now next.now }
+    requires next { AreNextOpen (G.wants goal.now) kept.old next.now }
     requires within { from < length rows.now }
-    requires places { length rows.now ≤ length hits.old }
+    requires places { length kept.old ≡ length rows.now }
     requires capacity { length rows.now ≤ vec_capacity followed.old }
     requires none { followed.old.items ≡ [] }
     requires len { vec_len followed.old ≡ 0 }
@@ -221,13 +241,13 @@ fn gather_regions(
     ensures low { from < result }
     ensures within { result ≤ length rows.now }
     ensures few { length stems.new.items ≤ room }
-    ensures gathered { AreGathered job.now view.entry.circuit.now.arranged span rows.now firsts.now
-        from result stems.new.items followed.new.items hits.new }
+    ensures gathered { AreGathered (G.wants goal.now) (G.means goal.now) job.now
+        view.entry.circuit.now.arranged span rows.now from result stems.new.items
+        followed.new.items kept.old kept.new }
     ensures others { (place : ℕ) → (place < from) ⊎ (result ≤ place)
-        → slice_get hits.new place ≡ slice_get hits.old place }
-    ensures known { (place test : ℕ) → slice_get firsts.now place ≡ Some (Some test)
-        → slice_get hits.new place ≡ slice_get hits.old place }
-    ensures places { length hits.new ≡ length hits.old }
+        → slice_get kept.new place ≡ slice_get kept.old place }
+    ensures closed { KeepsClosed (G.wants goal.now) kept.old kept.new }
+    ensures places { length kept.new ≡ length kept.old }
     ensures capacity { (vec_capacity followed.new ≡ vec_capacity followed.old)
         × (vec_capacity stems.new ≡ vec_capacity stems.old) }
     ensures room { IsAsLarge changes.old changes.new }
@@ -241,7 +261,7 @@ fn gather_regions(
             return at;
         }
         at = add_region(
-            job, view, span, rows, next, at, firsts, region, changes, followed, stems, hits,
+            job, view, span, rows, next, at, region, changes, followed, stems, goal, kept,
         );
     }
     at
@@ -250,29 +270,28 @@ fn gather_regions(
 /// Follows the open classes of a region to its stem, which gets the next slot if some came to it.
 /// Returns the first place with an open class of another region, or the end of the list. If the
 /// class at the place is not open, it returns the next place alone.
-fn add_region(
+fn add_region<G: Goal>(
     job: &Job,
     view: BlockView<'_>,
     span: BlockSpan,
     rows: &[ListedClass],
     next: &[usize],
     from: usize,
-    firsts: &[Option<u32>],
     region: &mut Sensitized,
     changes: &mut PropagationState,
     followed: &mut Vec<Followed>,
     stems: &mut Vec<Slot>,
-    hits: &mut [Option<u32>],
+    goal: &G,
+    kept: &mut [G::Kept],
 ) -> usize
     requires span { IsSpan (length job.now.tests.tests) span }
     requires low { span.first < 2 ^ 20 }
     requires room { HasRoomFor job.now.circuit changes.old }
     requires clear { IsClear changes.old }
     requires rows { All (IsListed job.now) rows.now }
-    requires firsts { length firsts.now ≡ length rows.now }
-    requires next { AreNextOpen firsts.now next.now }
+    requires next { AreNextOpen (G.wants goal.now) kept.old next.now }
     requires within { from < length rows.now }
-    requires places { length rows.now ≤ length hits.old }
+    requires places { length kept.old ≡ length rows.now }
     requires capacity { length rows.now ≤ vec_capacity followed.old }
     requires len { vec_len followed.old ≤ from }
     requires view { IsViewOf job.now span view }
@@ -282,32 +301,33 @@ fn add_region(
     ensures within { result ≤ length rows.now }
     ensures len { vec_len followed.new ≤ result }
     ensures few { length stems.new.items ≤ length stems.old.items + 1 }
-    ensures gathered { (first : ℕ) → first ≤ from
-        → AreGathered job.now view.entry.circuit.now.arranged span rows.now firsts.now first from
-        stems.old.items followed.old.items hits.old
-        → AreGathered job.now view.entry.circuit.now.arranged span rows.now firsts.now first result
-        stems.new.items followed.new.items hits.new }
+    ensures gathered { (first : ℕ) (before : List G.Kept) → first ≤ from
+        → AgreeFrom from before kept.old
+        → AreGathered (G.wants goal.now) (G.means goal.now) job.now
+        view.entry.circuit.now.arranged span rows.now first from stems.old.items
+        followed.old.items before kept.old
+        → AreGathered (G.wants goal.now) (G.means goal.now) job.now
+        view.entry.circuit.now.arranged span rows.now first result stems.new.items
+        followed.new.items before kept.new }
     ensures others { (place : ℕ) → (place < from) ⊎ (result ≤ place)
-        → slice_get hits.new place ≡ slice_get hits.old place }
-    ensures known { (place test : ℕ) → slice_get firsts.now place ≡ Some (Some test)
-        → slice_get hits.new place ≡ slice_get hits.old place }
-    ensures places { length hits.new ≡ length hits.old }
+        → slice_get kept.new place ≡ slice_get kept.old place }
+    ensures closed { KeepsClosed (G.wants goal.now) kept.old kept.new }
+    ensures places { length kept.new ≡ length kept.old }
     ensures capacity { (vec_capacity followed.new ≡ vec_capacity followed.old)
         × (vec_capacity stems.new ≡ vec_capacity stems.old) }
     ensures room { IsAsLarge changes.old changes.new }
     ensures regions { HasSameRoom region.old region.new }
     ensures clear { IsClear changes.new }
 {
-    match first_at(firsts, from) {
-        Some(_test) => return next_open(next, from),
-        None => {}
+    if !goal.is_open(&kept[from]) {
+        return next_open(next, from);
     }
     let row = row_at(rows, from);
     let stem = view.circuit.place_of(row.stem);
     let begin = followed.as_slice().len();
     region.begin(view, stem);
     let at = follow_region(
-        job, view, span, rows, next, from, firsts, region, changes, followed, hits,
+        job, view, span, rows, next, from, region, changes, followed, goal, kept,
     );
     let end = followed.as_slice().len();
     add_slot(stems, Slot { stem, begin, end });
@@ -327,108 +347,121 @@ fn add_slot(stems: &mut Vec<Slot>, slot: Slot)
     }
 }
 
-/// Complements the stems of a pack at once, each in lanes of its own, and keeps the first tests of
-/// all classes that came to them.
-fn flip_all(
+/// Complements the stems of a pack at once, each in lanes of its own, and lets a goal take the
+/// tests of all classes that came to them.
+fn flip_all<G: Goal>(
     job: &Job,
     view: BlockView<'_>,
     span: BlockSpan,
     followed: &[Followed],
     pack: &mut Pack,
-    hits: &mut [Option<u32>],
+    goal: &G,
+    kept: &mut [G::Kept],
 )
     requires span { IsSpan (length job.now.tests.tests) span }
     requires low { span.first < 2 ^ 20 }
     requires view { IsViewOf job.now span view }
-    requires places { (one : Followed) → Contains followed.now one → one.place < length hits.old }
+    requires places { (one : Followed) → Contains followed.now one → one.place < length kept.old }
+    requires ordered { AreInOrder followed.now }
     requires room { HasPackRoom view.circuit.now.arranged pack.old }
     requires clear { IsPackClear pack.old }
     requires few { (length pack.old.slots.items ≤ 4)
         ⊎ ((length pack.old.slots.items ≤ 8) × (span.first ≡ span.last)) }
     requires slots { All (IsWithin followed.now) pack.old.slots.items }
+    requires apart { AreApart pack.old.slots.items }
     requires stems { All (IsHiddenStem view.circuit.now.arranged) pack.old.slots.items }
-    ensures found { (rows : List ListedClass) (firsts : List (Option ℕ)) (from to : ℕ)
-        → AreGathered job.now view.entry.circuit.now.arranged span rows firsts from to
-        pack.old.slots.items followed.now hits.old
-        → HaveFirsts job.now span rows firsts from to hits.new }
-    ensures kept { (place : ℕ) → (IsFollowedAt followed.now place → ⊥)
-        → slice_get hits.new place ≡ slice_get hits.old place }
-    ensures places { length hits.new ≡ length hits.old }
+    ensures taken { (rows : List ListedClass) (from to : ℕ) (before : List G.Kept)
+        → AreGathered (G.wants goal.now) (G.means goal.now) job.now
+        view.entry.circuit.now.arranged span rows from to pack.old.slots.items followed.now before
+        kept.old
+        → HaveTakenOpen (G.wants goal.now) (G.means goal.now) job.now span rows from to before
+        kept.new }
+    ensures others { (place : ℕ) → (IsFollowedAt followed.now place → ⊥)
+        → slice_get kept.new place ≡ slice_get kept.old place }
+    ensures places { length kept.new ≡ length kept.old }
     ensures room { IsPackAsLarge pack.old pack.new }
     ensures clear { IsPackClear pack.new }
 {
     if span.first < span.last {
         let copies = Both { words: view.good };
-        flip_pack(job, view, span, copies, followed, pack, hits);
+        flip_pack(job, view, span, copies, followed, pack, goal, kept);
         return;
     }
     if span.first % 2 == 0 {
         let copies = Low { words: view.good };
-        flip_pack(job, view, span, copies, followed, pack, hits);
+        flip_pack(job, view, span, copies, followed, pack, goal, kept);
         return;
     }
     let copies = High { words: view.good };
-    flip_pack(job, view, span, copies, followed, pack, hits);
+    flip_pack(job, view, span, copies, followed, pack, goal, kept);
 }
 
-/// Complements the stems of a pack on copies of the tests of a span, and keeps the first tests of
-/// all classes that came to them.
+/// Complements the stems of a pack on copies of the tests of a span, and lets a goal take the tests
+/// of all classes that came to them.
 #[inline(never)]
-fn flip_pack<C: Copies>(
+fn flip_pack<C: Copies, G: Goal>(
     job: &Job,
     view: BlockView<'_>,
     span: BlockSpan,
     copies: C,
     followed: &[Followed],
     pack: &mut Pack,
-    hits: &mut [Option<u32>],
+    goal: &G,
+    kept: &mut [G::Kept],
 )
     requires span { IsSpan (length job.now.tests.tests) span }
     requires low { span.first < 2 ^ 20 }
     requires view { IsViewOf job.now span view }
-    requires places { (one : Followed) → Contains followed.now one → one.place < length hits.old }
+    requires places { (one : Followed) → Contains followed.now one → one.place < length kept.old }
+    requires ordered { AreInOrder followed.now }
     requires room { HasPackRoom view.circuit.now.arranged pack.old }
     requires clear { IsPackClear pack.old }
     requires slots { AreSlots C.layout view.circuit.now.arranged pack.old.slots.items followed.now }
+    requires apart { AreApart pack.old.slots.items }
     requires copied { AreCopied C.layout (length job.now.tests.tests) span }
     requires rows { (slot : ℕ) → C.rows copies slot ≡ view.good.now }
-    ensures found { (rows : List ListedClass) (firsts : List (Option ℕ)) (from to : ℕ)
-        → AreGathered job.now view.entry.circuit.now.arranged span rows firsts from to
-        pack.old.slots.items followed.now hits.old
-        → HaveFirsts job.now span rows firsts from to hits.new }
-    ensures kept { (place : ℕ) → (IsFollowedAt followed.now place → ⊥)
-        → slice_get hits.new place ≡ slice_get hits.old place }
-    ensures places { length hits.new ≡ length hits.old }
+    ensures taken { (rows : List ListedClass) (from to : ℕ) (before : List G.Kept)
+        → AreGathered (G.wants goal.now) (G.means goal.now) job.now
+        view.entry.circuit.now.arranged span rows from to pack.old.slots.items followed.now before
+        kept.old
+        → HaveTakenOpen (G.wants goal.now) (G.means goal.now) job.now span rows from to before
+        kept.new }
+    ensures others { (place : ℕ) → (IsFollowedAt followed.now place → ⊥)
+        → slice_get kept.new place ≡ slice_get kept.old place }
+    ensures places { length kept.new ≡ length kept.old }
     ensures room { IsPackAsLarge pack.old pack.new }
     ensures clear { IsPackClear pack.new }
 {
-    let seen = propagate(view.circuit, copies, followed, pack);
+    let seen = propagate::<C, G>(view.circuit, copies, followed, pack);
     let stems = pack.slots.as_slice();
-    conclude_slots(span, copies, seen, followed, stems, hits);
+    conclude_slots(span, copies, seen, followed, stems, goal, kept);
 }
 
-/// Keeps the first tests of the followed classes of each slot.
-fn conclude_slots<C: Copies>(
+/// Lets a goal take the tests of the followed classes of each slot.
+fn conclude_slots<C: Copies, G: Goal>(
     span: BlockSpan,
     copies: C,
     seen: Wide,
     followed: &[Followed],
     stems: &[Slot],
-    hits: &mut [Option<u32>],
+    goal: &G,
+    kept: &mut [G::Kept],
 )
     requires low { span.first < 2 ^ 20 }
-    requires places { (one : Followed) → Contains followed.now one → one.place < length hits.old }
+    requires places { (one : Followed) → Contains followed.now one → one.place < length kept.old }
+    requires ordered { AreInOrder followed.now }
     requires slots { length stems.now ≤ slots C.layout }
     requires within { All (IsWithin followed.now) stems.now }
-    ensures places { length hits.new ≡ length hits.old }
-    ensures concluded { AreSlotsConcluded C.layout span (number seen) followed.now stems.now
-        (length stems.now) hits.old hits.new }
+    requires apart { AreApart stems.now }
+    ensures places { length kept.new ≡ length kept.old }
+    ensures concluded { AreSlotsConcluded G.ALL_LANES (G.means goal.now) C.layout span
+        (number seen) followed.now stems.now (length stems.now) kept.old kept.new }
 {
     for slot in 0..stems.len() {
         let at = stems[slot];
         let own = &followed[at.begin..at.end];
         let word = copies.part(slot, seen);
-        conclude(span, word, own, hits);
+        conclude(span, word, own, goal, kept);
     }
 }
 
@@ -465,51 +498,61 @@ pub fn view_of(job: &Job, span: BlockSpan) -> BlockView<'_>
 
 /// Follows the open classes of a region, from a place on. Returns the first place with an open
 /// class of another region, or the end of the list.
-fn follow_region(
+fn follow_region<G: Goal>(
     job: &Job,
     view: BlockView<'_>,
     span: BlockSpan,
     rows: &[ListedClass],
     next: &[usize],
     from: usize,
-    firsts: &[Option<u32>],
     region: &mut Sensitized,
     changes: &mut PropagationState,
     followed: &mut Vec<Followed>,
-    hits: &mut [Option<u32>],
+    goal: &G,
+    kept: &mut [G::Kept],
 ) -> usize
     requires span { IsSpan (length job.now.tests.tests) span }
     requires low { span.first < 2 ^ 20 }
     requires room { HasRoomFor job.now.circuit changes.old }
     requires clear { IsClear changes.old }
     requires rows { All (IsListed job.now) rows.now }
-    requires firsts { length firsts.now ≡ length rows.now }
-    requires next { AreNextOpen firsts.now next.now }
+    requires next { AreNextOpen (G.wants goal.now) kept.old next.now }
     requires within { from < length rows.now }
-    requires places { length rows.now ≤ length hits.old }
+    requires places { length kept.old ≡ length rows.now }
     requires capacity { length rows.now ≤ vec_capacity followed.old }
     requires len { vec_len followed.old ≤ from }
     requires view { IsViewOf job.now span view }
     requires begun { (first : ListedClass) × (slice_get rows.now from ≡ Some first)
         × HasBegun job.now view first.stem region.old }
-    ensures end { IsEndOfRegion rows.now firsts.now from result }
-    ensures found { (first : ℕ) → first ≤ from
-        → HaveFirstsBut job.now span rows.now firsts.now followed.old.items first from hits.old
-        → HaveFirstsBut job.now span rows.now firsts.now followed.new.items first result hits.new }
+    ensures end { IsEndOfRegion (G.wants goal.now) rows.now kept.old from result }
+    ensures taken { (first : ℕ) (before : List G.Kept) → first ≤ from
+        → AgreeFrom from before kept.old
+        → HaveTakenBut (G.wants goal.now) (G.means goal.now) job.now span rows.now
+        followed.old.items first from before kept.old
+        → HaveTakenBut (G.wants goal.now) (G.means goal.now) job.now span rows.now
+        followed.new.items first result before kept.new }
+    ensures still { (first : ℕ) (before : List G.Kept) → first ≤ from
+        → AgreeFrom from before kept.old → AreFollowedAt rows.now first from followed.old.items
+        → AreStill followed.old.items before kept.old
+        → AreStill followed.new.items before kept.new }
+    ensures ordered { (first : ℕ) → first ≤ from
+        → AreFollowedAt rows.now first from followed.old.items
+        → AreInOrder followed.old.items → AreInOrder followed.new.items }
     ensures at { (first : ℕ) → first ≤ from → AreFollowedAt rows.now first from followed.old.items
         → AreFollowedAt rows.now first result followed.new.items }
     ensures added { (row : ListedClass) → slice_get rows.now from ≡ Some row
         → HasAdded job.now span row.stem followed.old.items followed.new.items }
-    ensures idle { AreOpen firsts.now followed.old.items → AreOpen firsts.now followed.new.items }
+    ensures idle { (before : List G.Kept) → AgreeFrom from before kept.old
+        → AreOpen (G.wants goal.now) before followed.old.items
+        → AreOpen (G.wants goal.now) before followed.new.items }
     ensures hidden { (followed.new.items ≡ followed.old.items)
         ⊎ (IsObserved view.entry.circuit.now.arranged region.old.stem → ⊥) }
     ensures len { vec_len followed.new ≤ result }
     ensures others { (place : ℕ) → (place < from) ⊎ (result ≤ place)
-        → slice_get hits.new place ≡ slice_get hits.old place }
-    ensures known { (place test : ℕ) → slice_get firsts.now place ≡ Some (Some test)
-        → slice_get hits.new place ≡ slice_get hits.old place }
+        → slice_get kept.new place ≡ slice_get kept.old place }
+    ensures closed { KeepsClosed (G.wants goal.now) kept.old kept.new }
     ensures same { IsSameRegion region.old region.new }
-    ensures places { length hits.new ≡ length hits.old }
+    ensures places { length kept.new ≡ length kept.old }
     ensures capacity { vec_capacity followed.new ≡ vec_capacity followed.old }
     ensures room { IsAsLarge changes.old changes.new }
     ensures clear { IsClear changes.new }
@@ -517,33 +560,24 @@ fn follow_region(
     let stem = row_at(rows, from).stem;
     let mut place = from;
     while place < rows.len() {
-        match first_at(firsts, place) {
-            Some(_test) => {
-                place = next_open(next, place);
-                continue;
-            }
-            None => {}
+        if !goal.is_open(&kept[place]) {
+            place = next_open(next, place);
+            continue;
         }
         let row = row_at(rows, place);
         if row.stem != stem {
             return place;
         }
-        follow_row(job, view, span, row, place, region, changes, followed, hits);
+        follow_row(
+            job, view, span, row, place, region, changes, followed, goal, kept,
+        );
         place = next_open(next, place);
     }
     place
 }
 
-/// Returns the first test that is known for the class at a place.
-pub fn first_at(firsts: &[Option<u32>], place: usize) -> Option<u32>
-    requires { place < length firsts.now }
-    ensures { slice_get firsts.now place ≡ Some result }
-{
-    firsts[place]
-}
-
-/// Follows one class of a region, and keeps its first test if it is known at once.
-fn follow_row(
+/// Follows one class of a region, and lets a goal take its tests if they are known at once.
+fn follow_row<G: Goal>(
     job: &Job,
     view: BlockView<'_>,
     span: BlockSpan,
@@ -552,19 +586,20 @@ fn follow_row(
     region: &mut Sensitized,
     changes: &mut PropagationState,
     followed: &mut Vec<Followed>,
-    hits: &mut [Option<u32>],
+    goal: &G,
+    kept: &mut [G::Kept],
 )
     requires span { IsSpan (length job.now.tests.tests) span }
     requires low { span.first < 2 ^ 20 }
     requires room { HasRoomFor job.now.circuit changes.old }
     requires clear { IsClear changes.old }
     requires row { IsListed job.now row }
-    requires place { place < length hits.old }
+    requires place { place < length kept.old }
     requires capacity { vec_len followed.old < vec_capacity followed.old }
     requires view { IsViewOf job.now span view }
     requires begun { HasBegun job.now view row.stem region.old }
-    ensures found { IsFoundOrFollowed job.now span row place followed.old.items followed.new.items
-        hits.old hits.new }
+    ensures taken { IsTakenOrFollowed (G.means goal.now) job.now span row place followed.old.items
+        followed.new.items kept.old kept.new }
     ensures hidden { (followed.new.items ≡ followed.old.items)
         ⊎ (IsObserved view.entry.circuit.now.arranged region.old.stem → ⊥) }
     ensures len { vec_len followed.new ≤ vec_len followed.old + 1 }
@@ -575,7 +610,7 @@ fn follow_row(
     ensures clear { IsClear changes.new }
 {
     match follow_listed(job, view, span, row, region, changes) {
-        Approach::Known(word) => keep(hits, place, test_of(span, word)),
+        Approach::Known(word) => take_at(goal, span.first / 2, word, kept, place),
         Approach::Stem(at) => followed.push_reserved(Followed {
             class: row.class,
             place,
@@ -634,36 +669,38 @@ pub(crate) fn follow_listed(
     }
 }
 
-/// Keeps the first tests of all followed classes.
-fn conclude(span: BlockSpan, seen: u128, followed: &[Followed], hits: &mut [Option<u32>])
+/// Lets a goal take the tests of all followed classes.
+fn conclude<G: Goal>(
+    span: BlockSpan,
+    seen: u128,
+    followed: &[Followed],
+    goal: &G,
+    kept: &mut [G::Kept],
+)
     requires span { span.first < 2 ^ 20 }
-    requires places { (one : Followed) → Contains followed.now one → one.place < length hits.old }
-    ensures places { length hits.new ≡ length hits.old }
-    ensures kept { (place : ℕ) → (IsFollowedAt followed.now place → ⊥)
-        → slice_get hits.new place ≡ slice_get hits.old place }
-    ensures detection { AreConcluded span seen followed.now hits.new }
+    requires places { (one : Followed) → Contains followed.now one → one.place < length kept.old }
+    requires ordered { AreInOrder followed.now }
+    ensures places { length kept.new ≡ length kept.old }
+    ensures others { (place : ℕ) → (IsFollowedAt followed.now place → ⊥)
+        → slice_get kept.new place ≡ slice_get kept.old place }
+    ensures detection { AreConcluded G.ALL_LANES (G.means goal.now) span seen followed.now kept.old
+        kept.new }
 {
     for one in followed {
-        keep(hits, one.place, test_of(span, one.lanes & seen));
+        take_at(goal, span.first / 2, one.lanes & seen, kept, one.place);
     }
 }
 
-/// Keeps the result of the class at a place.
-pub fn keep(hits: &mut [Option<u32>], place: usize, hit: Option<u32>)
-    requires { place < length hits.old }
-    ensures { hits.new ≡ slice_set hits.old place hit }
+/// Lets a goal take the tests of a group of a class, which stands at a place of a list.
+#[inline(always)]
+pub fn take_at<G: Goal>(goal: &G, group: u32, lanes: u128, kept: &mut [G::Kept], place: usize)
+    requires group { group < 2 ^ 21 }
+    requires place { place < length kept.old }
+    ensures places { length kept.new ≡ length kept.old }
+    ensures others { (other : ℕ) → other ≢ place
+        → slice_get kept.new other ≡ slice_get kept.old other }
+    ensures taken { HasTakenWord G.ALL_LANES (G.means goal.now) group lanes kept.old
+        kept.new place }
 {
-    hits[place] = hit;
-}
-
-/// Returns the test of the least lane of a word that is 1.
-fn test_of(span: BlockSpan, word: u128) -> Option<u32>
-    requires { span.first < 2 ^ 20 }
-    ensures { IsTestOf span word result }
-{
-    if word == 0 {
-        None
-    } else {
-        Some(span.first / 2 * 128 + word.trailing_zeros())
-    }
+    goal.take(&mut kept[place], group, lanes);
 }

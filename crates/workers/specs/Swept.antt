@@ -1,11 +1,12 @@
 -- The classes of a job that a run of one thread has swept over, up to some block.
-use Rattle.std.specs.Prelude.{◌≡◌, ℕ, ◌+◌, ◌*◌, ◌<◌, List, All, Option, Some, None, length}
+use Rattle.std.specs.Prelude.{◌≡◌, ℕ, ◌*◌, ◌<◌, List, All, Option, Some, length}
 use Rattle.std.specs.Prelude.{slice_get, slice_index}
 use Rattle.fault_model.specs.Collapse.{representatives}
 use Rattle.fault_model.specs.Fault.{Fault}
 use Rattle.flat_circuit.specs.declared.origin.ListedClass.{ListedClass}
 use Rattle.block_sim.specs.Listed.{IsListed}
 use Rattle.block_sim.specs.Parts.{HasRoom, Parts}
+use Rattle.region_sim.specs.OpenPlaces.{AreSuccessors}
 use Rattle.region_sim.specs.RegionHits.{ServesRegions}
 use Rattle.workers.specs.declared.swept.Swept.{Swept}
 use Rattle.workers.specs.Verdict.{IsFirstBelow}
@@ -22,23 +23,10 @@ AreSweptFirsts job bound rows firsts = (k : ℕ) (row : ListedClass) (first : Op
     → slice_get rows k ≡ Some row → slice_get firsts k ≡ Some first
     → IsSweptFirst job bound row.class first
 
--- the next place of each place is the one after it
-abbrev pub AreSuccessors : List ℕ → Type 0
-AreSuccessors next = (p q : ℕ) → slice_get next p ≡ Some q → q ≡ p + 1
-
 -- the class stands at its place
 abbrev pub IsPlaced : List ListedClass → List ℕ → ℕ → Type 0
 IsPlaced rows places class = (row : ListedClass)
     × (slice_get rows (slice_index places class) ≡ Some row) × (row.class ≡ class)
-
--- after a pass over a list: what was known stays, and elsewhere stands the first test that was
--- found
-pub record AreTold (hits before after : List (Option ℕ)) : Type 0 where
-  pub count : length after ≡ length before
-  pub known : (k test : ℕ) → slice_get before k ≡ Some (Some test)
-      → slice_get after k ≡ Some (Some test)
-  pub told : (k : ℕ) (hit : Option ℕ) → slice_get before k ≡ Some None
-      → slice_get hits k ≡ Some hit → slice_get after k ≡ Some hit
 
 -- it serves the job: it has room, and knows the first tests of all classes on the blocks that it
 -- has swept

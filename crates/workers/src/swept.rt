@@ -1,19 +1,16 @@
 //! The outcomes of a job's pieces, found by a run of one thread that goes on block by block.
 
-ghost use Rattle.std.specs.Prelude.{◌≡◌, ◌<◌, ◌≤◌, ◌^◌, All, IfOk};
+ghost use Rattle.std.specs.Prelude.{◌≡◌, ◌<◌, ◌≤◌, ◌^◌, IfOk};
 ghost use Rattle.std.specs.Prelude.{length};
 ghost use Rattle.patterns.specs.Tests.{blocks};
-ghost use Rattle.flat_circuit.specs.BlockSpans.{unit_of};
 ghost use Rattle.block_sim.specs.First.{IsTrueOutcome};
-ghost use Rattle.block_sim.specs.Listed.{IsListed};
-ghost use Rattle.region_sim.specs.OpenPlaces.{AreNextOpen};
-ghost use Rattle.region_sim.specs.RegionHits.{HaveFirsts, ServesRegions};
-ghost use Rattle.workers.specs.Swept.{AreSuccessors, AreTold, IsSweptOf};
+ghost use Rattle.region_sim.specs.OpenPlaces.{AreSuccessors};
+ghost use Rattle.workers.specs.Swept.{IsSweptOf};
 
 use block_sim::{Job, ListedClass, Workspace, first_hit};
 use patterns::Outcome;
-use region_sim::RegionSimulation;
 use region_sim::class_order::{ClassOrder, class_order, rows_of};
+use region_sim::{FirstTest, RegionSimulation, sweep_from};
 use std::alloc::{AllocError, Global};
 
 /// A run of all classes, as far as some piece asked for it. It sweeps over the blocks in their
@@ -108,49 +105,12 @@ impl Swept {
         ensures further { self.old.blocks < self.new.blocks }
     {
         let _tests = job.tests();
-        let last = job.last_together(self.blocks);
+        let span = sweep_from(job, self.blocks);
         let rows = self.rows.as_slice();
         let next = self.next.as_slice();
         let firsts = self.firsts.as_mut_slice();
-        simulate_all(job, self.blocks, rows, next, firsts, &mut self.simulation);
-        tell(&self.simulation, firsts);
-        self.blocks = last + 1;
-    }
-}
-
-/// Simulates the classes of a list of which no first test is known, on a block and on those that
-/// are simulated together with it.
-fn simulate_all(
-    job: &Job,
-    block: u32,
-    rows: &[ListedClass],
-    next: &[usize],
-    firsts: &[Option<u32>],
-    simulation: &mut RegionSimulation,
-)
-    requires serves { ServesRegions simulation.old job.now (length rows.now) }
-    requires block { block < blocks (length job.now.tests.tests) }
-    requires rows { All (IsListed job.now) rows.now }
-    requires firsts { length firsts.now ≡ length rows.now }
-    requires next { AreNextOpen firsts.now next.now }
-    ensures serves { ServesRegions simulation.new job.now (length rows.now) }
-    ensures found { HaveFirsts job.now (unit_of (length job.now.tests.tests) block) rows.now
-        firsts.now 0 (length rows.now) simulation.new.hits }
-{
-    let mut place = 0;
-    while place < rows.len() {
-        place = simulation.simulate_region(job, block, rows, next, place, firsts);
-    }
-}
-
-/// Keeps the first tests that were found of the classes of which none is known.
-fn tell(simulation: &RegionSimulation, firsts: &mut [Option<u32>])
-    requires { length firsts.old ≤ length simulation.now.hits }
-    ensures { AreTold simulation.now.hits firsts.old firsts.new }
-{
-    for place in 0..firsts.len() {
-        if firsts[place].is_none() {
-            firsts[place] = simulation.hit_at(place);
-        }
+        self.simulation
+            .simulate(job, span, rows, next, &FirstTest, firsts);
+        self.blocks = span.last + 1;
     }
 }

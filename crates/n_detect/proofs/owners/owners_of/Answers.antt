@@ -1,1 +1,0 @@
-use Rattle.n_detect.proofs.owners.owners_of.Goals as goal

@@ -7,7 +7,7 @@ use Rattle.region_sim.proofs.Public.{all_within}
 use Rattle.n_detect.specs.Share.{IsOpen}
 use Rattle.n_detect.proofs.EachPushed.{push_each}
 use Rattle.n_detect.proofs.RowsOf.{row_more, row_skipped}
-use Rattle.n_detect.proofs.Tallies.{all_listed}
+use Rattle.n_detect.proofs.RowLists.{all_listed}
 use Rattle.n_detect.proofs.share.rows_of.Goals as goal
 
 pub loop-class-init : goal.loop-class-init

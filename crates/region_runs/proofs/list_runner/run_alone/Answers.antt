@@ -1,6 +1,7 @@
 use Rattle.std.proofs.Common.{◌≡◌, ◌∙◌, ap, arith, length, subst, sym}
 use Rattle.std.proofs.lemmas.List.{with_items_is}
 use Rattle.region_runs.specs.StretchRuns.{AreFoundUpTo}
+use Rattle.region_sim.specs.Goals.{is_unknown}
 use Rattle.region_sim.specs.OpenPlaces.{AreNextOpen}
 use Rattle.workers.specs.Stops.{no_stop}
 use Rattle.workers.specs.Verdict.{AreClassFirsts}
@@ -25,10 +26,11 @@ run_list-stop-requires-clause-none c =
 
 pub run_list-stop-requires-clause-next : goal.run_list-stop-requires-clause-next
 run_list-stop-requires-clause-next c =
-    subst (λ l. AreNextOpen l c.as_mut_slice-next.result.now)
+    subst (λ l. AreNextOpen is_unknown l c.as_mut_slice-next.result.now)
     (sym c.as_mut_slice-found.ensures.value)
-    (subst (AreNextOpen c.in_ok-firsts.firsts.items) (sym c.as_mut_slice-next.ensures.value)
-    (subst (λ l. AreNextOpen l c.in_ok-open.open.items) c.as_slice.ensures.value
+    (subst (AreNextOpen is_unknown c.in_ok-firsts.firsts.items)
+    (sym c.as_mut_slice-next.ensures.value)
+    (subst (λ l. AreNextOpen is_unknown l c.in_ok-open.open.items) c.as_slice.ensures.value
     c.in_ok-open.ensures))
 
 pub returns-clause-firsts : goal.returns-clause-firsts

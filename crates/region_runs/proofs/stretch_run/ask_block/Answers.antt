@@ -1,7 +1,9 @@
-use Rattle.std.proofs.Common.{◌≡◌, ◌∙◌, ap, arith, inl, inr, subst, sym}
-use Rattle.std.specs.Prelude.{None, Some, slice_get}
+use Rattle.std.proofs.Common.{◌≡◌, ◌+◌, ◌∙◌, ap, arith, inl, inr, subst, sym}
+use Rattle.std.specs.Prelude.{Some, slice_get}
 use Rattle.std.proofs.lemmas.Bool.{cases_eq, cases_lt, false≢true}
 use Rattle.flat_circuit.specs.declared.origin.ListedClass.{ListedClass}
+use Rattle.region_sim.specs.Goals.{is_unknown}
+use Rattle.region_runs.proofs.OpenClasses.{not_settled}
 use Rattle.region_runs.proofs.stretch_run.ask_block.Goals as goal
 
 pub loop-place-init : goal.loop-place-init
@@ -42,10 +44,8 @@ loop-place-preserved g c =
               (g.G.Gate.stops c.args.gate.now).must c.args.worker r.class c.args.block) rows
               must) in
               false≢true (sym off ∙ c.pass.ensures.passing c.requires.passing))
-          | inr ne ↦ (let known = c.requires.next.between place to step k
-              (omega (arith, x, ne)) lt in
-              let bad : Some None ≡ Some (Some known.0) = sym idle.unknown ∙ known.1 in
-              absurd (cc))
+          | inr ne ↦ not_settled is_unknown c.args.rows.now c.args.firsts.now (place + 1) to k row
+              (c.requires.next.between place to step) (omega (arith, x, ne)) lt idle
         ]
       ]);
     }

@@ -1,5 +1,6 @@
 use Rattle.std.proofs.Common.{◌≡◌, ◌++◌, ◌∙◌, All, ap, arith, length, subst, sym}
 use Rattle.patterns.specs.Tests.{TestList, blocks}
+use Rattle.region_sim.specs.Goals.{is_unknown}
 use Rattle.region_sim.specs.OpenPlaces.{AreNextOpen}
 use Rattle.block_sim.specs.Listed.{IsListed}
 use Rattle.region_sim.specs.ClassOrder.{classes_of}
@@ -31,9 +32,10 @@ run_rows-stop-requires-clause-next g c =
     c.split_at.ensures.by_index.0 c.requires.none))
     c.split_at_mut-open.result.0.now c.split_at_mut-open.result.1.now
     c.split_at_mut-open.ensures.front_len
-    (subst (AreNextOpen (c.split_at_mut-found.result.0.now ++ c.split_at_mut-found.result.1.now))
+    (subst (AreNextOpen is_unknown (c.split_at_mut-found.result.0.now ++
+    c.split_at_mut-found.result.1.now))
     c.split_at_mut-open.ensures.value
-    (subst (λ l. AreNextOpen l c.args.next.now) c.split_at_mut-found.ensures.value
+    (subst (λ l. AreNextOpen is_unknown l c.args.next.now) c.split_at_mut-found.ensures.value
     c.requires.next))
 
 pub returns-clause-ended : goal.returns-clause-ended

@@ -1,6 +1,7 @@
 use Rattle.std.proofs.Common.{◌≡◌, ◌∙◌, ◌<◌, All, ap, arith, length, subst, sym}
 use Rattle.block_sim.specs.Listed.{IsListed}
 use Rattle.region_runs.specs.StretchRuns.{AreFoundUpTo}
+use Rattle.region_sim.specs.Goals.{is_unknown}
 use Rattle.region_sim.specs.OpenPlaces.{AreNextOpen}
 use Rattle.region_sim.specs.ClassOrder.{classes_of}
 use Rattle.region_runs.proofs.PartsOfClasses.{stretch_within}
@@ -35,8 +36,9 @@ run_list-stop-requires-clause-none g c =
 
 pub run_list-stop-requires-clause-next : goal.run_list-stop-requires-clause-next
 run_list-stop-requires-clause-next g c =
-    subst (λ l. AreNextOpen l c.as_mut_slice-next.result.now)
+    subst (λ l. AreNextOpen is_unknown l c.as_mut_slice-next.result.now)
     (sym c.as_mut_slice-found.ensures.value)
-    (subst (AreNextOpen c.in_ok-firsts.firsts.items) (sym c.as_mut_slice-next.ensures.value)
-    (subst (λ l. AreNextOpen l c.in_ok-open.open.items) c.as_slice.ensures.value
+    (subst (AreNextOpen is_unknown c.in_ok-firsts.firsts.items)
+    (sym c.as_mut_slice-next.ensures.value)
+    (subst (λ l. AreNextOpen is_unknown l c.in_ok-open.open.items) c.as_slice.ensures.value
     c.in_ok-open.ensures))

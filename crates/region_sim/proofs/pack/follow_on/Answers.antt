@@ -15,6 +15,11 @@ returns-then-is_none-clause-seen g c = λ k lt.
     with_none true = refl
     with_none false = refl
 
+pub returns-then-ALL_LANES-clause-seen : goal.returns-then-ALL_LANES-clause-seen
+returns-then-ALL_LANES-clause-seen g c = λ k lt.
+    ap (λ w. lane w k) c.or-seen.ensures ∙ lane_or (number c.args.found.seen) (number c.args.fresh)
+    k
+
 pub returns-clause-seen : goal.returns-clause-seen
 returns-clause-seen g c = λ k lt.
     ap (λ w. lane w k) c.or-seen.ensures ∙ lane_or (number c.args.found.seen) (number c.args.fresh)
@@ -26,6 +31,9 @@ returns-clause-narrow g c = kept_narrow g.C.Copies.layout g.C.Copies.sized c.arg
     (number c.kept_after-kept.result) c.kept_after-kept.ensures
 
 pub returns-clause-rest : goal.returns-clause-rest
-returns-clause-rest g c = kept_hit g.C.Copies.layout g.C.Copies.sized c.args.stems.now
-    c.args.followed.now (number c.args.found.kept) (number c.args.fresh) (number c.or-seen.result)
-    (number c.kept_after-kept.result) c.kept_after-kept.ensures
+returns-clause-rest g c = λ k lt was off. (
+  sym c.ALL_LANES.ensures ∙ c.if-ALL_LANES.false,
+  kept_hit g.C.Copies.layout g.C.Copies.sized c.args.stems.now c.args.followed.now
+      (number c.args.found.kept) (number c.args.fresh) (number c.or-seen.result)
+      (number c.kept_after-kept.result) c.kept_after-kept.ensures k lt was off,
+)

@@ -164,12 +164,16 @@ loop-gate-preserved g c =
       narrow = λ k low e. last.narrow k low (on.narrow k low e);
       settled = λ k low begun off. (let go : (lane (number c.loop-gate.found.kept) k ≡ true)
           ⊎ (lane (number c.loop-gate.found.kept) k ≡ false)
-          → AreHitIn g.C.Copies.layout c.as_slice-stems.result.now c.args.followed.now
+          → (g.G.Goal.ALL_LANES ≡ false)
+          × AreHitIn g.C.Copies.layout c.as_slice-stems.result.now c.args.followed.now
           (number c.follow_on-found.result.seen) k = elim [
             | inl is ↦ on.rest k low is off
-            | inr is ↦ more_hits g.C.Copies.layout c.as_slice-stems.result.now c.args.followed.now
-                (number c.loop-gate.found.seen) (number c.follow_on-found.result.seen) k
-                (λ j below e. on.seen j below ∙ or_on _ _ e) (last.settled k low begun is)
+            | inr is ↦ (
+              (last.settled k low begun is).0,
+              more_hits g.C.Copies.layout c.as_slice-stems.result.now c.args.followed.now
+                  (number c.loop-gate.found.seen) (number c.follow_on-found.result.seen) k
+                  (λ j below e. on.seen j below ∙ or_on _ _ e) (last.settled k low begun is).1,
+            )
           ] in go (bit_cases (lane (number c.loop-gate.found.kept) k)));
       state = λ tests group well rising free.
           goes_on g.C.Copies.layout g.C.Copies.sized circuit well rising tests group
@@ -204,7 +208,8 @@ clear-requires-clause-low g c =
 pub returns-clause-detected : goal.returns-clause-detected
 returns-clause-detected g c = λ tests group free.
     let last = c.loop-gate.invariant in
-    subst (λ slots. TellsPack g.C.Copies.layout c.args.circuit.now.arranged tests group slots
+    subst (λ slots. TellsPack g.G.Goal.ALL_LANES g.C.Copies.layout c.args.circuit.now.arranged tests
+    group slots
     c.args.followed.now (number c.loop-gate.found.seen)) c.as_slice-stems.ensures.value
     (told g.C.Copies.layout g.C.Copies.sized c.args.circuit.now.arranged
     c.requires.circuit.well_formed c.signals-signals.ensures.rising tests group
@@ -216,7 +221,8 @@ returns-clause-detected g c = λ tests group free.
     free) (stem_low g.C.Copies.layout c.args.circuit.now.arranged c.as_slice-stems.result.now
     (subst (λ xs. All (λ slot. slot.stem < length (names c.args.circuit.now.arranged)) xs)
     (sym c.as_slice-stems.ensures.value) c.requires.slots.signals))
-    c.begin_stems-begun.ensures.started.all last.settled c.in_default.ensures.none.1)
+    c.begin_stems-begun.ensures.started.all g.G.Goal.ALL_LANES last.settled
+    c.in_default.ensures.none.1)
 
 pub returns-clause-room : goal.returns-clause-room
 returns-clause-room g c =

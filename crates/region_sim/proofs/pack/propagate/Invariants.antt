@@ -22,7 +22,8 @@ invariant-loop-gate g l = record {
       → lane (number l.initial.found.kept) k ≡ true;
   settled : (k : ℕ) → k < 512 → lane (number l.initial.found.kept) k ≡ true
       → lane (number l.found.kept) k ≡ false
-      → AreHitIn g.C.Copies.layout l.stems l.followed (number l.found.seen) k;
+      → (g.G.Goal.ALL_LANES ≡ false)
+      × AreHitIn g.C.Copies.layout l.stems l.followed (number l.found.seen) k;
   state : (tests : List Test) (group : ℕ → ℕ) (well : IsWellFormed l.circuit.arranged)
       (rising : IsRising l.circuit.arranged)
       (free : AreRows l.circuit.arranged tests g.C.Copies.layout group (g.C.Copies.rows l.copies))

@@ -1,6 +1,7 @@
 use Rattle.std.proofs.Common.{◌≡◌, ◌⊎◌, ◌<◌, ◌∙◌, ap, arith, length}
 use Rattle.std.proofs.Common.{subst, sym}
-use Rattle.std.specs.Prelude.{Option, unwrap_or}
+use Rattle.std.specs.Prelude.{Option, slice_index_or, unwrap_or}
+use Rattle.std.proofs.lemmas.Option.{slice_get-get_or}
 use Rattle.bench_net.specs.Scan.{names}
 use Rattle.fault_model.specs.Fault.{Fault}
 use Rattle.fault_model.specs.Reordered.{place}
@@ -9,42 +10,49 @@ use Rattle.flat_circuit.specs.Regions.{IsStem, IsStemOfLine}
 use Rattle.flat_circuit.proofs.Public.{count_there, reordered, circuit_there}
 use Rattle.block_sim.proofs.Public.{same_stems}
 use Rattle.region_sim.proofs.PackedRegions.{gathered_more, gathered_over}
-use Rattle.region_sim.proofs.RegionHits.{listed_at, settled_from}
+use Rattle.region_sim.proofs.RegionHits.{listed_at, settled_from, settled_there}
 use Rattle.region_sim.proofs.region_simulation.add_region.Goals as goal
 
-pub returns-in-Some-clause-low : goal.returns-in-Some-clause-low
-returns-in-Some-clause-low c =
+pub returns-then-not-is_open-clause-low : goal.returns-then-not-is_open-clause-low
+returns-then-not-is_open-clause-low g c =
     c.requires.next.following c.args.from c.next_open.result c.next_open.ensures
 
-pub returns-in-Some-clause-within : goal.returns-in-Some-clause-within
-returns-in-Some-clause-within c =
+pub returns-then-not-is_open-clause-within : goal.returns-then-not-is_open-clause-within
+returns-then-not-is_open-clause-within g c =
     let end = c.requires.next.within c.args.from c.next_open.result c.next_open.ensures in
-    omega (arith, end, c.requires.firsts)
+    omega (arith, end, c.requires.places)
 
-pub returns-in-Some-clause-len : goal.returns-in-Some-clause-len
-returns-in-Some-clause-len c =
+pub returns-then-not-is_open-clause-len : goal.returns-then-not-is_open-clause-len
+returns-then-not-is_open-clause-len g c =
     let up = c.requires.next.following c.args.from c.next_open.result c.next_open.ensures in
     omega (arith, up, c.requires.len)
 
-pub returns-in-Some-clause-gathered : goal.returns-in-Some-clause-gathered
-returns-in-Some-clause-gathered c = λ first le before.
+pub returns-then-not-is_open-clause-gathered : goal.returns-then-not-is_open-clause-gathered
+returns-then-not-is_open-clause-gathered g c = λ first before le agree was.
     let q = c.next_open.result in
     let next = c.next_open.ensures in
-    let up = c.requires.next.following c.args.from q next in
-    gathered_over c.args.job.now c.args.view.circuit.now.arranged c.args.span c.args.rows.now
-    c.args.firsts.now first c.args.from q (omega (arith, up)) c.args.stems.now.items
-    c.args.followed.now.items c.args.hits.now
-    (settled_from c.args.firsts.now c.args.from q c.in-Some._test c.in-Some.ensures
-    (c.requires.next.between c.args.from q next)) before
+    let from = c.args.from in
+    let up = c.requires.next.following from q next in
+    let wants = g.G.Goal.wants c.args.goal.now in
+    let kept = c.args.kept.now in
+    gathered_over wants (g.G.Goal.means c.args.goal.now) c.args.job.now
+    c.args.view.circuit.now.arranged c.args.span c.args.rows.now before first from q
+    (omega (arith, up)) c.args.stems.now.items c.args.followed.now.items kept
+    (settled_there wants from from q before kept (omega arith) agree
+    (settled_from wants kept from q (slice_index_or kept from c.index-kept-from.result)
+    (slice_get-get_or kept from c.index-kept-from.result
+    (omega (arith, c.requires.within, c.requires.places)))
+    (sym c.is_open.ensures ∙ c.if-not-is_open.true) (c.requires.next.between from q next)))
+    was
 
 pub place_of-stem-requires : goal.place_of-stem-requires
-place_of-stem-requires c =
+place_of-stem-requires g c =
     let own = listed_at c.args.job.now c.args.rows.now c.args.from c.row_at-row.result
     c.requires.rows c.row_at-row.ensures in
     subst (λ x. c.row_at-row.result.stem < length (names x)) (sym c.requires.view.part) own.named
 
 pub begin-requires-clause-view : goal.begin-requires-clause-view
-begin-requires-clause-view c =
+begin-requires-clause-view g c =
     let view = c.requires.view in
     record {
       circuit = circuit_there c.args.job.now.circuit c.args.view.circuit.now.arranged
@@ -53,7 +61,7 @@ begin-requires-clause-view c =
     }
 
 pub begin-requires-clause-room : goal.begin-requires-clause-room
-begin-requires-clause-room c =
+begin-requires-clause-room g c =
     let circuit = c.args.job.now.circuit in
     let there = c.args.view.circuit.now.arranged in
     let view = c.requires.view in
@@ -65,7 +73,7 @@ begin-requires-clause-room c =
     }
 
 pub begin-requires-clause-stem : goal.begin-requires-clause-stem
-begin-requires-clause-stem c =
+begin-requires-clause-stem g c =
     let job = c.args.job.now in
     let circuit = job.circuit in
     let there = c.args.view.circuit.now.arranged in
@@ -84,7 +92,7 @@ begin-requires-clause-stem c =
     subst (IsStem there) (sym place_is) on.2.1
 
 pub follow_region-at-requires-clause-begun : goal.follow_region-at-requires-clause-begun
-follow_region-at-requires-clause-begun c =
+follow_region-at-requires-clause-begun g c =
     let there = c.args.view.circuit.now.arranged in
     let view = c.requires.view in
     let row = c.row_at-row.result in (
@@ -99,13 +107,13 @@ follow_region-at-requires-clause-begun c =
     )
 
 pub returns-clause-low : goal.returns-clause-low
-returns-clause-low c = c.follow_region-at.ensures.end.some
+returns-clause-low g c = c.follow_region-at.ensures.end.some
 
 pub returns-clause-within : goal.returns-clause-within
-returns-clause-within c = c.follow_region-at.ensures.end.within
+returns-clause-within g c = c.follow_region-at.ensures.end.within
 
 pub returns-clause-gathered : goal.returns-clause-gathered
-returns-clause-gathered c = λ first le before.
+returns-clause-gathered g c = λ first before le agree was.
     let job = c.args.job.now in
     let there = c.args.view.circuit.now.arranged in
     let row = c.row_at-row.result in
@@ -114,25 +122,32 @@ returns-clause-gathered c = λ first le before.
     let up = step.end.some in
     let begin = ap length c.as_slice-begin.ensures.value in
     let end = ap length c.as_slice-end.ensures.value in
-    gathered_more job there c.args.span c.args.rows.now c.args.firsts.now first c.args.from
-    c.follow_region-at.result (omega (arith, up)) c.args.stems.now.items c.add_slot.new.stems.items
-    c.args.followed.now.items c.follow_region-at.new.followed.items c.args.hits.now
-    c.follow_region-at.new.hits row
+    let wants = g.G.Goal.wants c.args.goal.now in
+    gathered_more wants (g.G.Goal.means c.args.goal.now) job there c.args.span c.args.rows.now
+    before first c.args.from c.follow_region-at.result (omega (arith, up)) c.args.stems.now.items
+    c.add_slot.new.stems.items c.args.followed.now.items c.follow_region-at.new.followed.items
+    c.args.kept.now c.follow_region-at.new.kept row
     (record {
       stem = stem;
       begin = length c.as_slice-begin.result.now;
       end = length c.as_slice-end.result.now;
     }) le up
-    c.row_at-row.ensures c.in-None.ensures
+    c.row_at-row.ensures (slice_index_or c.args.kept.now c.args.from c.index-kept-from.result)
+    (sym (agree c.args.from (omega arith))
+    ∙ slice_get-get_or c.args.kept.now c.args.from c.index-kept-from.result
+    (omega (arith, c.requires.within, c.requires.places)))
+    (sym c.is_open.ensures ∙ c.if-not-is_open.false)
     (c.place_of-stem.ensures.place ∙ ap (λ x. place x there row.stem) c.requires.view.part)
     c.place_of-stem.ensures.within begin end c.add_slot.ensures.some
     c.add_slot.ensures.none (step.added row c.row_at-row.ensures)
     (subst (λ s. (c.follow_region-at.new.followed.items ≡ c.args.followed.now.items)
     ⊎ (IsObserved there s → ⊥)) c.begin.ensures.stem step.hidden)
-    (step.found first le before.found) (step.at first le before.at) (step.idle before.idle) before
+    (step.taken first before le agree was.taken) (step.at first le was.at)
+    (step.ordered first le was.at was.ordered) (step.idle before agree was.idle)
+    (step.still first before le agree was.at was.still) was
 
 pub returns-clause-regions : goal.returns-clause-regions
-returns-clause-regions c = record {
+returns-clause-regions g c = record {
   known = c.follow_region-at.ensures.same.known ∙ c.begin.ensures.known;
   path = c.follow_region-at.ensures.same.path ∙ c.begin.ensures.path;
 }

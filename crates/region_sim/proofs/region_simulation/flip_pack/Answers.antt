@@ -4,10 +4,10 @@ use Rattle.wide_words.specs.Lanes.{slots}
 use Rattle.wide_words.specs.Wide.{number}
 use Rattle.flat_circuit.specs.BlockSpans.{group_of}
 use Rattle.region_sim.specs.Pack.{AreRows, IsWithin}
-use Rattle.region_sim.specs.RegionHits.{AreSlotsConcluded}
+use Rattle.region_sim.specs.RegionHits.{AreApart, AreSlotsConcluded}
 use Rattle.flat_circuit.specs.Words.{AreWords}
 use Rattle.flat_circuit.proofs.Public.{reordered, circuit_there}
-use Rattle.region_sim.proofs.PackedRegions.{found_all}
+use Rattle.region_sim.proofs.PackedRegions.{taken_all}
 use Rattle.region_sim.proofs.RegionHits.{member_at}
 use Rattle.region_sim.proofs.region_simulation.flip_pack.Goals as goal
 use Rattle.region_sim.proofs.region_simulation.flip_pack.Goals.{Start}
@@ -49,8 +49,14 @@ conclude_slots-requires-clause-within g c =
     (sym (c.as_slice-stems.ensures.value ∙ ap (λ v. v.items) c.propagate-seen.ensures.slots))
     c.requires.slots.within
 
-pub returns-clause-found : goal.returns-clause-found
-returns-clause-found g c = λ rows firsts from to gathered.
+pub conclude_slots-requires-clause-apart : goal.conclude_slots-requires-clause-apart
+conclude_slots-requires-clause-apart g c =
+    subst AreApart
+    (sym (c.as_slice-stems.ensures.value ∙ ap (λ v. v.items) c.propagate-seen.ensures.slots))
+    c.requires.apart
+
+pub returns-clause-taken : goal.returns-clause-taken
+returns-clause-taken g c = λ rows from to before gathered.
     let job = c.args.job.now in
     let there = c.args.view.circuit.now.arranged in
     let view = c.requires.view in
@@ -59,19 +65,22 @@ returns-clause-found g c = λ rows firsts from to gathered.
     let followed = c.args.followed.now in
     let layout = g.C.Copies.layout in
     let wide = number c.propagate-seen.result in
-    let last = c.conclude_slots.new.hits in
-    found_all job there c.args.span rows firsts from to stems followed c.args.hits.now last layout
-    g.C.Copies.sized wide well (reordered job.circuit there well view.arranged) c.requires.span
+    let last = c.conclude_slots.new.kept in
+    let goal_is = c.args.goal.now in
+    taken_all (g.G.Goal.wants goal_is) g.G.Goal.ALL_LANES (g.G.Goal.means goal_is) job there
+    c.args.span rows from to stems followed before c.args.kept.now last layout g.C.Copies.sized wide
+    well (reordered job.circuit there well view.arranged) c.requires.span
     c.requires.slots.few c.requires.copied
     (c.propagate-seen.ensures.detected job.tests.tests (λ slot. group_of c.args.span)
-    (slots_free g (goal.at.returns-clause-found g c).Start))
-    (subst (λ l. AreSlotsConcluded layout c.args.span wide followed l (length l) c.args.hits.now
-    last) (c.as_slice-stems.ensures.value ∙ ap (λ v. v.items) c.propagate-seen.ensures.slots)
+    (slots_free g (goal.at.returns-clause-taken g c).Start))
+    (subst (λ l. AreSlotsConcluded g.G.Goal.ALL_LANES (g.G.Goal.means goal_is) layout c.args.span
+    wide followed l (length l) c.args.kept.now last)
+    (c.as_slice-stems.ensures.value ∙ ap (λ v. v.items) c.propagate-seen.ensures.slots)
     c.conclude_slots.ensures.concluded)
     gathered
 
-pub returns-clause-kept : goal.returns-clause-kept
-returns-clause-kept g c = λ place none. c.conclude_slots.ensures.concluded.others place
+pub returns-clause-others : goal.returns-clause-others
+returns-clause-others g c = λ place none. c.conclude_slots.ensures.concluded.others place
     (λ h. none (h.one, member_at c.args.followed.now h.at h.one h.listed, h.there))
 
 pub returns-clause-room : goal.returns-clause-room

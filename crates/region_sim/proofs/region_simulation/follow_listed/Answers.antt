@@ -17,7 +17,7 @@ use Rattle.flat_circuit.proofs.Public.{lanes_decide}
 use Rattle.block_sim.proofs.Public.{room_there, observed_flip, lanes_both}
 use Rattle.block_sim.proofs.Public.{lanes_first, lanes_second, same_flips, same_stems}
 use Rattle.region_sim.proofs.ArrangedReaches.{reached_there}
-use Rattle.region_sim.proofs.GroupLanes.{lanes_exact}
+use Rattle.region_sim.proofs.SpanHits.{lanes_exact}
 use Rattle.flat_circuit.specs.Origins.{IsStuckOf}
 use Rattle.region_sim.proofs.region_simulation.follow_listed.Goals as goal
 

@@ -1,25 +1,30 @@
 use Rattle.std.proofs.Common.{inl, inr, refl, subst}
 use Rattle.region_sim.specs.Arrivals.{HasArrived}
-use Rattle.region_sim.proofs.GroupLanes.{exact_first}
-use Rattle.region_sim.proofs.RegionHits.{first_of_word}
+use Rattle.region_sim.proofs.SpanHits.{takes_span, tells_known}
 use Rattle.region_sim.proofs.region_simulation.follow_row.Goals as goal
 
-pub test_of-requires : goal.test_of-requires
-test_of-requires c = c.requires.low
+pub returns-in-Known-clause-taken : goal.returns-in-Known-clause-taken
+returns-in-Known-clause-taken g c =
+    let took = c.take_at.ensures.taken in
+    let all = g.G.Goal.ALL_LANES in
+    inl (
+      refl,
+      c.take_at.ensures.places,
+      c.take_at.ensures.others,
+      (
+        took.0,
+        took.1,
+        took.2,
+        took.3,
+        takes_span all (g.G.Goal.means c.args.goal.now) c.args.job.now c.args.span c.args.row.class
+            c.in-Known.word took.0 took.1 took.4
+            (λ hits are. tells_known c.args.job.now c.args.span c.args.row.class c.requires.span all
+            hits are c.in-Known.word c.in-Known.ensures.approach),
+      ),
+    )
 
-pub returns-in-Known-clause-found : goal.returns-in-Known-clause-found
-returns-in-Known-clause-found c = inl (
-  refl,
-  c.test_of.result,
-  first_of_word c.args.job.now c.args.span c.args.row.class c.in-Known.word c.test_of.result
-      c.requires.span
-      (exact_first c.args.job.now c.args.span c.args.row.class c.in-Known.word
-      c.in-Known.ensures.approach) c.test_of.ensures,
-  c.keep.ensures,
-)
-
-pub returns-in-Stem-clause-found : goal.returns-in-Stem-clause-found
-returns-in-Stem-clause-found c =
+pub returns-in-Stem-clause-taken : goal.returns-in-Stem-clause-taken
+returns-in-Stem-clause-taken g c =
     let row = c.args.row in
     let at = c.in-Stem.at in
     inr (
@@ -33,7 +38,7 @@ returns-in-Stem-clause-found c =
     )
 
 pub returns-in-Known-clause-hidden : goal.returns-in-Known-clause-hidden
-returns-in-Known-clause-hidden c = inl refl
+returns-in-Known-clause-hidden g c = inl refl
 
 pub returns-in-Stem-clause-hidden : goal.returns-in-Stem-clause-hidden
-returns-in-Stem-clause-hidden c = inr (c.in-Stem.ensures.hidden c.in-Stem.at refl)
+returns-in-Stem-clause-hidden g c = inr (c.in-Stem.ensures.hidden c.in-Stem.at refl)

@@ -1,20 +1,22 @@
 use Rattle.std.proofs.Common.{◌∙◌, ap, arith, inl, inr, length, refl}
 use Rattle.block_sim.proofs.Public.{large_enough, large_on}
 use Rattle.region_sim.proofs.PackedRegions.{gathered_none}
+use Rattle.region_sim.proofs.RegionHits.{closed_on, next_still}
 use Rattle.region_sim.proofs.region_simulation.gather_regions.Goals as goal
 
 pub loop-at-init : goal.loop-at-init
-loop-at-init c = record {
+loop-at-init g c = record {
   low = omega arith;
   within = omega (arith, c.requires.within);
   moved = inr c.requires.no_stem;
   few = (let none = ap length c.requires.no_stem in omega (arith, none));
   len = omega (arith, c.requires.len);
-  gathered = gathered_none c.args.job.now c.args.view.circuit.now.arranged c.args.span
-      c.args.rows.now c.args.firsts.now c.args.from c.args.stems.now.items
-      c.args.followed.now.items c.args.hits.now c.requires.no_stem c.requires.none;
+  gathered = gathered_none (g.G.Goal.wants c.args.goal.now) (g.G.Goal.means c.args.goal.now)
+      c.args.job.now c.args.view.circuit.now.arranged c.args.span c.args.rows.now c.args.from
+      c.args.stems.now.items c.args.followed.now.items c.args.kept.now c.requires.no_stem
+      c.requires.none;
   others = λ place h. refl;
-  known = λ place test e. refl;
+  closed = λ place one is off. refl;
   places = refl;
   classes = refl;
   slots = refl;
@@ -24,20 +26,26 @@ loop-at-init c = record {
 }
 
 pub add_region-at-requires-clause-room : goal.add_region-at-requires-clause-room
-add_region-at-requires-clause-room c =
+add_region-at-requires-clause-room g c =
     large_enough c.args.job.now.circuit c.args.changes.now c.loop-at.changes c.requires.room
     c.loop-at.invariant.room
 
 pub add_region-at-requires-clause-places : goal.add_region-at-requires-clause-places
-add_region-at-requires-clause-places c =
+add_region-at-requires-clause-places g c =
     let same = c.loop-at.invariant.places in omega (arith, same, c.requires.places)
 
+pub add_region-at-requires-clause-next : goal.add_region-at-requires-clause-next
+add_region-at-requires-clause-next g c =
+    let last = c.loop-at.invariant in
+    next_still (g.G.Goal.wants c.args.goal.now) c.args.kept.now c.loop-at.kept c.args.next.now
+    last.places last.closed c.requires.next
+
 pub add_region-at-requires-clause-capacity : goal.add_region-at-requires-clause-capacity
-add_region-at-requires-clause-capacity c =
+add_region-at-requires-clause-capacity g c =
     let same = c.loop-at.invariant.classes in omega (arith, same, c.requires.capacity)
 
 pub add_region-at-requires-clause-regions : goal.add_region-at-requires-clause-regions
-add_region-at-requires-clause-regions c =
+add_region-at-requires-clause-regions g c =
     let same = c.loop-at.invariant.regions in
     let known = same.known in
     let path = same.path in
@@ -48,18 +56,18 @@ add_region-at-requires-clause-regions c =
     }
 
 pub add_region-at-requires-clause-slots : goal.add_region-at-requires-clause-slots
-add_region-at-requires-clause-slots c =
+add_region-at-requires-clause-slots g c =
     let len = c.as_slice-count.ensures.len in
     let same = c.loop-at.invariant.slots in
     let room = c.requires.slots.1 in
     omega (arith, len, same, room, c.if-count-room.false)
 
 pub loop-at-smaller : goal.loop-at-smaller
-loop-at-smaller c =
+loop-at-smaller g c =
     let up = c.add_region-at.ensures.low in omega (arith, up, c.loop-at-test.true)
 
 pub loop-at-preserved : goal.loop-at-preserved
-loop-at-preserved c =
+loop-at-preserved g c =
     let before = c.loop-at.invariant in
     let step = c.add_region-at.ensures in
     let low = before.low in
@@ -71,12 +79,14 @@ loop-at-preserved c =
       few = (let few = step.few in let whole = ap length c.as_slice-count.ensures.value in
           omega (arith, few, whole, c.if-count-room.false));
       len = step.len;
-      gathered = step.gathered c.args.from low before.gathered;
+      gathered = step.gathered c.args.from c.args.kept.now low
+          (λ k le. before.others k (inr le)) before.gathered;
       others = λ place h. elim h [
         | inl x ↦ step.others place (inl (omega (arith, x, low))) ∙ before.others place (inl x)
         | inr x ↦ step.others place (inr x) ∙ before.others place (inr (omega (arith, x, up)))
       ];
-      known = λ place test e. step.known place test e ∙ before.known place test e;
+      closed = closed_on (g.G.Goal.wants c.args.goal.now) c.args.kept.now c.loop-at.kept
+          c.add_region-at.new.kept before.closed step.closed;
       places = step.places ∙ before.places;
       classes = step.capacity.0 ∙ before.classes;
       slots = step.capacity.1 ∙ before.slots;
@@ -90,7 +100,7 @@ loop-at-preserved c =
     }
 
 pub returns-then-count-room-clause-low : goal.returns-then-count-room-clause-low
-returns-then-count-room-clause-low c = elim c.loop-at.invariant.moved [
+returns-then-count-room-clause-low g c = elim c.loop-at.invariant.moved [
   | inl x ↦ x
   | inr x ↦
       let none = ap length x in
@@ -100,4 +110,4 @@ returns-then-count-room-clause-low c = elim c.loop-at.invariant.moved [
 ]
 
 pub returns-clause-low : goal.returns-clause-low
-returns-clause-low c = omega (arith, c.loop-at-test.false, c.requires.within)
+returns-clause-low g c = omega (arith, c.loop-at-test.false, c.requires.within)

@@ -1,5 +1,5 @@
 use Rattle.std.proofs.Common.{◌≡◌, vec_len}
-use Rattle.workers.specs.Swept.{AreSuccessors}
+use Rattle.region_sim.specs.OpenPlaces.{AreSuccessors}
 use Rattle.workers.proofs.swept.successors.Given as goal
 
 abbrev pub invariant-loop-place : goal.invariant-loop-place

@@ -1,21 +1,24 @@
-use Rattle.std.proofs.Common.{◌≡◌, ◌∙◌, ◌/◌, All, ap, arith, drop, false, inl, inr, length, true}
+use Rattle.std.proofs.Common.{◌≡◌, ◌∙◌, ◌/◌, All, ap, arith, inl, inr, length}
 use Rattle.std.proofs.Common.{subst, sym}
-use Rattle.std.specs.Prelude.{Contains, None, Some, slice_get}
-use Rattle.patterns.specs.Tests.{TestList}
-use Rattle.flat_circuit.specs.BlockSpans.{begins_unit, span_of, unit_of}
+use Rattle.std.specs.Prelude.{Contains, Some, slice_get, unwrap_or}
+use Rattle.std.proofs.lemmas.Bool.{false≢true}
+use Rattle.flat_circuit.specs.BlockSpans.{IsSpan}
 use Rattle.region_sim.specs.Pack.{IsWithin}
-use Rattle.region_sim.specs.RegionHits.{AreGathered, HaveFirsts, IsFollowedAt, IsHiddenStem}
+use Rattle.region_sim.specs.Goals.{HaveTaken}
+use Rattle.region_sim.specs.OpenPlaces.{KeepsClosed}
+use Rattle.region_sim.specs.RegionHits.{AreGathered, AreInOrder, IsFollowedAt, IsHiddenStem}
 use Rattle.region_sim.specs.RegionHits.{ServesRegions}
 use Rattle.region_sim.specs.Units.{unit_span}
 use Rattle.flat_circuit.proofs.Public.{count_there}
 use Rattle.region_sim.proofs.Arrivals.{room_at_rest}
-use Rattle.region_sim.proofs.KnownWords.{written}
 use Rattle.region_sim.proofs.PackedRegions.{all_slots}
-use Rattle.region_sim.proofs.UnitSpans.{no_unit_begins, unit_begins}
+use Rattle.region_sim.proofs.RegionHits.{all_taken}
+use Rattle.region_sim.proofs.UnitSpans.{in_order, sweep_span, sweep_unit, unit_is}
 use Rattle.region_sim.proofs.region_simulation.RegionSimulation.simulate_region.Goals as goal
+use Rattle.region_sim.proofs.region_simulation.RegionSimulation.simulate_region.Goals.{After-flip_all, Else-span-gt1}
 
 pub invariant_of-self : goal.invariant_of-self
-invariant_of-self c =
+invariant_of-self g c =
     let before = c.self.invariant in
     let rest = before.regions.rest in
     let unit = c.simulate_unit.ensures.unit in
@@ -40,49 +43,58 @@ invariant_of-self c =
       unit_parts = (let k = before.unit_parts in let e = unit.followed in omega (arith, k, e));
     }
 
-pub returns-then-is_unit-clause-found : goal.returns-then-is_unit-clause-found
-returns-then-is_unit-clause-found c =
-    let job = c.args.job.now in
-    let block = c.args.block in
-    let rows = c.args.rows.now in
-    let firsts = c.args.firsts.now in
-    let end = c.simulate_unit.result in
-    let items = c.self.inside.hits.items in
-    let last = c.simulate_unit.new.hits in
-    let begins : begins_unit (length job.tests.tests) block ≡ true =
-    ap (λ (t : TestList). begins_unit (length t.tests) block) (sym c.tests.ensures.part)
-    ∙ (sym c.is_unit.ensures.begins ∙ c.if-is_unit.true) in
-    let here : unit_of (length job.tests.tests) block ≡ unit_span (block / 2) =
-    unit_begins (length job.tests.tests) block begins
-    (c.is_unit.ensures.is.0 c.if-is_unit.true).whole in
-    let long : length last ≡ c.self.inside.hits.len =
-    c.simulate_unit.ensures.places ∙ c.as_mut_slice-hits.ensures.len in
-    subst (HaveFirsts job (unit_of (length job.tests.tests) block) rows firsts c.args.from end)
-    (sym (written c.self.inside.hits.len last (drop (length last) items) long))
-    (subst (λ s. HaveFirsts job s rows firsts c.args.from end last) (sym here)
-    c.simulate_unit.ensures.found)
+pub simulate_unit-requires-clause-full : goal.simulate_unit-requires-clause-full
+simulate_unit-requires-clause-full g c =
+    let u = sweep_unit (length c.args.job.now.tests.tests) c.args.span c.requires.span
+    c.if-span-gt1.true in
+    let full = u.0.full in
+    let whole = u.0.whole in
+    omega (arith, full, whole)
 
-pub returns-then-is_unit-clause-known : goal.returns-then-is_unit-clause-known
-returns-then-is_unit-clause-known c = λ place test e.
-    let items = c.self.inside.hits.items in
-    let last = c.simulate_unit.new.hits in
-    let long : length last ≡ c.self.inside.hits.len =
-    c.simulate_unit.ensures.places ∙ c.as_mut_slice-hits.ensures.len in
-    ap (λ l. slice_get l place)
-    (written c.self.inside.hits.len last (drop (length last) items) long)
-    ∙ (c.simulate_unit.ensures.known place test e
-    ∙ (ap (λ l. slice_get l place) c.as_mut_slice-hits.ensures.value
-    ∙ ap (λ v. slice_get v.hits place) c.self.view_is))
+pub returns-then-span-gt1-clause-taken :
+    goal.returns-then-span-gt1-clause-taken
+returns-then-span-gt1-clause-taken g c =
+    let job = c.args.job.now in
+    let rows = c.args.rows.now in
+    let end = c.simulate_unit.result in
+    let last = c.simulate_unit.new.kept in
+    let group = c.args.span.first / 2 in
+    let wants = g.G.Goal.wants c.args.goal.now in
+    let means = g.G.Goal.means c.args.goal.now in
+    let here = unit_is (length job.tests.tests) c.args.span c.requires.span
+    c.if-span-gt1.true in
+    subst (λ s. HaveTaken means job s rows c.args.from end c.args.kept.now last) (sym here)
+    (all_taken wants means job (unit_span group) rows c.args.from end c.args.kept.now last
+    (omega arith) (λ one off hits low high more le was.
+    g.G.Goal.stays c.args.goal.now one hits low high more off le was)
+    c.requires.places c.simulate_unit.ensures.closed c.simulate_unit.ensures.taken)
+
+-- the span has blocks of one group
+is_span : (g : _) (c : Else-span-gt1 g)
+    → IsSpan (length c.args.job.now.tests.tests) c.args.span
+is_span g c = sweep_span (length c.args.job.now.tests.tests) c.args.span c.requires.span
+    (omega (arith, c.if-span-gt1.false))
+
+pub view_of-view-requires : goal.view_of-view-requires
+view_of-view-requires g c = is_span g (goal.at.view_of-view-requires g c).Else-span-gt1
+
+pub gather_regions-end-requires-clause-span : goal.gather_regions-end-requires-clause-span
+gather_regions-end-requires-clause-span g c =
+    is_span g (goal.at.gather_regions-end-requires-clause-span g c).Else-span-gt1
+
+pub flip_all-requires-clause-span : goal.flip_all-requires-clause-span
+flip_all-requires-clause-span g c =
+    is_span g (goal.at.flip_all-requires-clause-span g c).Else-span-gt1
 
 pub gather_regions-end-requires-clause-room : goal.gather_regions-end-requires-clause-room
-gather_regions-end-requires-clause-room c =
+gather_regions-end-requires-clause-room g c =
     let served = subst (λ v. ServesRegions v c.args.job.now (length c.args.rows.now))
     (sym c.self.view_is) c.requires.serves in
     room_at_rest c.args.job.now c.self.inside.changes
-    c.tests.ensures.together.circuit.well_formed c.self.invariant.regions.rest served.room
+    c.tests-tests.ensures.together.circuit.well_formed c.self.invariant.regions.rest served.room
 
 pub gather_regions-end-requires-clause-regions : goal.gather_regions-end-requires-clause-regions
-gather_regions-end-requires-clause-regions c =
+gather_regions-end-requires-clause-regions g c =
     let served = subst (λ v. ServesRegions v c.args.job.now (length c.args.rows.now))
     (sym c.self.view_is) c.requires.serves in
     let many = served.room in
@@ -93,27 +105,28 @@ gather_regions-end-requires-clause-regions c =
     }
 
 pub gather_regions-end-requires-clause-slots : goal.gather_regions-end-requires-clause-slots
-gather_regions-end-requires-clause-slots c =
+gather_regions-end-requires-clause-slots g c =
     let eight = c.self.invariant.slots in elim c.stems_at_once-room.ensures [
       | inl x ↦ let is = x.0 in (omega (arith, is), omega (arith, is, eight))
       | inr is ↦ (omega (arith, is), omega (arith, is, eight))
     ]
 
 pub flip_all-requires-clause-places : goal.flip_all-requires-clause-places
-flip_all-requires-clause-places c = λ one there.
+flip_all-requires-clause-places g c = λ one there.
     let own = c.gather_regions-end.ensures.gathered.at one
     (subst (λ l. Contains l one) c.as_slice-all.ensures.value there) in
     let low = own.1 in
-    let served = subst (λ v. ServesRegions v c.args.job.now (length c.args.rows.now))
-    (sym c.self.view_is) c.requires.serves in
-    let room = served.places in
     let within = c.gather_regions-end.ensures.within in
     let kept = c.gather_regions-end.ensures.places in
-    let whole = ap length c.as_mut_slice-hits-2.ensures.value in
-    omega (arith, low, room, within, kept, whole)
+    omega (arith, low, within, kept, c.requires.places)
+
+pub flip_all-requires-clause-ordered : goal.flip_all-requires-clause-ordered
+flip_all-requires-clause-ordered g c =
+    subst AreInOrder (sym c.as_slice-all.ensures.value)
+    c.gather_regions-end.ensures.gathered.ordered
 
 pub flip_all-requires-clause-room : goal.flip_all-requires-clause-room
-flip_all-requires-clause-room c =
+flip_all-requires-clause-room g c =
     let circuit = c.args.job.now.circuit in
     let there = c.view_of-view.result.circuit.now.arranged in
     let view = c.view_of-view.ensures in
@@ -129,20 +142,20 @@ flip_all-requires-clause-room c =
     }
 
 pub flip_all-requires-clause-clear : goal.flip_all-requires-clause-clear
-flip_all-requires-clause-clear c = record {
+flip_all-requires-clause-clear g c = record {
   deltas = c.self.invariant.clear.deltas;
   gates = c.self.invariant.clear.gates;
 }
 
 pub flip_all-requires-clause-few : goal.flip_all-requires-clause-few
-flip_all-requires-clause-few c =
+flip_all-requires-clause-few g c =
     let few = c.gather_regions-end.ensures.few in elim c.stems_at_once-room.ensures [
       | inl x ↦ let is = x.0 in inr (omega (arith, is, few), x.1)
       | inr is ↦ inl (omega (arith, is, few))
     ]
 
 pub flip_all-requires-clause-slots : goal.flip_all-requires-clause-slots
-flip_all-requires-clause-slots c =
+flip_all-requires-clause-slots g c =
     subst (λ l. All (IsWithin l) c.gather_regions-end.new.stems.items) (sym
     c.as_slice-all.ensures.value)
     (all_slots (IsWithin c.gather_regions-end.new.followed.items)
@@ -150,47 +163,48 @@ flip_all-requires-clause-slots c =
     (λ slot there. (c.gather_regions-end.ensures.gathered.each slot there).within))
 
 pub flip_all-requires-clause-stems : goal.flip_all-requires-clause-stems
-flip_all-requires-clause-stems c =
+flip_all-requires-clause-stems g c =
     all_slots (IsHiddenStem c.view_of-view.result.circuit.now.arranged)
     c.gather_regions-end.new.stems.items
     (λ slot there. (c.gather_regions-end.ensures.gathered.each slot there).hidden)
 
-pub returns-clause-found : goal.returns-clause-found
-returns-clause-found c =
-    let job = c.args.job.now in
-    let span = c.from-span.result in
-    let rows = c.args.rows.now in
-    let firsts = c.args.firsts.now in
-    let end = c.gather_regions-end.result in
-    let items = c.self.inside.hits.items in
-    let last = c.flip_all.new.hits in
+-- what is no longer wanted stays
+closed_all : (g : _) (c : After-flip_all g)
+    → KeepsClosed (g.G.Goal.wants c.args.goal.now) c.args.kept.now c.flip_all.new.kept
+closed_all g c = λ place one is off.
+    let wants = g.G.Goal.wants c.args.goal.now in
     let all = c.as_slice-all.ensures.value in
-    let none : begins_unit (length job.tests.tests) c.args.block ≡ false =
-    ap (λ (t : TestList). begins_unit (length t.tests) c.args.block) (sym c.tests.ensures.part)
-    ∙ (sym c.is_unit.ensures.begins ∙ c.if-is_unit.false) in
-    let here : span ≡ unit_of (length job.tests.tests) c.args.block =
-    c.from-span.ensures.span_is
-    ∙ (ap (λ (t : TestList). span_of (length t.tests) c.args.block) c.tests-2.ensures.part
-    ∙ sym (no_unit_begins (length job.tests.tests) c.args.block none)) in
-    let found = c.flip_all.ensures.found rows firsts c.args.from end
-    (subst (λ l. AreGathered job c.view_of-view.result.circuit.now.arranged span rows firsts
-    c.args.from end c.gather_regions-end.new.stems.items l c.gather_regions-end.new.hits) (sym all)
+    let none : IsFollowedAt c.as_slice-all.result.now place → ⊥ = λ h.
+    let idle = c.gather_regions-end.ensures.gathered.idle h.0 (subst (λ l. Contains l h.0) all h.1)
+    in
+    let both : Some one ≡ Some idle.0 = sym is ∙ (ap (slice_get c.args.kept.now) (sym h.2) ∙ idle.1)
+    in
+    false≢true (sym off ∙ (ap (λ o. wants (unwrap_or o one)) both ∙ idle.2)) in
+    c.flip_all.ensures.others place none ∙ c.gather_regions-end.ensures.closed place one is off
+
+pub returns-clause-taken : goal.returns-clause-taken
+returns-clause-taken g c =
+    let job = c.args.job.now in
+    let span = c.args.span in
+    let rows = c.args.rows.now in
+    let end = c.gather_regions-end.result in
+    let last = c.flip_all.new.kept in
+    let wants = g.G.Goal.wants c.args.goal.now in
+    let means = g.G.Goal.means c.args.goal.now in
+    let taken = c.flip_all.ensures.taken rows c.args.from end c.args.kept.now
+    (subst (λ l. AreGathered wants means job c.view_of-view.result.circuit.now.arranged span rows
+    c.args.from end c.gather_regions-end.new.stems.items l c.args.kept.now
+    c.gather_regions-end.new.kept) (sym c.as_slice-all.ensures.value)
     c.gather_regions-end.ensures.gathered) in
-    let long : length last ≡ c.self.inside.hits.len =
-    c.flip_all.ensures.places ∙ (c.gather_regions-end.ensures.places ∙
-    c.as_mut_slice-hits-2.ensures.len) in
-    subst (HaveFirsts job (unit_of (length job.tests.tests) c.args.block) rows firsts c.args.from
-    end) (sym (written c.self.inside.hits.len last (drop (length last) items) long))
-    (subst (λ s. HaveFirsts job s rows firsts c.args.from end last) here found)
+    all_taken wants means job span rows c.args.from end c.args.kept.now last
+    (in_order (length job.tests.tests) span c.requires.span)
+    (λ one off hits low high more le was.
+    g.G.Goal.stays c.args.goal.now one hits low high more off le was)
+    c.requires.places (closed_all g (goal.at.returns-clause-taken g c).After-flip_all) taken
 
 pub returns-clause-others : goal.returns-clause-others
-returns-clause-others c = λ place outside.
-    let items = c.self.inside.hits.items in
-    let last = c.flip_all.new.hits in
+returns-clause-others g c = λ place outside.
     let all = c.as_slice-all.ensures.value in
-    let long : length last ≡ c.self.inside.hits.len =
-    c.flip_all.ensures.places ∙ (c.gather_regions-end.ensures.places ∙
-    c.as_mut_slice-hits-2.ensures.len) in
     let none : IsFollowedAt c.as_slice-all.result.now place → ⊥ = λ h.
     let own = c.gather_regions-end.ensures.gathered.at h.0 (subst (λ l. Contains l h.0) all h.1) in
     let from = own.0 in
@@ -200,28 +214,7 @@ returns-clause-others c = λ place outside.
       | inl x ↦ omega (arith, x, from, at)
       | inr x ↦ omega (arith, x, to, at)
     ] in
-    ap (λ l. slice_get l place)
-    (written c.self.inside.hits.len last (drop (length last) items) long)
-    ∙ (c.flip_all.ensures.kept place none ∙ (c.gather_regions-end.ensures.others place outside
-    ∙ (ap (λ l. slice_get l place) c.as_mut_slice-hits-2.ensures.value
-    ∙ ap (λ v. slice_get v.hits place) c.self.view_is)))
+    c.flip_all.ensures.others place none ∙ c.gather_regions-end.ensures.others place outside
 
-pub returns-clause-known : goal.returns-clause-known
-returns-clause-known c = λ place test e.
-    let firsts = c.args.firsts.now in
-    let items = c.self.inside.hits.items in
-    let last = c.flip_all.new.hits in
-    let all = c.as_slice-all.ensures.value in
-    let long : length last ≡ c.self.inside.hits.len =
-    c.flip_all.ensures.places ∙ (c.gather_regions-end.ensures.places ∙
-    c.as_mut_slice-hits-2.ensures.len) in
-    let none : IsFollowedAt c.as_slice-all.result.now place → ⊥ = λ h.
-    let idle = c.gather_regions-end.ensures.gathered.idle h.0 (subst (λ l. Contains l h.0) all h.1)
-    in
-    let bad : Some None ≡ Some (Some test) = sym idle ∙ (ap (slice_get firsts) h.2 ∙ e) in
-    cc in
-    ap (λ l. slice_get l place)
-    (written c.self.inside.hits.len last (drop (length last) items) long)
-    ∙ (c.flip_all.ensures.kept place none ∙ (c.gather_regions-end.ensures.known place test e
-    ∙ (ap (λ l. slice_get l place) c.as_mut_slice-hits-2.ensures.value
-    ∙ ap (λ v. slice_get v.hits place) c.self.view_is)))
+pub returns-clause-closed : goal.returns-clause-closed
+returns-clause-closed g c = closed_all g (goal.at.returns-clause-closed g c).After-flip_all

@@ -1,48 +1,50 @@
-use Rattle.std.proofs.Common.{◌∙◌, ◌+◌, ◌*◌, ◌≤◌, ap, arith, inr, length, subst, sym, refl}
+use Rattle.std.proofs.Common.{◌∙◌, ◌+◌, ◌*◌, ap, length, subst, sym}
 use Rattle.std.proofs.lemmas.List.{with_items_is}
-use Rattle.flat_circuit.specs.BlockSpans.{unit_of}
-use Rattle.region_sim.specs.RegionHits.{HaveFirsts, ServesRegions}
-use Rattle.workers.specs.Swept.{AreSweptFirsts, AreTold}
+use Rattle.region_sim.specs.Goals.{HaveTaken, IsFirstHit, is_unknown}
+use Rattle.region_sim.specs.OpenPlaces.{AreNextOpen}
+use Rattle.region_sim.specs.RegionHits.{ServesRegions}
+use Rattle.workers.specs.Swept.{AreSweptFirsts}
+use Rattle.region_sim.proofs.Public.{successors_open}
 use Rattle.workers.proofs.SweptBlocks.{swept_more}
 use Rattle.workers.proofs.swept.Swept.sweep.Goals as goal
+
+pub simulate-requires-clause-next : goal.simulate-requires-clause-next
+simulate-requires-clause-next c =
+    let s = c.args.self.now in
+    let was = c.requires.serves in
+    subst (λ l. AreNextOpen is_unknown c.as_mut_slice-firsts.result.now l)
+    (sym c.as_slice-next.ensures.value)
+    (subst (λ l. AreNextOpen is_unknown l s.next.items) (sym c.as_mut_slice-firsts.ensures.value)
+    (successors_open is_unknown s.firsts.items s.next.items (was.nexts ∙ sym was.count) was.next))
 
 pub returns-clause-serves : goal.returns-clause-serves
 returns-clause-serves c =
     let job = c.args.job.now in
     let s = c.args.self.now in
     let was = c.requires.serves in
-    let hits = c.simulate_all.new.simulation.hits in
-    let after = c.tell.new.firsts in
-    let last = c.last_together-last.result in
-    let unit = unit_of (length job.tests.tests) s.blocks in
-    let given = c.as_slice-rows.result.now in
-    let items = with_items_is s.firsts after (c.tell.ensures.count
-    ∙ c.as_mut_slice-firsts.ensures.len) in
-    let told : AreTold hits s.firsts.items after =
-    subst (λ l. AreTold hits l after) c.as_mut_slice-firsts.ensures.value c.tell.ensures in
-    let found : HaveFirsts job unit s.rows.items s.firsts.items 0 (length s.rows.items) hits =
-    subst (λ r. HaveFirsts job unit r s.firsts.items 0 (length r) hits)
-    c.as_slice-rows.ensures.value
-    (subst (λ f. HaveFirsts job unit given f 0 (length given) hits)
-    c.as_mut_slice-firsts.ensures.value c.simulate_all.ensures.found) in
-    let le : s.blocks ≤ last =
-    ((c.last_together-last.ensures.together s.blocks).1 (inr (record {
-      ordered = omega arith;
-      one_group = refl;
-      within = c.requires.more;
-      alone = λ lt. refl;
-    }))).1 in
+    let after = c.simulate.new.kept in
+    let span = c.sweep_from-span.result in
+    let step = c.simulate.ensures in
+    let items = with_items_is s.firsts after (step.places ∙ c.as_mut_slice-firsts.ensures.len) in
+    let rows_is = c.as_slice-rows.ensures.value in
+    let taken : HaveTaken IsFirstHit job span s.rows.items 0 (length s.rows.items) s.firsts.items
+    after =
+    subst (λ f. HaveTaken IsFirstHit job span s.rows.items 0 (length s.rows.items) f after)
+    c.as_mut_slice-firsts.ensures.value
+    (subst (λ r. HaveTaken IsFirstHit job span r 0 (length r) c.as_mut_slice-firsts.result.now
+    after) rows_is step.taken) in
     record {
       fits = was.fits;
-      serves = subst (λ r. ServesRegions c.simulate_all.new.simulation job (length r))
-          c.as_slice-rows.ensures.value c.simulate_all.ensures.serves;
+      serves = subst (λ r. ServesRegions c.simulate.new.self job (length r)) rows_is step.serves;
       listed = was.listed;
-      count = ap length items ∙ (told.count ∙ was.count);
+      count = ap length items ∙ (step.places ∙ (ap length c.as_mut_slice-firsts.ensures.value
+          ∙ was.count));
       nexts = was.nexts;
       next = was.next;
       numbers = was.numbers;
       placed = was.placed;
-      found = subst (AreSweptFirsts job (64 * (last + 1)) s.rows.items) (sym items)
-          (swept_more job s.blocks last s.rows.items s.firsts.items hits after
-          c.last_together-last.ensures.last le was.count was.found found told);
+      found = subst (AreSweptFirsts job (64 * (span.last + 1)) s.rows.items) (sym items)
+          (swept_more job c.tests-tests.ensures.together span s.rows.items s.firsts.items after
+          (subst (λ n. AreSweptFirsts job (64 * n) s.rows.items s.firsts.items)
+          (sym c.sweep_from-span.ensures.first) was.found) taken);
     }

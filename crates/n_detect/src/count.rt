@@ -1,0 +1,52 @@
+//! The number of tests that detect a class, as the goal of a simulation.
+
+ghost use Rattle.std.specs.Prelude.{◌≡◌, ◌^◌, ◌<◌, min, nat_lt, true};
+ghost use Rattle.n_detect.specs.CountLaws.{count_stays};
+ghost use Rattle.n_detect.specs.HitCounts.{IsHitCount};
+
+use region_sim::Goal;
+
+/// The number of tests that detect a class, counted up to a number.
+#[derive(Clone, Copy)]
+pub(crate) struct Count {
+    /// The number at which a count ends.
+    pub(crate) most: u32,
+}
+
+impl Goal for Count {
+    ghost use Rattle.std.specs.Prelude.{nat_lt, true};
+    ghost use Rattle.n_detect.specs.CountLaws.{count_stays};
+    ghost use Rattle.n_detect.specs.HitCounts.{IsHitCount};
+
+    type Kept = u32;
+
+    ghost ALL_LANES = { true };
+
+    const ALL_LANES: bool = true;
+
+    ghost wants = { λ goal kept. nat_lt kept goal.most };
+
+    ghost means = { λ goal hits low high kept. IsHitCount goal.most hits low high kept };
+
+    ghost stays = { λ goal kept hits low high more. count_stays goal.most kept hits low high more };
+
+    #[inline(always)]
+    fn is_open(&self, kept: &u32) -> bool {
+        *kept < self.most
+    }
+
+    #[inline(always)]
+    fn take(&self, kept: &mut u32, _group: u32, lanes: u128) {
+        let more = kept.saturating_add(lanes.count_ones());
+        *kept = least(self.most, more);
+    }
+}
+
+/// Returns the lesser of two numbers.
+#[inline(always)]
+fn least(one: u32, other: u32) -> u32
+    ensures least { result ≡ min one other }
+    ensures fits { one < 2 ^ 32 }
+{
+    one.min(other)
+}
