@@ -1,8 +1,12 @@
+mod AmongTests
+mod HeldColumns
+mod HeldInputs
 mod RandomWords
 mod KeptTests
 mod Detected
 mod LeftClasses
 mod Searches
+mod ShiftedRows
 mod SortedTests
 mod Pieces
 mod Texts

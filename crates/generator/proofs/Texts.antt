@@ -1,5 +1,5 @@
 -- Files that have a job within the limit of pieces only fail because memory is refused.
-use Rattle.std.proofs.Common.{◌≡◌, ◌≢◌, ℕ, ◌*◌, ◌<◌, ◌≤◌, List, length}
+use Rattle.std.proofs.Common.{◌≡◌, ◌≢◌, ℕ, ◌*◌, ◌<◌, ◌≤◌, ◌++◌, Bool, List, length}
 use Rattle.std.proofs.Common.{refl, sym, ap, subst, ◌∙◌, ⊎_elim, arith}
 use Rattle.std.specs.Prelude.{slice_get, ⊤}
 use Rattle.std.proofs.lemmas.List.{length-map}
@@ -9,6 +9,7 @@ use Rattle.bench_net.specs.Refusal.{IsAccepted}
 use Rattle.fault_model.specs.declared.Model.{Model}
 use Rattle.fault_model.specs.Fault.{faults}
 use Rattle.fault_model.specs.Collapse.{Collapsed, AreClassesOf}
+use Rattle.patterns.specs.Making.{test_text}
 use Rattle.patterns.specs.Tests.{TestList, HasTests, IsTestList, IsTestRefusal, blocks, max_pieces}
 use Rattle.patterns.specs.declared.TestFault.{TestFault}
 use Rattle.patterns.specs.declared.TestFault.TheVariants as test_fault
@@ -24,7 +25,12 @@ use Rattle.job_loading.specs.declared.fault.SimFault.TheVariants as fault
 use Rattle.job_loading.specs.Jobs.{IsJobOf}
 use Rattle.report.specs.EndToEnd.{IsReportFault}
 use Rattle.region_runs.specs.Refused.{IsOpenFault}
-use Rattle.generator.specs.Generated.{AreFewPieces, HasJob, IsGeneratorFault}
+use Rattle.test_columns.specs.Columns.{columns_line}
+use Rattle.generator.specs.declared.GeneratorFault.{GeneratorFault}
+use Rattle.generator.specs.declared.GeneratorFault.TheVariants as generator_fault
+use Rattle.generator.specs.declared.held.Held.{Held}
+use Rattle.generator.specs.Generated.{AreFewPieces, HasJob, IsFaultOfHeld, IsFaultOfRun}
+use Rattle.generator.specs.Generated.{IsGeneratorFault, file_text}
 
 -- the laws of files: a bench file has one circuit, and a file with tests has no error
 abbrev pub OneCircuit : Type 0
@@ -73,7 +79,7 @@ run_refused job workers (run_fault.Unfinished class block) few is = absurd (is.4
 -- errors of files that have a job within the limit of pieces are errors of the search
 pub report_refused : OneCircuit → NotBoth → (m : Model) (bench text : List ℕ) (workers : ℕ)
     (f : SimFault) → HasJob m bench text → ((g : ReportFault) → f ≢ fault.Report g)
-    → IsReportFault m bench text workers f → IsGeneratorFault bench workers f
+    → IsReportFault m bench text workers f → IsFaultOfRun bench workers f
 report_refused one_circuit not_both m bench text workers (fault.Bench f) has unwritten is = is
 report_refused one_circuit not_both m bench text workers (fault.Tests f) (job, within) unwritten
     (c, accepted, why) =
@@ -123,3 +129,18 @@ text_has_job m bench text job best accepted fit of_model width list few own = (
     few,
   ),
 )
+
+-- the line that names the columns, and the rows, are the file
+pub file_is : (c : List Statement) (tests : List (List Bool)) (line rows text : List ℕ)
+    → line ≡ columns_line (sources c) → rows ≡ test_text tests → text ≡ line ++ rows
+    → text ≡ file_text c tests
+file_is c tests line rows text named written joined =
+    joined ∙ (ap (λ l. l ++ rows) named ∙ ap (λ l. columns_line (sources c) ++ l) written)
+
+-- an error of held inputs is one of the generator
+pub held_refused : (bench : List ℕ) (c : List Statement) (held : List Held) (workers : ℕ)
+    (f : GeneratorFault) → IsAccepted bench c → IsFaultOfHeld c held f
+    → IsGeneratorFault bench held workers f
+held_refused bench c held workers (generator_fault.Sim f) accepted is =
+    subst (IsFaultOfRun bench workers) (sym is) tt
+held_refused bench c held workers (generator_fault.Held f) accepted is = (c, accepted, is)

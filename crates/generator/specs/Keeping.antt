@@ -42,6 +42,11 @@ pub record IsFirstWanted (marks : List Bool) (pairs : Bool) (t : ℕ) : Type 0 w
   pub wanted : IsWanted marks pairs t
   pub first : (earlier : ℕ) → earlier < t → ¬ IsWanted marks pairs earlier
 
+-- each test of a list is also one of another
+abbrev pub AreAmong : List (List Bool) → List (List Bool) → Type 0
+AreAmong some tests = (k : ℕ) (test : List Bool) → slice_get some k ≡ Some test
+    → (j : ℕ) × (slice_get tests j ≡ Some test)
+
 -- The wanted tests of a list are kept after the old ones, as far as there is room: all old tests
 -- stay, and no test is new if none is wanted. If there is no old test, and room for two, the first
 -- wanted test comes first. The test after it in the list comes second, if it is wanted.

@@ -1,3 +1,4 @@
 pub mod RandomTests
+pub mod Held
 pub mod Generated
 pub mod Keeping

@@ -3,7 +3,7 @@
 ghost use Rattle.std.specs.Prelude.{◌≤◌};
 
 use crate::options::command_line;
-use crate::{Settings, generate};
+use crate::{GeneratorFault, Held, HeldFault, HeldReason, Settings, generate};
 use bench_net::read::MAX_BYTES;
 use byte_output::put_all;
 use clap::error::ErrorKind;
@@ -22,6 +22,8 @@ pub(crate) enum CommandError<'a> {
     NoText,
     /// The command line lacks an option.
     Misused(&'a str),
+    /// The words of a `--hold` hold no input, and why.
+    NotHeld(&'a str, &'static str),
     /// The file at a path cannot be read.
     Unreadable(&'a str, SourceFault),
     /// The output fails.
@@ -84,10 +86,13 @@ fn make_tests<'a, R: Threads + Wait, S: Source, W: Out, E: Out>(
     err: &mut E,
 ) -> Result<(), CommandError<'a>> {
     let settings = read_settings(matches)?;
+    let words = matches.get_strs("hold").unwrap_or(&[]);
+    let held = read_held(alloc, words)?;
     let bench = read_bench(alloc, matches, files)?;
-    let made = match generate(rt, alloc, &bench, settings) {
+    let made = match generate(rt, alloc, &bench, &held, settings) {
         Ok(made) => made,
-        Err(fault) => return Err(CommandError::Sim(fault)),
+        Err(GeneratorFault::Sim(fault)) => return Err(CommandError::Sim(fault)),
+        Err(GeneratorFault::Held(fault)) => return Err(not_held(words, fault)),
     };
     if put_all(&made.tests, out).is_err() {
         return Err(CommandError::Unwritten);
@@ -116,6 +121,36 @@ fn read_settings<'a>(matches: &ArgMatches<'a>) -> Result<Settings, CommandError<
         most,
         workers,
     })
+}
+
+/// Reads the words of each `--hold`, `NAME=0` or `NAME=1`.
+fn read_held<'a>(alloc: Global, words: &[&'a str]) -> Result<Vec<Held<'a>>, CommandError<'a>> {
+    let mut held = Vec::new(alloc);
+    for word in words {
+        let (name, bit) = match word.as_bytes() {
+            [name @ .., b'=', b'0'] => (name, false),
+            [name @ .., b'=', b'1'] => (name, true),
+            _ => return Err(CommandError::NotHeld(word, "give NAME=0 or NAME=1")),
+        };
+        if held.push(Held { name, bit }).is_err() {
+            return Err(NO_MEMORY);
+        }
+    }
+    Ok(held)
+}
+
+/// Returns the error of words of `--hold`.
+fn not_held<'a>(words: &[&'a str], fault: HeldFault) -> CommandError<'a> {
+    let reason = match fault.reason {
+        HeldReason::Undefined => "no line of the circuit defines this name",
+        HeldReason::Gate => "this is a gate: give the name of an input",
+        HeldReason::FlipFlop => "this is a flip-flop: give the name of an input",
+        HeldReason::Twice => "give this name once",
+    };
+    match words.get(fault.place) {
+        Some(word) => CommandError::NotHeld(word, reason),
+        None => CommandError::Misused("--hold"),
+    }
 }
 
 /// Reads the file of the circuit.
@@ -159,6 +194,9 @@ pub(crate) fn answer<E: Out>(fault: &CommandError<'_>, err: &mut E) -> u8
     let _ = match fault {
         CommandError::NoText => writeln!(text, "faultgen: an argument is no text"),
         CommandError::Misused(option) => writeln!(text, "faultgen: cannot use {option}"),
+        CommandError::NotHeld(word, reason) => {
+            writeln!(text, "faultgen: cannot use --hold {word}\n    {reason}")
+        }
         CommandError::Unreadable(path, fault) => {
             writeln!(text, "faultgen: cannot read {path}{fault}")
         }
@@ -166,7 +204,7 @@ pub(crate) fn answer<E: Out>(fault: &CommandError<'_>, err: &mut E) -> u8
         CommandError::Sim(fault) => writeln!(text, "faultgen: {fault}"),
     };
     match fault {
-        CommandError::NoText | CommandError::Misused(_) => MISUSED,
+        CommandError::NoText | CommandError::Misused(_) | CommandError::NotHeld(..) => MISUSED,
         CommandError::Unreadable(..) | CommandError::Unwritten => FAILED,
         CommandError::Sim(fault) => status_of(fault),
     }

@@ -7,8 +7,8 @@ ghost use Rattle.patterns.specs.Tests.{blocks};
 ghost use Rattle.block_sim.specs.Parts.{HasRoom};
 ghost use Rattle.workers.specs.Verdict.{AreClassFirsts};
 ghost use Rattle.generator.specs.Generated.{DetectsEarly};
-ghost use Rattle.generator.specs.Keeping.{AreKept, AreNeeded, AreNoted, HasFirst, HasMark};
-ghost use Rattle.generator.specs.Keeping.{IsMarked, IsWanted, in_pairs};
+ghost use Rattle.generator.specs.Keeping.{AreAmong, AreKept, AreNeeded, AreNoted, HasFirst};
+ghost use Rattle.generator.specs.Keeping.{HasMark, IsMarked, IsWanted, in_pairs};
 
 use block_sim::{Job, Workspace, detecting};
 use fault_model::Model;
@@ -35,6 +35,8 @@ pub(crate) fn keep_tests(
     ensures few { length kept.new.tests ≤ room }
     ensures stay { OnOk result ((k : ℕ) (test : List Bool) → slice_get kept.old.tests k ≡ Some test
         → slice_get kept.new.tests k ≡ Some test) }
+    ensures among { OnOk result
+        (AreAmong kept.new.tests (kept.old.tests ++ job.now.tests.tests)) }
     ensures none { OnOk result (((t : ℕ) → ¬ HasFirst firsts.now t)
         → kept.new.tests ≡ kept.old.tests) }
     ensures early { OnOk result (length kept.old.tests ≡ 0 → 2 ≤ room → (t : ℕ)
@@ -70,6 +72,7 @@ fn add_wanted(
     ensures few { length kept.new.tests ≤ room }
     ensures kept { OnOk result (AreKept tests.now.tests marks.now pairs room kept.old.tests
         kept.new.tests) }
+    ensures among { OnOk result (AreAmong kept.new.tests (kept.old.tests ++ tests.now.tests)) }
 {
     for test in 0..tests.count() {
         if !is_wanted(marks, pairs, test) {

@@ -1,6 +1,6 @@
 //! The command line of `faultgen`: options and their help.
 
-use clap::{Arg, Command, value_parser};
+use clap::{Arg, ArgAction, Command, value_parser};
 use command_basics::{MODELS, VERSION};
 use patterns::MAX_TESTS;
 use report::MAX_WORKERS;
@@ -18,13 +18,17 @@ Example, a circuit:
 
     faultgen --bench a.bench > a.tests
 
-writes tests to a.tests, one a line, and prints their coverage on standard error:
+writes tests to a.tests, one a line after a comment that names the columns, and prints their
+coverage on standard error:
 
     6 of 6 (100.00%)
 
 It tries random tests, block by block of 64, and keeps the tests that detect new faults. It ends if
 no fault is left, if 20 blocks in a row detect nothing new, or at the greatest number of tests. Of
 the best tests it writes those that are needed to detect the same faults.
+
+Use --hold NAME=0 or --hold NAME=1 for an input with the same bit in each test, as a scan enable, a
+test mode or an inactive reset. Faults that only the other bit detects stay undetected.
 
 The exit status is 0 for success, 1 for an error in the circuit, 2 for an error in the command
 line, and 3 if a file, the output, memory or a thread fails.";
@@ -70,6 +74,15 @@ fn most_option<'a>(alloc: Global) -> Arg<'a> {
         .help("The greatest number of tests, 1 to 65536")
 }
 
+/// Returns the option `--hold NAME=0|1`.
+fn hold_option<'a>(alloc: Global) -> Arg<'a> {
+    Arg::new(alloc, "hold")
+        .long("hold")
+        .value_name("NAME=0|1")
+        .action(ArgAction::Append)
+        .help("Give an input this bit in each test; you can hold several inputs")
+}
+
 /// Returns the option `--workers N`.
 fn workers_option<'a>(alloc: Global) -> Arg<'a> {
     Arg::new(alloc, "workers")
@@ -91,5 +104,6 @@ pub(crate) fn command_line<'a>(alloc: Global) -> Result<Command<'a>, AllocError>
         .arg(model_option(alloc))?
         .arg(seed_option(alloc))?
         .arg(most_option(alloc))?
+        .arg(hold_option(alloc))?
         .arg(workers_option(alloc))
 }

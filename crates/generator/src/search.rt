@@ -8,8 +8,10 @@ ghost use Rattle.patterns.specs.Tests.{IsTestList, max_pieces, max_tests};
 ghost use Rattle.block_sim.specs.Parts.{piece_count};
 ghost use Rattle.region_sim.specs.ClassOrder.{AreAllByRegion};
 ghost use Rattle.generator.specs.Generated.{AreFewPieces, DetectsEarly, FindsNone, IsWorkFault};
+ghost use Rattle.generator.specs.Held.{AreAllowed};
 ghost use Rattle.generator.specs.Keeping.{AreLeft};
-ghost use Rattle.generator.specs.RandomTests.{after_words, next_words, numbers};
+ghost use Rattle.generator.specs.RandomTests.{after_words, held_word, held_words, next_words};
+ghost use Rattle.generator.specs.RandomTests.{numbers};
 
 use crate::Settings;
 use crate::keeping::keep_tests;
@@ -31,13 +33,16 @@ const QUIET_BLOCKS: u32 = 20;
 /// The number of blocks of a round. Each round makes room for its workers anew.
 const ROUND_BLOCKS: u32 = 20;
 
-/// Tries random tests on a job, and returns the tests that detect new faults.
+/// Tries random tests on a job, and returns the tests that detect new faults. A source with a bit
+/// has it in each test.
 pub(crate) fn search<R: Threads + Wait>(
     rt: &R,
     alloc: Global,
     job: &mut Job,
+    bits: &[Option<bool>],
     settings: Settings,
 ) -> Result<Tests, SimFault>
+    requires bits { length bits.now ≡ length (sources job.old.circuit) }
     ensures classes { job.new.classes ≡ job.old.classes }
     ensures circuit { job.new.circuit ≡ job.old.circuit }
     ensures list { job.new.list ≡ job.old.list }
@@ -46,7 +51,8 @@ pub(crate) fn search<R: Threads + Wait>(
     ensures pieces { IfOk result (λ kept.
         AreFewPieces (length job.old.classes.representative) (length kept.tests)) }
     ensures early { IfOk result (λ kept. DetectsEarly job.old.list.model job.old.circuit kept.tests
-        ⊎ FindsNone job.old.list.model job.old.circuit settings.seed) }
+        ⊎ FindsNone job.old.list.model job.old.circuit bits.now settings.seed) }
+    ensures allowed { IfOk result (λ kept. AreAllowed bits.now kept.tests) }
     ensures refused { IfErr result (IsWorkFault settings.workers) }
 {
     let mut rng = SmallRng::seed_from_u64(settings.seed);
@@ -59,7 +65,7 @@ pub(crate) fn search<R: Threads + Wait>(
         if left.is_empty() || quiet >= QUIET_BLOCKS || kept.count() >= room {
             return Ok(kept);
         }
-        take_random_tests(alloc, job, blocks, &mut rng)?;
+        take_random_tests(alloc, job, blocks, bits, &mut rng)?;
         let _tests = job.tests();
         let firsts = run_classes(rt, alloc, job, &left, settings.workers)?;
         keep_tests(alloc, job, &left, &firsts, room, &mut kept)?;
@@ -97,13 +103,16 @@ fn all_classes(alloc: Global, job: &Job) -> Result<Vec<u32>, AllocError>
     Ok(classes)
 }
 
-/// Gives a job this number of blocks of random tests instead of its own.
+/// Gives a job this number of blocks of random tests instead of its own. A source with a bit has it
+/// in each test.
 fn take_random_tests(
     alloc: Global,
     job: &mut Job,
     blocks: u32,
+    bits: &[Option<bool>],
     rng: &mut SmallRng,
 ) -> Result<(), JobFault>
+    requires bits { length bits.now ≡ length (sources job.old.circuit) }
     requires limit { blocks ≤ 1024 }
     requires pieces { AreFewPieces (length job.old.classes.representative) (64 * blocks) }
     ensures classes { job.new.classes ≡ job.old.classes }
@@ -112,32 +121,36 @@ fn take_random_tests(
     ensures few { OnOk result (piece_count job.new ≤ max_pieces) }
     ensures tests { OnOk result (length job.new.tests.tests ≡ 64 * blocks) }
     ensures made { OnOk result (IsMadeOf (length (sources job.old.circuit)) (64 * blocks)
-        (next_words (length (sources job.old.circuit) * blocks) (numbers rng.old))
+        (held_words bits.now
+        (next_words (length (sources job.old.circuit) * blocks) (numbers rng.old)))
         job.new.tests) }
     ensures rest { OnOk result (numbers rng.new
         ≡ after_words (length (sources job.old.circuit) * blocks) (numbers rng.old)) }
     ensures refused { IfErr result (λ fault. fault ≡ JobFault.Memory) }
 {
-    let tests = random_tests(alloc, job.circuit().sources(), blocks, rng)?;
+    let tests = random_tests(alloc, job.circuit().sources(), blocks, bits, rng)?;
     job.set_tests(alloc, tests)
 }
 
-/// Returns this number of blocks of random tests.
+/// Returns this number of blocks of random tests. A source with a bit has it in each test.
 fn random_tests(
     alloc: Global,
     width: u32,
     blocks: u32,
+    bits: &[Option<bool>],
     rng: &mut SmallRng,
 ) -> Result<Tests, AllocError>
-    requires { blocks ≤ 1024 }
+    requires blocks { blocks ≤ 1024 }
+    requires bits { length bits.now ≡ width }
+    requires some { 1 ≤ width }
     ensures list { IfOk result (λ tests. IsTestList tests) }
     ensures width { IfOk result (λ tests. tests.width ≡ width) }
     ensures count { IfOk result (λ tests. length tests.tests ≡ 64 * blocks) }
     ensures made { IfOk result (λ tests. IsMadeOf width (64 * blocks)
-        (next_words (width * blocks) (numbers rng.old)) tests) }
+        (held_words bits.now (next_words (width * blocks) (numbers rng.old))) tests) }
     ensures rest { OnOk result (numbers rng.new ≡ after_words (width * blocks) (numbers rng.old)) }
 {
-    let words = random_words(alloc, width as usize * blocks as usize, rng)?;
+    let words = random_words(alloc, width as usize * blocks as usize, bits, rng)?;
     // Whole blocks have no idle bits, so this only fails if there is no memory.
     let Ok(tests) = Tests::from_words(alloc, width, BLOCK_SIZE * blocks, &words) else {
         return Err(AllocError);
@@ -145,16 +158,36 @@ fn random_tests(
     Ok(tests)
 }
 
-/// Returns this number of random words.
-fn random_words(alloc: Global, count: usize, rng: &mut SmallRng) -> Result<Vec<u64>, AllocError>
-    ensures words { IfOk result (λ words. words.items ≡ next_words count (numbers rng.old)) }
+/// Returns this number of random words: for each block one for each source. All bits of a word are
+/// those of its source, if that has one.
+fn random_words(
+    alloc: Global,
+    count: usize,
+    bits: &[Option<bool>],
+    rng: &mut SmallRng,
+) -> Result<Vec<u64>, AllocError>
+    requires { 0 < length bits.now }
+    ensures words { IfOk result (λ words.
+        words.items ≡ held_words bits.now (next_words count (numbers rng.old))) }
     ensures rest { OnOk result (numbers rng.new ≡ after_words count (numbers rng.old)) }
 {
     let mut words = Vec::with_capacity(alloc, count)?;
-    for _word in 0..count {
-        words.push(rng.next_u64())?;
+    for place in 0..count {
+        let word = rng.next_u64();
+        words.push(held_word(bits[place % bits.len()], word))?;
     }
     Ok(words)
+}
+
+/// Returns a word all of whose bits are this one, or the same word if there is none.
+fn held_word(bit: Option<bool>, word: u64) -> u64
+    ensures { result ≡ held_word bit word }
+{
+    match bit {
+        None => word,
+        Some(true) => u64::MAX,
+        Some(false) => 0,
+    }
 }
 
 /// Returns the classes of a list that no test detects.

@@ -1,3 +1,4 @@
 mod FirstLine
 mod Named
+mod ReadBack
 mod SourceNames

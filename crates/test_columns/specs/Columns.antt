@@ -1,9 +1,9 @@
 -- The names that a test file gives its columns, and the first that a circuit has otherwise.
 use Rattle.std.specs.Prelude.{◌≡◌, ◌≢◌, ◌⊎◌, ⊤, ℕ, ◌+◌, ◌<◌, Bool, true, false, not, ◌==◌}
-use Rattle.std.specs.Prelude.{List, [], ◌∷◌, ◌++◌, map}
+use Rattle.std.specs.Prelude.{List, [], ◌∷◌, ◌++◌}
 use Rattle.std.specs.Prelude.{bytes_eq, codes, filter, length, slice_get, if◌then◌else◌}
 use Rattle.std.specs.Prelude.{Option, Some, None, option_and_then, option_map}
-use Rattle.std.specs.List.{enumerate_from, slice_split}
+use Rattle.std.specs.List.{enumerate_from, flat_map, slice_split}
 use Rattle.std.specs.Str.Lines.{strip_carriage_return}
 use Rattle.text_lines.specs.Lines.{begins_comment, is_blank, lines}
 use Rattle.text_lines.specs.Rows.{without_front}
@@ -60,6 +60,11 @@ columns_in at = option_map (λ names. record { line = at.0; names = names }) (na
 -- `columns:`. The other words are the names.
 abbrev pub columns : List ℕ → Option Columns
 columns text = option_and_then columns_in (first_written text)
+
+-- The line that names columns, with its line feed: a comment of the word `columns:` and the names,
+-- each after a space.
+abbrev pub columns_line : List Name → List ℕ
+columns_line names = codes "# columns:" ++ (flat_map (λ name. 32 ∷ name) names ++ 10 ∷ [])
 
 -- two lists of names differ at this place, from 0, and at none before; one may end there
 pub record IsFirstDifference (found expected : List Name) (place : ℕ) : Type 0 where

@@ -2,7 +2,8 @@
 //!
 //! For example, `# columns: a b q` names the columns of tests for a circuit with the inputs `a` and
 //! `b` and the flip-flop `q`. [`check_columns`] compares the names with those of a circuit, so that
-//! tests of another order don't go unnoticed. The readers of `patterns` see only a comment.
+//! tests of another order don't go unnoticed. [`columns_line`] writes such a line. The readers of
+//! `patterns` see only a comment.
 #![tactic(auto)]
 
 ghost use Rattle.std.specs.Prelude.{◌≡◌, ◌≢◌, IfErr, OnOk};
@@ -12,13 +13,16 @@ ghost use Rattle.test_columns.specs.declared.ColumnFault.TheVariants as fault;
 mod front;
 mod line;
 mod order;
+mod written;
 
 use bench_net::{BenchFault, one_answer, read_bench};
 pub use front::read_front;
 use line::{find_columns, first_line};
 use order::compare_names;
+pub use order::source_at;
 use std::alloc::{AllocError, Global};
 use std::fmt::{self, Display, Formatter};
+pub use written::columns_line;
 
 /// The first column that has another name than the circuit's source at its place.
 #[derive(Debug, Drop)]

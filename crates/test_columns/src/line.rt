@@ -8,7 +8,7 @@ use std::alloc::{AllocError, Global};
 use text_lines::{is_blank, without_carriage_return};
 
 /// The word before the names.
-const HEADING: &[u8] = b"columns:";
+pub(crate) const HEADING: &[u8] = b"columns:";
 
 /// A line with its number, from 1.
 #[derive(Clone, Copy)]

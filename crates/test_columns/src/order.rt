@@ -59,7 +59,7 @@ fn name_at<'a>(names: &[&'a [u8]], place: usize) -> Option<&'a [u8]>
 }
 
 /// Returns the name of the source at a place in a test.
-fn source_at(circuit: &Circuit, place: usize) -> Option<&[u8]>
+pub fn source_at(circuit: &Circuit, place: usize) -> Option<&[u8]>
     requires { IsCircuit circuit.now }
     ensures { option_map (λ name. name.now) result ≡ slice_get (sources circuit.now) place }
 {

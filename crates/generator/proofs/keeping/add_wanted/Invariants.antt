@@ -1,6 +1,6 @@
-use Rattle.std.proofs.Common.{◌≡◌, ◌≤◌, ℕ, Bool, List, Some, length}
+use Rattle.std.proofs.Common.{◌≡◌, ◌≤◌, ◌++◌, ℕ, Bool, List, Some, length}
 use Rattle.std.specs.Prelude.{slice_get}
-use Rattle.generator.specs.Keeping.{IsFirstWanted, IsWanted}
+use Rattle.generator.specs.Keeping.{AreAmong, IsFirstWanted, IsWanted}
 use Rattle.generator.proofs.KeptTests.{IsBegun}
 use Rattle.generator.proofs.keeping.add_wanted.Given as goal
 
@@ -10,6 +10,7 @@ invariant-loop-test l = record {
   few : length l.kept.tests ≤ l.room;
   stay : (k : ℕ) (test : List Bool) → slice_get l.fn.kept.tests k ≡ Some test
       → slice_get l.kept.tests k ≡ Some test;
+  among : AreAmong l.kept.tests (l.fn.kept.tests ++ l.tests.tests);
   none : ((t : ℕ) → IsWanted l.marks l.pairs t → ⊥) → l.kept.tests ≡ l.fn.kept.tests;
   begun : length l.fn.kept.tests ≡ 0 → 2 ≤ l.room → (s : ℕ)
       → IsFirstWanted l.marks l.pairs s

@@ -1,6 +1,6 @@
-use Rattle.std.proofs.Common.{◌≡◌, ◌∙◌, ap, subst, sym}
+use Rattle.std.proofs.Common.{◌≡◌, ◌∙◌, ◌++◌, ap, subst, sym}
 use Rattle.std.proofs.lemmas.Result.{on_ok_weaker}
-use Rattle.generator.specs.Keeping.{AreKept, AreNeeded, in_pairs}
+use Rattle.generator.specs.Keeping.{AreAmong, AreKept, AreNeeded, in_pairs}
 use Rattle.generator.proofs.Detected.{round_early}
 use Rattle.generator.proofs.KeptTests.{none_wanted}
 use Rattle.generator.proofs.keeping.keep_tests.Goals as goal
@@ -37,3 +37,11 @@ returns-clause-early c =
     kept)
     none big t has)
     c.add_wanted.ensures.kept
+
+pub returns-clause-among : goal.returns-clause-among
+returns-clause-among c =
+    on_ok_weaker c.add_wanted.result
+    (λ among.
+    subst (λ l. AreAmong c.add_wanted.new.kept.tests (c.args.kept.now.tests ++ l.tests))
+    c.tests.ensures.part among)
+    c.add_wanted.ensures.among

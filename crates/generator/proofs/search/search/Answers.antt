@@ -1,6 +1,8 @@
-use Rattle.std.proofs.Common.{◌≡◌, ◌<◌, ◌≤◌, ◌+◌, ◌*◌, ◌∙◌, ◌⊎◌, inl, inr, ℕ, List, All, length}
+use Rattle.std.proofs.Common.{◌≡◌, ◌<◌, ◌≤◌, ◌+◌, ◌*◌, ◌∙◌, ◌++◌, ◌⊎◌, inl, inr, ℕ, List, All}
+use Rattle.std.proofs.Common.{length}
 use Rattle.std.proofs.Common.{refl, sym, ap, subst, arith, rules}
 use Rattle.std.proofs.lemmas.Bool.Decides.{nat_tests}
+use Rattle.std.proofs.lemmas.Option.{slice_get_within}
 use Rattle.bench_net.specs.Scan.{sources}
 use Rattle.bench_net.specs.Statement.{Statement}
 use Rattle.fault_model.specs.Collapse.{Collapsed}
@@ -11,8 +13,11 @@ use Rattle.region_sim.proofs.Public.{all_within}
 use Rattle.workers.specs.Verdict.{AreClassFirsts}
 use Rattle.generator.specs.Generated.{DetectsEarly}
 use Rattle.generator.specs.Keeping.{AreLeft, HasFirst}
-use Rattle.generator.specs.RandomTests.{IsRound, after_words, next_words, numbers}
+use Rattle.generator.specs.Held.{AreAllowed}
+use Rattle.generator.specs.RandomTests.{IsRound, after_words, held_words, next_words, numbers}
 use Rattle.generator.specs.RandomTests.{seeded}
+use Rattle.generator.proofs.AmongTests.{allowed_among, allowed_joined}
+use Rattle.generator.proofs.HeldColumns.{made_allowed, word_count}
 use Rattle.generator.proofs.LeftClasses.{left_within}
 use Rattle.generator.proofs.RandomWords.{round_more, seeded_is}
 use Rattle.generator.proofs.Searches.{enough_rounds, search_over, searching_along, searching_more}
@@ -33,8 +38,10 @@ loop-round-init g c =
       width = refl;
       kept = omega (arith, none);
       quiet = omega arith;
+      allowed = λ k test e.
+          absurd (omega (arith, none, slice_get_within c.new-kept.result.tests k test e));
       rest = ap numbers (c.seed_from_u64-rng.ensures ∙ sym (seeded_is c.args.settings.seed));
-      searching = searching_none job.list.model job.circuit c.args.settings.seed
+      searching = searching_none job.list.model job.circuit c.args.bits.now c.args.settings.seed
           c.min-blocks.result (length job.classes.representative) c.in_ok-left.left.items
           c.new-kept.result.tests none (λ class lt. c.in_ok-left.ensures.all class lt tt);
     }
@@ -55,14 +62,16 @@ returns-then-is_empty-clause-early g c =
       | goal.then-is_empty-via-else-is_empty+else-quiet-ge-QUIET_BLOCKS+then-count-room w ↦
           inr (inr (omega (arith, w.if-count-room.true, w.count.ensures)))
     ] in
-    search_over c.args.job.now left.items kept room c.args.settings.seed c.min-blocks.result
+    search_over c.args.job.now left.items kept c.args.bits.now room c.args.settings.seed
+    c.min-blocks.result
     c.loop-round._round quiet c.circuit.ensures.together
     (omega (arith, c.room_of-room.ensures.some)) over was.searching
 
 pub returns-clause-early : goal.returns-clause-early
 returns-clause-early g c =
     let start = c.args.job.now in
-    enough_rounds start.list.model start.circuit c.args.settings.seed c.min-blocks.result
+    enough_rounds start.list.model start.circuit c.args.bits.now c.args.settings.seed
+    c.min-blocks.result
     (length start.classes.representative) c.loop-round.left.items c.loop-round.kept.tests
     c.loop-round._round c.loop-round.quiet
     (omega (arith, c.min-blocks.ensures, c.room_of-room.ensures.some))
@@ -111,13 +120,16 @@ loop-round-preserved g c =
     length old ≡ 0 → 2 ≤ room → (t : ℕ) → HasFirst fs t
     → DetectsEarly job.list.model job.circuit new)
     c.deref-in-loop-round-2.ensures.value c.in_ok-keep_tests.ensures.early in
-    let words = length (sources start.circuit) * blocks in
-    let made : IsMadeOf (length (sources start.circuit)) (64 * blocks)
-    (next_words words (numbers c.loop-round.rng)) job.tests =
+    let bits = c.args.bits.now in
+    let width = length (sources start.circuit) in
+    let words = width * blocks in
+    let made : IsMadeOf width (64 * blocks)
+    (held_words bits (next_words words (numbers c.loop-round.rng))) job.tests =
     subst
     (λ (x : List Statement).
     IsMadeOf (length (sources x)) (64 * blocks)
-    (next_words (length (sources x) * blocks) (numbers c.loop-round.rng)) job.tests)
+    (held_words bits (next_words (length (sources x) * blocks) (numbers c.loop-round.rng)))
+    job.tests)
     was.circuit c.in_ok-take_random_tests.ensures.made in
     let after : numbers c.take_random_tests.new.rng
     ≡ after_words words (numbers c.loop-round.rng) =
@@ -126,17 +138,24 @@ loop-round-preserved g c =
     numbers c.take_random_tests.new.rng
     ≡ after_words (length (sources x) * blocks) (numbers c.loop-round.rng))
     was.circuit c.in_ok-take_random_tests.ensures.rest in
-    let of_start : IsRound seed (length (sources start.circuit)) blocks round job.tests =
+    let of_start : IsRound seed width blocks bits round job.tests =
     record {
       list = c.tests-tests.ensures.together.tests;
       made = subst
-          (λ s.
-          IsMadeOf (length (sources start.circuit)) (64 * blocks) (next_words words s) job.tests)
+          (λ s. IsMadeOf width (64 * blocks) (held_words bits (next_words words s)) job.tests)
           was.rest made;
     } in
-    let is_round : IsRound seed (length (sources job.circuit)) blocks round job.tests =
-    subst (λ (x : List Statement). IsRound seed (length (sources x)) blocks round job.tests)
+    let is_round : IsRound seed (length (sources job.circuit)) blocks bits round job.tests =
+    subst (λ (x : List Statement). IsRound seed (length (sources x)) blocks bits round job.tests)
     (sym circuit) of_start in
+    let count : length bits ≡ width = c.requires.bits in
+    let allowed : AreAllowed bits job.tests.tests =
+    made_allowed bits blocks (next_words words (numbers c.loop-round.rng)) job.tests
+    (word_count words (numbers c.loop-round.rng) ∙ ap (λ (n : ℕ). n * blocks) (sym count))
+    c.tests-tests.ensures.together.tests
+    (subst (λ (n : ℕ).
+    IsMadeOf n (64 * blocks) (held_words bits (next_words words (numbers c.loop-round.rng)))
+    job.tests) (sym count) made) in
     let counted : length still ≡ length left → c.if-len.quiet ≡ c.loop-round.quiet + blocks =
     elim c.if-len.branch [
       | then-len w ↦ λ e. absurd (omega (
@@ -150,11 +169,11 @@ loop-round-preserved g c =
       ))
       | else-len w ↦ λ e. w.quiet-is
     ] in
-    let next = searching_more job left firsts still old new room seed blocks round
+    let next = searching_more job left firsts still old new bits room seed blocks round
     c.loop-round.quiet c.if-len.quiet c.tests-tests.ensures.together are is_round
     (omega (arith, c.room_of-room.ensures.some)) c.in_ok-keep_tests.ensures.stay none early left_is
     counted
-    (searching_along start.list.model job.list.model start.circuit job.circuit seed blocks
+    (searching_along start.list.model job.list.model start.circuit job.circuit bits seed blocks
     (length start.classes.representative) n left old round c.loop-round.quiet (sym model)
     (sym circuit) (sym number) was.searching) in
     record {
@@ -165,6 +184,8 @@ loop-round-preserved g c =
       within = left_within n left firsts still left_is within;
       width = c.keep_tests.ensures.width ∙ was.width;
       kept = c.keep_tests.ensures.few;
+      allowed = allowed_among bits new (old ++ job.tests.tests) c.in_ok-keep_tests.ensures.among
+          (allowed_joined bits old job.tests.tests was.allowed allowed);
       quiet = elim c.if-len.branch [
         | then-len w ↦ omega (arith, w.quiet-is)
         | else-len w ↦ omega (
@@ -176,7 +197,8 @@ loop-round-preserved g c =
       ];
       rest = round_more words round (numbers (seeded seed)) (numbers c.loop-round.rng)
           (numbers c.take_random_tests.new.rng) was.rest after;
-      searching = searching_along job.list.model start.list.model job.circuit start.circuit seed
+      searching = searching_along job.list.model start.list.model job.circuit start.circuit
+          bits seed
           blocks n (length start.classes.representative) still new (round + 1) c.if-len.quiet model
           circuit number next;
     }
