@@ -16,7 +16,8 @@ rounds for each time.
                   its first test and how many tests detect it, up to three. `cases`: on each circuit
                   of cases/, with the tests of the cases and with 70 random ones; a file that the
                   program rejects must be rejected at the same line. `designs`: on picorv32 with 256
-                  random tests. Both, if neither is named
+                  random tests. Both, if neither is named. The counts of all blocks must be the
+                  detections, and a complemented signal is seen if a fault of its stem is detected
   --quick         leaves out tests of cases/ that take many seconds: over 500,000 faults times tests
   --generators    times the random test generator of each language, and faultgen beside them
 
@@ -126,9 +127,40 @@ def said_by(program, paths, model, *more):
     return [tuple(line.rsplit(" ", 1)) for line in out.splitlines()[:-1]]
 
 
+def are_counts_of_blocks(job, counts, most):
+    """Whether the counts of all tests are those of the blocks together, by fs_count and by the bits
+    of fs_lanes."""
+    added, ones = [0] * job.classes, [0] * job.classes
+    for block in range(job.blocks):
+        added = job.count(block, most, added)
+        ones = [it + bin(int(word)).count("1") for it, word in zip(ones, job.lanes(block))]
+    wanted = [int(it) for it in counts]
+    return [int(it) for it in added] == wanted and [min(it, most) for it in ones] == wanted
+
+
+def are_observed(job):
+    """Whether the tests that show a complemented signal are those that detect one of the two
+    stuck-at faults of its stem."""
+    of, sites = job.classes_of(), [int(it) for row in job.sites_of() for it in flat(row)]
+    for block in range(job.blocks):
+        lanes, wanted = job.lanes(block), [0] * job.signals
+        for fault in range(job.faults):
+            kind, signal = sites[4 * fault : 4 * fault + 2]
+            if kind == faultsim.LineKind.STEM:
+                wanted[signal] |= int(lanes[int(of[fault])])
+        if [int(it) for it in job.observed(block)] != wanted:
+            return False
+    return True
+
+
+def flat(row):
+    """The numbers of a row of numpy's, or a number."""
+    return row if hasattr(row, "__len__") else [row]
+
+
 def is_same(program, paths, model, number):
     """Whether names, first tests and detections are those that the program writes, and how many
-    faults there are."""
+    faults there are. The calls on one block have to agree with them."""
     with faultsim.Job(text_of(paths[0]), number) as job:
         job.set_tests(text_of(paths[1]))
         firsts = [
@@ -136,9 +168,12 @@ def is_same(program, paths, model, number):
         ]
         counts, of = job.detections(3), job.classes_of()
         counted = [(name, str(int(counts[int(of[at])]))) for at, (name, _) in enumerate(firsts)]
-        return firsts == said_by(program, paths, model) and counted == said_by(
+        same = firsts == said_by(program, paths, model) and counted == said_by(
             program, paths, model, "--detections", "3"
-        ), job.faults
+        )
+        of_blocks = are_counts_of_blocks(job, counts, 3)
+        observed = number != faultsim.Model.STUCK_AT or are_observed(job)
+        return same and of_blocks and observed, job.faults
 
 
 def is_refused_alike(program, paths, error):

@@ -243,9 +243,30 @@ uint32_t fs_responses(fs_job *job, uint64_t *words, size_t words_len);
 uint32_t fs_simulate(fs_job *job, const uint32_t *classes, size_t classes_len, uint32_t *firsts,
                      size_t firsts_len);
 
+/* Writes for each signal of a list the tests of a block in which complementing the signal is seen at
+ * an observer: bit k of its word in `lanes` is 1 exactly if test 64 * block + k detects the signal
+ * stuck at the complement of its fault-free value, under every fault model. A bit past the last test
+ * is 0. The list may have any order, and a signal more than once. The lengths are equal, and the
+ * arrays don't overlap. It simulates signal by signal, and takes no memory. */
+uint32_t fs_observed(fs_job *job, uint32_t block, const uint32_t *signals, size_t signals_len,
+                     uint64_t *lanes, size_t lanes_len);
+
 /* Writes which tests of a block detect a class: bit k of `lanes` is 1 exactly if test
  * 64 * block + k does. */
 uint32_t fs_detecting(fs_job *job, uint32_t class_number, uint32_t block, uint64_t *lanes);
+
+/* Writes for each class of a list the word that fs_detecting writes for the class and the block. The
+ * list may have any order, and a class more than once. The lengths are equal, and the arrays don't
+ * overlap. It simulates region by region. On any status but FS_DONE `lanes` is as it was. */
+uint32_t fs_lanes(fs_job *job, uint32_t block, const uint32_t *classes, size_t classes_len,
+                  uint64_t *lanes, size_t lanes_len);
+
+/* Adds to the count of each class of a list the number of tests of a block that detect it. A count
+ * that would be above `most` becomes `most`. A class that stands in the list more than once has a
+ * count at each of its places. The lengths are equal, and the arrays don't overlap. It simulates
+ * region by region, as fs_lanes does. On any status but FS_DONE `counts` is as it was. */
+uint32_t fs_count(fs_job *job, uint32_t block, const uint32_t *classes, size_t classes_len,
+                  uint32_t most, uint32_t *counts, size_t counts_len);
 
 /* Counts the tests that detect each class of a list, up to `most` for a class. The lengths are
  * equal, and the arrays don't overlap. It takes no memory. It simulates class by class, and so takes

@@ -75,17 +75,16 @@ static uint64_t lanes_of(const fs_sizes *n, uint32_t block) {
     return left >= 64 ? UINT64_MAX : ((uint64_t)1 << left) - 1;
 }
 
-/* The classes from a word on: their numbers, or all. */
-static size_t classes_at(fs_job *job, size_t at, uint32_t *classes) {
+/* The numbers from a word on, or all below a count. */
+static size_t numbers_at(size_t at, uint32_t all, uint32_t *numbers) {
     if (at < count && !strcmp(words[at], "all")) {
-        uint32_t all = sizes_of(job).classes;
         for (uint32_t i = 0; i < all; i++)
-            classes[i] = i;
+            numbers[i] = i;
         return all;
     }
     size_t listed = 0;
     while (at < count)
-        classes[listed++] = number(at++);
+        numbers[listed++] = number(at++);
     return listed;
 }
 
@@ -360,7 +359,7 @@ static uint32_t say_responses(fs_job *job, fs_fault *fault) {
 static uint32_t say_firsts(fs_job *job, fs_fault *fault) {
     (void)fault;
     uint32_t classes[WORDS], firsts[WORDS];
-    size_t of = classes_at(job, 2, classes);
+    size_t of = numbers_at(2, sizes_of(job).classes, classes);
     uint32_t status = fs_simulate(job, classes, of, firsts, of);
     say_tests(firsts, status ? 0 : of);
     return status;
@@ -375,10 +374,46 @@ static uint32_t say_lanes(fs_job *job, fs_fault *fault) {
     return status;
 }
 
+/* The words of the signals or classes of a list, by fs_observed or fs_lanes. */
+static uint32_t say_words(fs_job *job, const uint32_t *list, size_t of, bool are_signals) {
+    uint64_t lanes[WORDS];
+    uint32_t status = are_signals ? fs_observed(job, number(2), list, of, lanes, of)
+                                  : fs_lanes(job, number(2), list, of, lanes, of);
+    for (size_t i = 0; !status && i < of; i++)
+        say(i ? " %" PRIx64 : "%" PRIx64, lanes[i]);
+    return status;
+}
+
+static uint32_t say_observed(fs_job *job, fs_fault *fault) {
+    (void)fault;
+    uint32_t signals[WORDS];
+    size_t of = numbers_at(3, sizes_of(job).signals, signals);
+    return say_words(job, signals, of, true);
+}
+
+static uint32_t say_class_lanes(fs_job *job, fs_fault *fault) {
+    (void)fault;
+    uint32_t classes[WORDS];
+    size_t of = numbers_at(3, sizes_of(job).classes, classes);
+    return say_words(job, classes, of, false);
+}
+
+/* Counts from the same count for each class. */
+static uint32_t say_added(fs_job *job, fs_fault *fault) {
+    (void)fault;
+    uint32_t classes[WORDS], counts[WORDS];
+    size_t of = numbers_at(5, sizes_of(job).classes, classes);
+    for (size_t i = 0; i < of; i++)
+        counts[i] = number(4);
+    uint32_t status = fs_count(job, number(2), classes, of, number(3), counts, of);
+    say_numbers(counts, status ? 0 : of);
+    return status;
+}
+
 static uint32_t say_counts(fs_job *job, fs_fault *fault) {
     (void)fault;
     uint32_t classes[WORDS], counts[WORDS];
-    size_t of = classes_at(job, 3, classes);
+    size_t of = numbers_at(3, sizes_of(job).classes, classes);
     uint32_t status = fs_detections(job, classes, of, number(2), counts, of);
     say_numbers(counts, status ? 0 : of);
     return status;
@@ -466,7 +501,8 @@ static const struct {
     {"signal_named", say_signal}, {"kinds_of", say_kinds}, {"levels_of", say_levels},
     {"fan_ins_of", say_fan_ins}, {"sites_of", say_sites}, {"fault_at", say_fault_at},
     {"values", say_values}, {"observers", say_observers}, {"responses", say_responses},
-    {"simulate", say_firsts},
+    {"simulate", say_firsts}, {"observed", say_observed}, {"lanes", say_class_lanes},
+    {"count", say_added},
     {"detecting", say_lanes}, {"detections", say_counts}, {"report", say_report},
     {"coverage", say_coverage}, {"firsts", say_in_one}, {"version", say_version},
     {"error", say_error}, {"status", say_status_text},

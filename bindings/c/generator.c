@@ -4,46 +4,12 @@
  * usage: generator BENCH [SEED] > TESTS
  *
  * The tests go to standard output, and a line about them to standard error. */
+#include "example.h"
 #include "faultsim.h"
 
 #include <inttypes.h>
-#include <stdio.h>
-#include <stdlib.h>
 
 enum { IDLE = 20 };
-
-static void end(const char *why) {
-    fprintf(stderr, "generator: %s\n", why);
-    exit(1);
-}
-
-static void *room(size_t count, size_t size) {
-    void *at = calloc(count ? count : 1, size);
-    if (!at)
-        end("no memory");
-    return at;
-}
-
-static uint8_t *read_file(const char *path, size_t *size) {
-    FILE *file = fopen(path, "rb");
-    if (!file || fseek(file, 0, SEEK_END))
-        end(path);
-    *size = (size_t)ftell(file);
-    rewind(file);
-    uint8_t *text = room(*size, 1);
-    if (fread(text, 1, *size, file) != *size)
-        end(path);
-    fclose(file);
-    return text;
-}
-
-/* Random words (Vigna, xorshift64*). */
-static uint64_t next(uint64_t *state) {
-    *state ^= *state >> 12;
-    *state ^= *state << 25;
-    *state ^= *state >> 27;
-    return *state * 2685821657736338717u;
-}
 
 /* Keeps the tests of a block that are the first of a class, and drops those classes from the list.
  * Returns how many it keeps. */

@@ -41,7 +41,7 @@ static fs_job job, second;
 static fs_fault fault;
 static fs_sizes n;
 static uint32_t *classes, *firsts, *expected, faults;
-static uint64_t *words;
+static uint64_t *words, *lanes;
 static uint8_t *text;
 static size_t text_len, wanted;
 
@@ -83,6 +83,14 @@ static uint32_t in_one(void) {
                      strlen(tests), firsts, n.faults, &faults, &fault);
 }
 
+static uint32_t class_lanes(void) {
+    return fs_lanes(&job, 0, classes, n.classes, lanes, n.classes);
+}
+
+static uint32_t add_counts(void) {
+    return fs_count(&job, 0, classes, n.classes, 5, firsts, n.classes);
+}
+
 /* The calls about the circuit in arrays, over memory of the program. */
 static uint32_t circuit_without(void) {
     static uint32_t numbers[4096], pins[4096], one;
@@ -104,7 +112,11 @@ static uint32_t circuit_without(void) {
         status = fs_fault_at(&job, &sites[n.faults - 1], &one);
     if (!status)
         status = fs_signal_named(&job, text, wanted, &one);
-    return status ? status : fs_values(&job, 0, values, n.signals);
+    if (!status)
+        status = fs_values(&job, 0, values, n.signals);
+    for (uint32_t i = 0; i < n.signals; i++)
+        numbers[i] = i;
+    return status ? status : fs_observed(&job, 0, numbers, n.signals, values, n.signals);
 }
 
 /* The calls that take no memory: the first that isn't done, or FS_DONE. */
@@ -195,6 +207,7 @@ static void make_room(void) {
     classes = room(n.classes, sizeof *classes);
     firsts = room(n.faults, sizeof *firsts);
     words = room((size_t)n.blocks * n.sources, sizeof *words);
+    lanes = room(n.classes, sizeof *lanes);
     uint8_t none;
     status = fs_report(&job, FS_LINES_ALL, true, &none, 0, &text_len);
     if (status != FS_RANGE)
@@ -235,6 +248,8 @@ int main(int argc, char **argv) {
     refused += refuse("fs_set_words", set_words);
     refused += refuse("fs_next_words", next_words);
     refused += refuse("fs_simulate", simulate);
+    refused += refuse("fs_lanes", class_lanes);
+    refused += refuse("fs_count", add_counts);
     refused += refuse("fs_fault_text", fault_text);
     refused += refuse("fs_report", report);
     refused += refuse("fs_job_share", share_it);
@@ -249,6 +264,7 @@ int main(int argc, char **argv) {
     free(firsts);
     free(expected);
     free(words);
+    free(lanes);
     free(text);
     printf("%ld refused\n", refused);
     return refused < 20;

@@ -73,17 +73,22 @@ static std::uint64_t lanes_of(const faultsim::Job &job, std::size_t block) {
     return left >= 64 ? ~std::uint64_t{0} : (std::uint64_t{1} << left) - 1;
 }
 
-// The classes from a word on: their numbers, or all.
-static Numbers classes_at(const Call &call, std::size_t at) {
-    Numbers classes;
+// The numbers from a word on, or all below a count.
+static Numbers numbers_at(const Call &call, std::size_t at, std::uint32_t count) {
+    Numbers numbers;
     if (at < call.words.size() && call.words[at] == "all") {
-        classes.resize(call.job().sizes().classes);
-        std::iota(classes.begin(), classes.end(), 0u);
-        return classes;
+        numbers.resize(count);
+        std::iota(numbers.begin(), numbers.end(), 0u);
+        return numbers;
     }
     for (; at < call.words.size(); at++)
-        classes.push_back(call.number(at));
-    return classes;
+        numbers.push_back(call.number(at));
+    return numbers;
+}
+
+// The classes from a word on: their numbers, or all.
+static Numbers classes_at(const Call &call, std::size_t at) {
+    return numbers_at(call, at, call.job().sizes().classes);
 }
 
 static Words words_from(const Call &call, std::size_t at) {
@@ -176,6 +181,26 @@ static std::string simulate(const Call &call) {
     return joined(firsts, test_of);
 }
 
+static std::string observed(const Call &call) {
+    Numbers signals = numbers_at(call, 1, call.job().sizes().signals);
+    Words words(signals.size());
+    call.job().observed(call.number(0), signals, words);
+    return joined(words, hexadecimal);
+}
+
+static std::string lanes(const Call &call) {
+    Numbers classes = classes_at(call, 1);
+    Words words(classes.size());
+    call.job().lanes(call.number(0), classes, words);
+    return joined(words, hexadecimal);
+}
+
+static std::string count(const Call &call) {
+    Numbers classes = classes_at(call, 3), counts(classes.size(), call.number(2));
+    call.job().count(call.number(0), classes, call.number(1), counts);
+    return joined(counts, decimal);
+}
+
 static std::string detections(const Call &call) {
     Numbers classes = classes_at(call, 1), counts(classes.size());
     call.job().detections(classes, call.number(0), counts);
@@ -240,6 +265,9 @@ static const std::map<std::string, std::function<std::string(const Call &)>> cal
      }},
     {"responses", [](const Call &it) { return responses(it.job()); }},
     {"simulate", simulate},
+    {"observed", observed},
+    {"lanes", lanes},
+    {"count", count},
     {"detecting", [](const Call &it) {
          return hexadecimal(it.job().detecting(it.number(0), it.number(1)));
      }},

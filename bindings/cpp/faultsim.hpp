@@ -80,8 +80,9 @@ inline void check(std::uint32_t status, fs_fault fault = {}) {
 }
 
 // A call may not read what it writes.
-inline void check_apart(std::span<const std::uint32_t> read, std::span<std::uint32_t> written) {
-    std::less<const std::uint32_t *> before;
+template <class Number>
+void check_apart(std::span<const std::uint32_t> read, std::span<Number> written) {
+    std::less<const void *> before;
     if (before(written.data(), read.data() + read.size())
         && before(read.data(), written.data() + written.size()))
         check(FS_RANGE);
@@ -327,6 +328,35 @@ public:
             coverage.faults++;
         }
         return coverage;
+    }
+
+    // Writes for each signal of a list the tests of a block in which complementing the signal is
+    // seen at an observer: bit k of its word is 1 exactly if test 64 * block + k detects the signal
+    // stuck at the complement of its fault-free value. The lengths are equal. Spans that overlap are
+    // out of range.
+    void observed(std::uint32_t block, std::span<const std::uint32_t> signals,
+                  std::span<std::uint64_t> words) const {
+        detail::check_apart(signals, words);
+        detail::check(fs_observed(&handle, block, detail::at(signals), signals.size(),
+                                  detail::at(words), words.size()));
+    }
+
+    // Writes for each class of a list the word that detecting returns for the class and the block,
+    // region by region. The lengths are equal. Spans that overlap are out of range.
+    void lanes(std::uint32_t block, std::span<const std::uint32_t> classes,
+               std::span<std::uint64_t> words) const {
+        detail::check_apart(classes, words);
+        detail::check(fs_lanes(&handle, block, detail::at(classes), classes.size(),
+                               detail::at(words), words.size()));
+    }
+
+    // Adds to the count of each class of a list the number of tests of a block that detect it, up
+    // to `most`, region by region. The lengths are equal. Spans that overlap are out of range.
+    void count(std::uint32_t block, std::span<const std::uint32_t> classes, std::uint32_t most,
+               std::span<std::uint32_t> counts) const {
+        detail::check_apart(classes, counts);
+        detail::check(fs_count(&handle, block, detail::at(classes), classes.size(), most,
+                               detail::at(counts), counts.size()));
     }
 
     // Returns a word: bit k is 1 exactly if test 64 * block + k detects the class.

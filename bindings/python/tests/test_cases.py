@@ -153,6 +153,20 @@ class Calls:
         found = _tests(self.jobs[handle].simulate(asked))
         return _same(found, _tests(self.jobs[handle].simulate(asked, workers=3)))
 
+    def observed(self, handle, block, *signals):
+        words = self.jobs[handle].observed(int(block), self._classes(list(signals)))
+        return " ".join(f"{int(word):x}" for word in words)
+
+    def lanes(self, handle, block, *classes):
+        words = self.jobs[handle].lanes(int(block), self._classes(list(classes)))
+        return " ".join(f"{int(word):x}" for word in words)
+
+    def count(self, handle, block, most, start, *classes):
+        job, asked = self.jobs[handle], self._classes(list(classes))
+        before = [int(start)] * (job.classes if asked is None else len(asked))
+        after = job.count(int(block), int(most), before, asked)
+        return _joined(after) if before == [int(start)] * len(before) else "other counts before"
+
     def detecting(self, handle, class_, block):
         return f"{self.jobs[handle].detecting(int(class_), int(block)):x}"
 

@@ -470,6 +470,69 @@ impl Job {
         Ok(firsts.into_iter().map(some_test).collect())
     }
 
+    /// Returns for each signal of a list the tests of a block in which complementing the signal is
+    /// seen at an observer: bit k of its word is 1 exactly if test `64 * block + k` detects the
+    /// signal stuck at the complement of its fault-free value, under every fault model.
+    pub fn observed(&self, block: u32, signals: &[u32]) -> Result<Vec<u64>, Error> {
+        let mut lanes = vec![0; signals.len()];
+        // SAFETY: as above; the call tests the block and the signals.
+        let status = unsafe {
+            sys::fs_observed(
+                self.0.get(),
+                block,
+                signals.as_ptr(),
+                signals.len(),
+                lanes.as_mut_ptr(),
+                lanes.len(),
+            )
+        };
+        told(status, Fault::default())?;
+        Ok(lanes)
+    }
+
+    /// Returns for each class of a list the word that [`Job::detecting`] returns for the class and
+    /// the block. It simulates region by region.
+    pub fn lanes(&self, block: u32, classes: &[u32]) -> Result<Vec<u64>, Error> {
+        let mut lanes = vec![0; classes.len()];
+        // SAFETY: as above; the call tests the block and the classes.
+        let status = unsafe {
+            sys::fs_lanes(
+                self.0.get(),
+                block,
+                classes.as_ptr(),
+                classes.len(),
+                lanes.as_mut_ptr(),
+                lanes.len(),
+            )
+        };
+        told(status, Fault::default())?;
+        Ok(lanes)
+    }
+
+    /// Adds to the count of each class of a list the number of tests of a block that detect it, up
+    /// to `most`. The lengths are equal. It simulates region by region.
+    pub fn count(
+        &self,
+        block: u32,
+        classes: &[u32],
+        most: u32,
+        counts: &mut [u32],
+    ) -> Result<(), Error> {
+        // SAFETY: as above; the call tests the block, the classes and the lengths.
+        let status = unsafe {
+            sys::fs_count(
+                self.0.get(),
+                block,
+                classes.as_ptr(),
+                classes.len(),
+                most,
+                counts.as_mut_ptr(),
+                counts.len(),
+            )
+        };
+        told(status, Fault::default())
+    }
+
     /// Returns a word: bit k is 1 exactly if test `64 * block + k` detects the class.
     pub fn detecting(&self, class: u32, block: u32) -> Result<u64, Error> {
         let mut lanes = 0;

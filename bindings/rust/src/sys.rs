@@ -142,7 +142,32 @@ extern "C" {
         firsts: *mut u32,
         firsts_len: usize,
     ) -> u32;
+    pub fn fs_observed(
+        job: *mut Handle,
+        block: u32,
+        signals: *const u32,
+        signals_len: usize,
+        lanes: *mut u64,
+        lanes_len: usize,
+    ) -> u32;
     pub fn fs_detecting(job: *mut Handle, class: u32, block: u32, lanes: *mut u64) -> u32;
+    pub fn fs_lanes(
+        job: *mut Handle,
+        block: u32,
+        classes: *const u32,
+        classes_len: usize,
+        lanes: *mut u64,
+        lanes_len: usize,
+    ) -> u32;
+    pub fn fs_count(
+        job: *mut Handle,
+        block: u32,
+        classes: *const u32,
+        classes_len: usize,
+        most: u32,
+        counts: *mut u32,
+        counts_len: usize,
+    ) -> u32;
     pub fn fs_detections(
         job: *mut Handle,
         classes: *const u32,

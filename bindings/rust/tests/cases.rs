@@ -67,11 +67,15 @@ impl Call<'_> {
         }
     }
 
-    fn classes(&self, at: usize) -> Vec<u32> {
+    fn numbers(&self, at: usize, count: u32) -> Vec<u32> {
         match self.words.get(at) {
-            Some(&"all") => (0..self.job().sizes().classes).collect(),
+            Some(&"all") => (0..count).collect(),
             _ => (at..self.words.len()).map(|it| self.number(it)).collect(),
         }
+    }
+
+    fn classes(&self, at: usize) -> Vec<u32> {
+        self.numbers(at, self.job().sizes().classes)
     }
 
     fn given_words(&self, at: usize) -> Vec<u64> {
@@ -176,6 +180,29 @@ fn take(name: &str, call: &mut Call) -> Result<String, Error> {
     Ok(String::new())
 }
 
+/// What a call that simulates for a list on one block returns.
+fn on_a_block(name: &str, call: &Call) -> Result<String, Error> {
+    let (job, block) = (call.job(), call.number(0));
+    let words = match name {
+        "observed" => {
+            let signals = call.numbers(1, job.sizes().signals);
+            call.run(|| job.observed(block, &signals))?
+        }
+        "lanes" => {
+            let classes = call.classes(1);
+            call.run(|| job.lanes(block, &classes))?
+        }
+        "count" => {
+            let (most, classes) = (call.number(1), call.classes(3));
+            let mut counts = vec![call.number(2); classes.len()];
+            call.run(|| job.count(block, &classes, most, &mut counts))?;
+            return Ok(joined(counts, " "));
+        }
+        other => panic!("no call {other}"),
+    };
+    Ok(joined(words.iter().map(|word| format!("{word:x}")), " "))
+}
+
 /// What a call that simulates returns.
 fn simulated(name: &str, call: &Call) -> Result<String, Error> {
     let job = call.job();
@@ -206,7 +233,7 @@ fn simulated(name: &str, call: &Call) -> Result<String, Error> {
             let (detected, faults) = job.coverage()?;
             format!("{detected} of {faults}")
         }
-        other => panic!("no call {other}"),
+        _ => on_a_block(name, call)?,
     })
 }
 

@@ -8,3 +8,4 @@ mod Options
 mod ObservedSignals
 mod ListsOfJobs
 mod LastTests
+mod BlockLanes

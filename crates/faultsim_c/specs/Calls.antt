@@ -12,6 +12,7 @@ use Rattle.fault_model.specs.Collapse.{IsClassOf}
 use Rattle.fault_model.specs.Fault.{Fault, faults}
 use Rattle.patterns.specs.Tests.{HasTests, blocks}
 use Rattle.block_sim.specs.First.{IsFirst}
+use Rattle.block_sim.specs.Flips.{AreObserving}
 use Rattle.block_sim.specs.Parts.{BelongTogether, Parts}
 use Rattle.flat_circuit.specs.Regions.{IsStemOfClass}
 use Rattle.flat_circuit.specs.Words.{IsFaultFreeWord}
@@ -146,3 +147,14 @@ pub record AreResponseWords (parts : Parts) (words : List ℕ) : Type 0 where
       → IsFaultFreeWord parts.circuit parts.tests.tests block
       (slice_index (observed parts.circuit) place)
       (slice_index words (block * length (observed parts.circuit) + place))
+
+-- a list of signals, with as much room for their words
+abbrev pub AreSignals : Parts → List ℕ → List ℕ → Type 0
+AreSignals parts signals lanes = (length lanes ≡ length signals)
+    × All (λ s. s < length (names parts.circuit)) signals
+
+-- for each signal of a list the lanes of the tests of a block that detect it complemented
+pub record AreObserved (parts : Parts) (block : ℕ) (signals lanes : List ℕ) : Type 0 where
+  pub count : length lanes ≡ length signals
+  pub each : (k s word : ℕ) → slice_get signals k ≡ Some s → slice_get lanes k ≡ Some word
+      → AreObserving parts.circuit parts.tests.tests s block word

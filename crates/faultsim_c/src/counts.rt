@@ -4,7 +4,7 @@ ghost use Rattle.std.specs.Prelude.{◌≡◌, ◌≢◌, ◌<◌, All, None, So
 ghost use Rattle.block_sim.specs.Parts.{Parts};
 ghost use Rattle.faultsim_c.specs.Calls.{AreClassCounts, AreRequests, job_of};
 
-use crate::are_classes;
+use crate::are_below;
 use crate::handle::{FsJob, put, take};
 use crate::session::Session;
 use crate::status::{DONE, NO_JOB, RANGE};
@@ -44,7 +44,7 @@ fn detections_in(session: &mut Session, classes: &[u32], most: u32, counts: &mut
     ensures untouched { result ≢ 0 → counts.new ≡ counts.old }
     ensures kept { session.new ≡ session.old }
 {
-    if counts.len() != classes.len() || !are_classes(classes, session.job().classes().count()) {
+    if counts.len() != classes.len() || !are_below(classes, session.job().classes().count()) {
         return RANGE;
     }
     count_classes(session, classes, most, counts);

@@ -32,6 +32,7 @@ mod following;
 mod handle;
 mod held;
 mod holding;
+mod lanes;
 mod observed;
 mod run;
 mod session;
@@ -365,7 +366,7 @@ fn simulate_in(alloc: Global, session: &mut Session, classes: &[u32], firsts: &m
     ensures untouched { result ≢ 0 → firsts.new ≡ firsts.old }
     ensures kept { session.new ≡ session.old }
 {
-    if firsts.len() != classes.len() || !are_classes(classes, session.job().classes().count()) {
+    if firsts.len() != classes.len() || !are_below(classes, session.job().classes().count()) {
         return RANGE;
     }
     match simulate(alloc, session, classes, firsts) {
@@ -374,11 +375,11 @@ fn simulate_in(alloc: Global, session: &mut Session, classes: &[u32], firsts: &m
     }
 }
 
-/// Returns whether all are below the number of classes.
-pub(crate) fn are_classes(classes: &[u32], count: u32) -> bool
-    ensures { IsTrue result ↔ All (λ class. class < count) classes.now }
+/// Returns whether all numbers of a list are below a count.
+pub(crate) fn are_below(numbers: &[u32], count: u32) -> bool
+    ensures { IsTrue result ↔ All (λ number. number < count) numbers.now }
 {
-    classes.iter().all(|class| *class < count)
+    numbers.iter().all(|number| *number < count)
 }
 
 /// Writes the lanes of a block whose tests detect a class.

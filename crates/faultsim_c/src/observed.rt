@@ -1,12 +1,17 @@
-//! Calls about what is observed: the OUTPUT lines, and the data pins of the flip-flops.
+//! Calls about what is observed: the OUTPUT lines, the data pins of the flip-flops, and the tests
+//! in which they see a complemented signal.
 
-ghost use Rattle.std.specs.Prelude.{◌≡◌, ◌≢◌, ◌*◌, ◌<◌, None, Some, length, slice_get, slice_index};
+ghost use Rattle.std.specs.Prelude.{◌≡◌, ◌≢◌, ◌⊎◌, ◌*◌, ◌<◌, ◌≤◌, All, None, Some, length};
+ghost use Rattle.std.specs.Prelude.{slice_get, slice_index};
 ghost use Rattle.bench_net.specs.Scan.{names};
 ghost use Rattle.patterns.specs.Tests.{blocks};
 ghost use Rattle.block_sim.specs.Parts.{Parts};
-ghost use Rattle.faultsim_c.specs.Calls.{AreResponseWords, IsCopied, job_of, observed};
+ghost use Rattle.faultsim_c.specs.Calls.{AreObserved, AreResponseWords, AreSignals, IsCopied};
+ghost use Rattle.faultsim_c.specs.Calls.{job_of, observed};
 
+use crate::are_below;
 use crate::handle::{FsJob, put, take};
+use crate::session::Session;
 use crate::status::{DONE, NO_JOB, RANGE};
 use bench_net::{Circuit, ScanCell};
 use block_sim::Job;
@@ -135,4 +140,67 @@ fn cell_at(cells: &[ScanCell], place: usize) -> ScanCell
     ensures { slice_get cells.now place ≡ Some result }
 {
     cells[place]
+}
+
+/// Writes for each signal of a list the lanes of a block whose tests show the complemented signal
+/// at an observer. The lengths are equal.
+#[unsafe(no_mangle)]
+pub extern "C" fn fs_observed(
+    alloc: Global,
+    job: &mut FsJob,
+    block: u32,
+    signals: &[u32],
+    lanes: &mut [u64],
+) -> u32
+    ensures done { (parts : Parts) → job_of job.old.held.holding ≡ Some parts
+        → block < blocks (length parts.tests.tests) → AreSignals parts signals.now lanes.old
+        → (result ≡ 0) × AreObserved parts block signals.now lanes.new }
+    ensures range { (parts : Parts) → job_of job.old.held.holding ≡ Some parts
+        → (blocks (length parts.tests.tests) ≤ block)
+        ⊎ (¬ AreSignals parts signals.now lanes.old) → result ≡ 4 }
+    ensures no_job { job.old.held.holding ≡ None → result ≡ 1 }
+    ensures untouched { result ≢ 0 → lanes.new ≡ lanes.old }
+    ensures kept { job.new.held.holding ≡ job.old.held.holding }
+{
+    let Some(mut holding) = take(alloc, job) else {
+        return NO_JOB;
+    };
+    let status = observed_in(&mut holding.session, block, signals, lanes);
+    put(alloc, job, holding);
+    status
+}
+
+/// Writes for each signal of a list the lanes of a block whose tests show it complemented, in a
+/// session.
+fn observed_in(session: &mut Session, block: u32, signals: &[u32], lanes: &mut [u64]) -> u32
+    ensures done { block < blocks (length session.old.tests.tests)
+        → AreSignals session.old signals.now lanes.old
+        → (result ≡ 0) × AreObserved session.old block signals.now lanes.new }
+    ensures range { (blocks (length session.old.tests.tests) ≤ block)
+        ⊎ (¬ AreSignals session.old signals.now lanes.old) → result ≡ 4 }
+    ensures untouched { result ≢ 0 → lanes.new ≡ lanes.old }
+    ensures kept { session.new ≡ session.old }
+{
+    let job = session.job();
+    if block >= job.tests().blocks()
+        || lanes.len() != signals.len()
+        || !are_below(signals, job.circuit().signals())
+    {
+        return RANGE;
+    }
+    observe_signals(session, block, signals, lanes);
+    DONE
+}
+
+/// Writes for each signal of a list the lanes of a block whose tests show it complemented.
+fn observe_signals(session: &mut Session, block: u32, signals: &[u32], lanes: &mut [u64])
+    requires block { block < blocks (length session.old.tests.tests) }
+    requires signals { All (λ s. s < length (names session.old.circuit)) signals.now }
+    requires lengths { length lanes.old ≡ length signals.now }
+    ensures observed { AreObserved session.old block signals.now lanes.new }
+    ensures kept { session.new ≡ session.old }
+{
+    for place in 0..signals.len() {
+        lanes[place] = session.observing(signals[place], block);
+    }
 }

@@ -2,10 +2,11 @@
 
 ghost use Rattle.std.specs.Prelude.{◌≡◌, ◌<◌, All, IfErr, IfOk, length};
 ghost use Rattle.bench_net.specs.Circuit.{IsCircuit};
-ghost use Rattle.bench_net.specs.Scan.{sources};
+ghost use Rattle.bench_net.specs.Scan.{names, sources};
 ghost use Rattle.patterns.specs.Making.{IsMadeOf};
 ghost use Rattle.patterns.specs.Tests.{HasTests, IsTestList, TestList, blocks};
 ghost use Rattle.block_sim.specs.First.{AreDetecting};
+ghost use Rattle.block_sim.specs.Flips.{AreObserving};
 ghost use Rattle.block_sim.specs.Parts.{BelongTogether, with_tests};
 ghost use Rattle.fault_model.specs.Collapse.{IsClassOf};
 ghost use Rattle.fault_model.specs.Fault.{Fault};
@@ -20,7 +21,7 @@ ghost use Rattle.faultsim_c.specs.Following.{following};
 use crate::following::after_last;
 use crate::status::Refusal;
 use bench_net::{Circuit, read_bench};
-use block_sim::{Job, Workspace, detecting};
+use block_sim::{Job, Workspace, detecting, observing};
 use fault_model::{Model as FaultModel, collapse, list_faults_in};
 use n_detect::class_detections;
 use patterns::{Tests, read_tests};
@@ -189,6 +190,16 @@ impl Session {
         ensures kept { self.new ≡ self.old }
     {
         detecting(&self.job, &mut self.workspace, class, block)
+    }
+
+    /// Returns the lanes of a block in which an observer sees a complemented signal.
+    pub(crate) fn observing(&mut self, signal: u32, block: u32) -> u64
+        requires signal { signal < length (names self.old.circuit) }
+        requires block { block < blocks (length self.old.tests.tests) }
+        ensures lanes { AreObserving self.old.circuit self.old.tests.tests signal block result }
+        ensures kept { self.new ≡ self.old }
+    {
+        observing(&self.job, &mut self.workspace, signal, block)
     }
 
     /// Returns the number of tests that detect a class. Counting ends at `most`.

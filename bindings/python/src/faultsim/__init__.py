@@ -165,6 +165,12 @@ def _room(count: int, code: str) -> Any:
     return array(code, bytes(count * (4 if code == "I" else 8)))
 
 
+def _copied(values: Iterable[int]) -> Any:
+    """Numbers of 32 bits in memory of their own, to be written by a call."""
+    numbers = _numbers(values, "I")
+    return numbers[:] if numpy is None else numpy.array(numbers)
+
+
 _NOTHING = ctypes.c_uint64()
 
 
@@ -703,6 +709,51 @@ class Job:
             library.fs_simulate, _address(asked), len(asked), _address(found), len(found)
         )
         check(status)
+
+    def observed(self, block: int, signals: Optional[Iterable[int]] = None) -> Words:
+        """For each signal of a list, or for all, the tests of a block in which complementing the
+        signal is seen at an observer: an array of the shape (signals,). Bit k of a word is 1
+        exactly if test 64 * block + k detects the signal stuck at the complement of its fault-free
+        value, under every fault model. It simulates signal by signal."""
+        asked = _numbers(range(self.signals) if signals is None else signals, "I")
+        return self._on_block(library.fs_observed, block, asked)
+
+    def lanes(self, block: int, classes: Optional[Iterable[int]] = None) -> Words:
+        """For each class of a list, or for all, the word that `detecting` returns for the class and
+        the block: an array of the shape (classes,). It simulates region by region."""
+        asked = self._all() if classes is None else _numbers(classes, "I")
+        return self._on_block(library.fs_lanes, block, asked)
+
+    def _on_block(self, function: Any, block: int, asked: Any) -> Any:
+        """The words of a list on a block."""
+        words = _room(len(asked), "Q")
+        lists = _address(asked), len(asked), _address(words), len(words)
+        check(self._call(function, _number(block), *lists))
+        return words
+
+    def count(
+        self,
+        block: int,
+        most: int,
+        counts: Iterable[int],
+        classes: Optional[Iterable[int]] = None,
+    ) -> Numbers:
+        """The counts of a list of classes, or of all, each with the number of tests of a block that
+        detect the class added, up to `most`: an array of the shape (classes,). `counts` is as it
+        was. It simulates region by region."""
+        asked = self._all() if classes is None else _numbers(classes, "I")
+        added = _copied(counts)
+        status = self._call(
+            library.fs_count,
+            _number(block),
+            _address(asked),
+            len(asked),
+            _number(most),
+            _address(added),
+            len(added),
+        )
+        check(status)
+        return added
 
     def detecting(self, class_: int, block: int) -> int:
         """A word: bit k is 1 exactly if test 64 * block + k detects the class."""

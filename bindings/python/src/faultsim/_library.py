@@ -117,7 +117,10 @@ SIGNATURES = {
     "fs_observers_of": (_U32, [_JOB, _U32S, _SIZE, _TO_SIZE]),
     "fs_responses": (_U32, [_JOB, _U64S, _SIZE]),
     "fs_simulate": (_U32, [_JOB, _U32S, _SIZE, _U32S, _SIZE]),
+    "fs_observed": (_U32, [_JOB, _U32, _U32S, _SIZE, _U64S, _SIZE]),
     "fs_detecting": (_U32, [_JOB, _U32, _U32, _TO_U64]),
+    "fs_lanes": (_U32, [_JOB, _U32, _U32S, _SIZE, _U64S, _SIZE]),
+    "fs_count": (_U32, [_JOB, _U32, _U32S, _SIZE, _U32, _U32S, _SIZE]),
     "fs_detections": (_U32, [_JOB, _U32S, _SIZE, _U32, _U32S, _SIZE]),
     "fs_report": (_U32, [_JOB, _U32, c.c_bool, _U8S, _SIZE, _TO_SIZE]),
     "fs_firsts": (
