@@ -10,7 +10,6 @@ pub serves_with_tests : (runner : Runner) (job : Parts) (tests : TestList)
 serves_with_tests runner job tests s = record {
   regions = record {
     room = s.regions.room;
-    places = s.regions.places;
     followed = s.regions.followed;
   };
   order = record {
