@@ -12,7 +12,8 @@ use Rattle.workers.specs.Refused.{IsRunFault}
 use Rattle.workers.specs.Stops.{no_stop}
 use Rattle.job_loading.specs.declared.fault.SimFault.{SimFault}
 use Rattle.job_loading.specs.Jobs.{IsJobOf, IsJobWithin}
-use Rattle.analysis_reports.specs.Detected.{IsCountFault, IsDetectionReportOf}
+use Rattle.analysis_reports.specs.Detected.{IsDetectionReportOf}
+use Rattle.region_runs.specs.Refused.{IsOpenFault}
 use Rattle.analysis_reports.specs.Detected.{IsDetectionReportOfJob}
 use Rattle.analysis_reports.specs.Detected.{count_line, detection_report}
 use Rattle.report.specs.EndToEnd.{IsJobReportFault, IsReportFault}
@@ -35,7 +36,7 @@ counts_of_texts m bench text most list job of bytes of_job =
     )
 
 -- an error of counting is an error of a run
-count_fault : (job : Parts) (workers : ℕ) (f : RunFault) → IsCountFault workers f
+count_fault : (job : Parts) (workers : ℕ) (f : RunFault) → IsOpenFault workers f
     → IsRunFault job workers ⊤ no_stop f
 count_fault job workers run_fault.NoWorkers h = h
 count_fault job workers run_fault.TooManyWorkers h = h
@@ -48,10 +49,10 @@ count_fault job workers (run_fault.Unfinished c b) h = absurd h
 -- an error of counting for a job within the limit of pieces is an error for the files
 pub job_count_fault : (m : Model) (bench text : List ℕ) (workers : ℕ) (job : Parts)
     → IsJobWithin m bench text job → (f : SimFault)
-    → IsJobReportFault workers (IsCountFault workers) f → IsReportFault m bench text workers f
+    → IsJobReportFault workers (IsOpenFault workers) f → IsReportFault m bench text workers f
 job_count_fault m bench text workers job within f h =
     job_run_fault m bench text workers job within f
-    (report_fault_as workers (IsCountFault workers) (IsRunFault job workers ⊤ no_stop)
+    (report_fault_as workers (IsOpenFault workers) (IsRunFault job workers ⊤ no_stop)
     (count_fault job workers) f h)
 
 -- the line of a fault with the number of tests that detect it

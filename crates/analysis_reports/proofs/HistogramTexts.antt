@@ -19,7 +19,8 @@ use Rattle.job_loading.specs.declared.split.Split.{Split}
 use Rattle.job_loading.specs.declared.split.Split.TheVariants as split
 use Rattle.job_loading.specs.Jobs.{IsJobFault, IsJobOf, IsReadFault}
 use Rattle.job_loading.specs.Splits.{IsSplitFault, IsSplitOf}
-use Rattle.analysis_reports.specs.Detected.{IsCountFault, detection_report}
+use Rattle.analysis_reports.specs.Detected.{detection_report}
+use Rattle.region_runs.specs.Refused.{IsOpenFault}
 use Rattle.report.specs.EndToEnd.{IsJobReportFault, IsReportFault, IsTextFault}
 use Rattle.analysis_reports.specs.Histogram.{IsCountedFault, IsHistogramReportOf}
 use Rattle.analysis_reports.specs.Histogram.{IsHistogramReportOfJob}
@@ -82,7 +83,7 @@ line_of_count count faults a b e f = rw (e, f) (simp append_assoc)
 
 -- the same for files whose number of pieces isn't limited
 read : (m : Model) (bench text : List ℕ) (workers : ℕ) (f : SimFault) → IsReadFault bench text f
-    → IsTextFault m bench text workers (λ job. IsCountFault workers) f
+    → IsTextFault m bench text workers (λ job. IsOpenFault workers) f
 read m bench text workers (fault.Run f) h = absurd h
 read m bench text workers (fault.Report f) h = absurd h
 read m bench text workers (fault.Bench f) h = h
@@ -110,14 +111,14 @@ counted_refused m bench text split.Fitting workers f h = read m bench text worke
 -- errors of the counts of a job
 pub counted_fault : (m : Model) (bench text : List ℕ) (s : Split) (parts workers : ℕ) (job : Parts)
     → IsJobOf m bench text job → IsSplitOf job s workers parts → (f : SimFault)
-    → IsJobReportFault workers (IsCountFault workers) f
+    → IsJobReportFault workers (IsOpenFault workers) f
     → IsCountedFault m bench text s workers f
 counted_fault m bench text split.Whole parts workers job of is f h =
     job_count_fault m bench text workers job (of, is.2) f h
 counted_fault m bench text (split.Parts n) parts workers job of is f h =
-    text_fault m bench text workers (λ x. IsCountFault workers) job of f h
+    text_fault m bench text workers (λ x. IsOpenFault workers) job of f h
 counted_fault m bench text split.Fitting parts workers job of is f h =
-    text_fault m bench text workers (λ x. IsCountFault workers) job of f h
+    text_fault m bench text workers (λ x. IsOpenFault workers) job of f h
 
 -- the line of a count of the histogram is the line of a pair
 pair_at : (faults : List ℕ) (i : ℕ) → i < length faults

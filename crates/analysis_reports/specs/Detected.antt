@@ -9,9 +9,7 @@ use Rattle.fault_model.specs.Fault.{Fault, faults}
 use Rattle.patterns.specs.Tests.{TestList, HasTests}
 use Rattle.block_sim.specs.Parts.{Parts}
 use Rattle.n_detect.specs.Detections.{AreCounts}
-use Rattle.workers.specs.declared.RunFault.{RunFault}
-use Rattle.workers.specs.declared.RunFault.TheVariants.{Memory, Threads}
-use Rattle.workers.specs.Refused.{IsWorkersFault}
+use Rattle.region_runs.specs.Refused.{IsOpenFault}
 use Rattle.report.specs.Report.{coverage_line, fault_text}
 
 -- a line: `FAULT COUNT`
@@ -36,13 +34,6 @@ IsDetectionReportOf m bench text most list bytes = (c : List Statement) × (test
     × (counts : List ℕ) × IsAccepted bench c
     × HasTests text (length (sources c)) tests × AreCounts m c tests.tests most counts
     × (bytes ≡ detection_report m c most counts list)
-
--- the condition of each error of counting with this many workers: their number, and then memory or
--- a thread
-abbrev pub IsCountFault : ℕ → RunFault → Type 0
-IsCountFault workers Memory = (0 < workers) × (workers ≤ 64)
-IsCountFault workers Threads = (0 < workers) × (workers ≤ 64)
-IsCountFault workers fault = IsWorkersFault workers fault
 
 -- the bytes are this report of a job
 abbrev pub IsDetectionReportOfJob : Parts → ℕ → Bool → List ℕ → Type 0

@@ -12,7 +12,8 @@ use Rattle.n_detect.specs.Detections.{AreCounts}
 use Rattle.job_loading.specs.declared.fault.SimFault.{SimFault}
 use Rattle.job_loading.specs.declared.split.Split.{Split}
 use Rattle.job_loading.specs.declared.split.Split.TheVariants as split
-use Rattle.analysis_reports.specs.Detected.{IsCountFault, detection_report}
+use Rattle.analysis_reports.specs.Detected.{detection_report}
+use Rattle.region_runs.specs.Refused.{IsOpenFault}
 use Rattle.report.specs.EndToEnd.{IsReportFault, IsTextFault}
 
 -- 1 if this count is n, else 0; and the number of faults with the count n
@@ -53,6 +54,6 @@ IsHistogramReportOfJob job most list bytes = (counts : List ℕ)
 abbrev pub IsCountedFault : Model → List ℕ → List ℕ → Split → ℕ → SimFault → Type 0
 IsCountedFault m bench text split.Whole workers f = IsReportFault m bench text workers f
 IsCountedFault m bench text (split.Parts count) workers f =
-    IsTextFault m bench text workers (λ job. IsCountFault workers) f
+    IsTextFault m bench text workers (λ job. IsOpenFault workers) f
 IsCountedFault m bench text split.Fitting workers f =
-    IsTextFault m bench text workers (λ job. IsCountFault workers) f
+    IsTextFault m bench text workers (λ job. IsOpenFault workers) f

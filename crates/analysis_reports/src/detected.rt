@@ -7,7 +7,8 @@ ghost use Rattle.fault_model.specs.Fault.{faults};
 ghost use Rattle.block_sim.specs.Parts.{BelongTogether};
 ghost use Rattle.n_detect.specs.Detections.{AreCounts};
 ghost use Rattle.byte_output.specs.Output.{Writes};
-ghost use Rattle.analysis_reports.specs.Detected.{IsCountFault, IsDetectionReportOf};
+ghost use Rattle.analysis_reports.specs.Detected.{IsDetectionReportOf};
+ghost use Rattle.region_runs.specs.Refused.{IsOpenFault};
 ghost use Rattle.analysis_reports.specs.Detected.{IsDetectionReportOfJob};
 ghost use Rattle.analysis_reports.specs.Detected.{count_line, detection_report, reached_count};
 ghost use Rattle.report.specs.EndToEnd.{IsJobReportFault, IsReportFault, IsTextFault, WritesOneOf};
@@ -18,12 +19,11 @@ use byte_output::{Out, OutFailed};
 use fault_model::{Faults, Model};
 use itoa::Buffer;
 use job_loading::{ReportFault, SimFault, job_of_any_size_in_threads, job_of_in_threads};
-use n_detect::{CountFault, detections};
+use n_detect::detections;
 use report::{put_coverage, put_fault_line};
 use std::alloc::Global;
 use std::sync::Wait;
 use std::thread::Threads;
-use workers::{MAX_WORKERS, RunFault};
 
 /// Reads a circuit and tests for it, and writes how many tests detect each fault of a model. With
 /// `list` it writes a line for each fault. Then it writes how many faults at least `most` tests
@@ -82,7 +82,7 @@ pub fn detections_text_of_any_size<R: Threads + Wait, W: Out>(
     ensures written { WritesOneOf (IsDetectionReportOf model bench.now tests.now most list) result
         (W.seen out.old) (W.seen out.new) }
     ensures refused { IfErr result (IsTextFault model bench.now tests.now workers
-        (λ job. IsCountFault workers)) }
+        (λ job. IsOpenFault workers)) }
     ensures workers { OnOk result ((0 < workers) × (workers ≤ 64)) }
 {
     let job = job_of_any_size_in_threads(rt, alloc, model, bench, tests, workers)?;
@@ -102,42 +102,12 @@ fn report_counts<R: Threads + Wait, W: Out>(
     requires job { BelongTogether job.now }
     ensures written { WritesOneOf (IsDetectionReportOfJob job.now most list) result
         (W.seen out.old) (W.seen out.new) }
-    ensures refused { IfErr result (IsJobReportFault workers (IsCountFault workers)) }
+    ensures refused { IfErr result (IsJobReportFault workers (IsOpenFault workers)) }
     ensures workers { OnOk result ((0 < workers) × (workers ≤ 64)) }
 {
-    let counts = counts_of(rt, alloc, job, most, workers)?;
+    let counts = detections(rt, alloc, job, most, workers)?;
     write_detections(job, counts.as_slice(), most, list, out)?;
     Ok(())
-}
-
-/// Returns for each fault of a job how many tests detect it, counted up to `most`, by workers in
-/// threads of their own.
-///
-/// # Errors
-///
-/// [`RunFault::NoWorkers`] or [`RunFault::TooManyWorkers`] if the number of workers is not one of a
-/// run; and the errors of memory and threads.
-pub fn counts_of<R: Threads + Wait>(
-    rt: &R,
-    alloc: Global,
-    job: &Job,
-    most: u32,
-    workers: u32,
-) -> Result<Vec<u32>, RunFault>
-    ensures counts { IfOk result (λ counts. AreCounts job.now.list.model job.now.circuit
-        job.now.tests.tests most counts.items) }
-    ensures refused { IfErr result (IsCountFault workers) }
-    ensures workers { OnOk result ((0 < workers) × (workers ≤ 64)) }
-{
-    match workers {
-        0 => Err(RunFault::NoWorkers),
-        1..=MAX_WORKERS => match detections(rt, alloc, job, most, workers) {
-            Ok(counts) => Ok(counts),
-            Err(CountFault::Memory) => Err(RunFault::Memory),
-            Err(CountFault::Threads) => Err(RunFault::Threads),
-        },
-        _ => Err(RunFault::TooManyWorkers),
-    }
 }
 
 /// Writes the report of how many tests detect each fault of a job. With `listed` it writes a line

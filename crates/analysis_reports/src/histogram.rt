@@ -5,18 +5,20 @@ ghost use Rattle.std.specs.Prelude.{get_or, length};
 ghost use Rattle.block_sim.specs.Parts.{BelongTogether};
 ghost use Rattle.job_loading.specs.Splits.{HasSomePart};
 ghost use Rattle.byte_output.specs.Output.{Writes};
-ghost use Rattle.analysis_reports.specs.Detected.{IsCountFault, detection_report};
+ghost use Rattle.analysis_reports.specs.Detected.{detection_report};
+ghost use Rattle.region_runs.specs.Refused.{IsOpenFault};
 ghost use Rattle.report.specs.EndToEnd.{IsJobReportFault, WritesOneOf};
 ghost use Rattle.analysis_reports.specs.Histogram.{IsCountedFault, IsHistogramReportOf};
 ghost use Rattle.analysis_reports.specs.Histogram.{IsHistogramReportOfJob, histogram};
 ghost use Rattle.analysis_reports.specs.Histogram.{histogram_line, histogram_text, one_with};
 
-use crate::detected::{counts_of, write_detections};
+use crate::detected::write_detections;
 use block_sim::Job;
 use byte_output::{Out, OutFailed, put_pieces};
 use fault_model::Model;
 use itoa::Buffer;
 use job_loading::{ReportFault, SimFault, Split, split_job_of};
+use n_detect::detections;
 use std::alloc::{AllocError, Global};
 use std::sync::Wait;
 use std::thread::Threads;
@@ -77,10 +79,10 @@ fn report_histogram<R: Threads + Wait, W: Out>(
     requires job { BelongTogether job.now }
     ensures written { WritesOneOf (IsHistogramReportOfJob job.now most list) result
         (W.seen out.old) (W.seen out.new) }
-    ensures refused { IfErr result (IsJobReportFault workers (IsCountFault workers)) }
+    ensures refused { IfErr result (IsJobReportFault workers (IsOpenFault workers)) }
     ensures workers { OnOk result ((0 < workers) × (workers ≤ 64)) }
 {
-    let counts = counts_of(rt, alloc, job, most, workers)?;
+    let counts = detections(rt, alloc, job, most, workers)?;
     let _faults = job.faults().count();
     let Ok(faults) = histogram_of(alloc, &counts, most) else {
         return Err(SimFault::Run(RunFault::Memory));

@@ -19,7 +19,7 @@ mod whole;
 
 pub use compacted::{KeptCount, KeptForm, KeptLayout, compact_text_in, compact_text_with};
 pub use compaction::TestOrder;
-pub use detected::{counts_of, detections_text_in, detections_text_of_any_size, write_detections};
+pub use detected::{detections_text_in, detections_text_of_any_size, write_detections};
 pub use histogram::{histogram_of, histogram_text_in};
 pub use launched::pairs_text_in;
 pub use reasoned::{

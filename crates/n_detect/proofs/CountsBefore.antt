@@ -1,40 +1,31 @@
--- Counts on the first tests of a list.
-use Rattle.std.proofs.Common.{◌≡◌, ◌<◌, ◌≤◌, ◌+◌, ◌-◌, ◌*◌, ℕ, Bool, length, min, ap}
-use Rattle.std.proofs.Common.{◌∙◌, arith, refl}
-use Rattle.std.specs.Prelude.{Some, count_by, slice_get}
+-- Counts on the first tests of a list, and those that a run keeps.
+use Rattle.std.proofs.Common.{◌≡◌, ◌<◌, ◌≤◌, ◌+◌, ◌-◌, ◌*◌, ℕ, Bool, List, length, max, min, ap}
+use Rattle.std.proofs.Common.{◌∙◌, arith, lt-ltb, refl}
+use Rattle.std.specs.Prelude.{Some, count_by, nat_lt, slice_get, slice_index}
 use Rattle.std.specs.Bool.{Decides}
+use Rattle.std.proofs.lemmas.Option.{slice_get_within}
 use Rattle.list_lemmas.proofs.Places.{within_place}
+use Rattle.counting_sort.specs.SortedPlaces.{ArePositions}
 use Rattle.fault_model.specs.Fault.{Fault}
 use Rattle.fault_model.specs.Collapse.{representatives}
 use Rattle.fault_model.specs.Detection.{DetectsAt}
-use Rattle.patterns.specs.Least.{below}
-use Rattle.flat_circuit.specs.declared.block_span.BlockSpan.{BlockSpan}
-use Rattle.region_sim.specs.Goals.{HasTakenSpan}
-use Rattle.n_detect.specs.HitCounts.{IsHitCount}
+use Rattle.patterns.specs.Least.{below, from_up}
+use Rattle.patterns.specs.Tests.{blocks}
 use Rattle.block_sim.specs.Parts.{BelongTogether, Parts}
 use Rattle.flat_circuit.proofs.Public.{representative_at}
 use Rattle.block_sim.proofs.Public.{which_detect}
-use Rattle.n_detect.specs.Detections.{IsClassCount}
-use Rattle.n_detect.specs.Share.{IsCountBefore}
+use Rattle.region_runs.specs.Tasks.{AreKept, IsOpenAtFirst, task_of}
+use Rattle.n_detect.specs.Detections.{AreCountsAt, IsClassCount}
+use Rattle.n_detect.specs.HitCounts.{IsHitCount}
 use Rattle.n_detect.proofs.RangeCounts.{all_blocks}
 
--- no test is counted yet
-pub none_before : (job : Parts) (most class n : ℕ) → n ≡ 0 → IsCountBefore job most class 0 n
-none_before job most class n is r detects of decides =
-    let none : count_by detects (below 0) ≡ 0 = refl in
-    omega (arith, is, none)
-
--- a sweep more
-pub count_more_before : (job : Parts) (most class before n : ℕ) (span : BlockSpan)
-    → IsCountBefore job most class (64 * span.first) before
-    → HasTakenSpan (IsHitCount most) job span class before n
-    → IsCountBefore job most class (64 * span.last + 64) n
-count_more_before job most class before n span was taken r detects of decides =
-    let from : 64 * span.first ≡ 64 * span.first - 0 = omega arith in
-    let to : 64 * span.last + 64 - 0 ≡ 64 * span.last + 64 = omega arith in
-    taken detects 0 (r, of, decides) (omega arith)
-    (was r detects of decides ∙ ap (λ m. min most (count_by detects (below m))) from)
-    ∙ ap (λ m. min most (count_by detects (below m))) to
+-- of the first tests, as many as the number, this many detect the representative of a class,
+-- counted up to `most`
+abbrev IsCountBefore : Parts → ℕ → ℕ → ℕ → ℕ → Type 0
+IsCountBefore job most class tests count = (r : Fault) (detects : ℕ → Bool)
+    → slice_get (representatives job.list.model job.circuit) class ≡ Some r
+    → ((t : ℕ) → Decides (detects t) (DetectsAt job.circuit job.tests.tests r t))
+    → count ≡ min most (count_by detects (below tests))
 
 module _ (job : Parts) (most class tests count : ℕ) (b : BelongTogether job)
     (lt : class < length job.classes.representative) where
@@ -69,3 +60,45 @@ module _ (job : Parts) (most class tests count : ℕ) (b : BelongTogether job)
       let so_far = counted fault.0 which.0 fault.1 which.1 in
       let all = all_blocks job.circuit job.tests.tests fault.0 which.0 which.1 tests done in
       counted_by (so_far ∙ ap (min most) all)
+
+-- what a run for counts keeps of all classes is the count of each at its position
+pub counts_at : (job : Parts) (most : ℕ) (classes positions kept : List ℕ) → BelongTogether job
+    → ArePositions classes positions → length positions ≡ length job.classes.representative
+    → AreKept (task_of job (λ n. nat_lt n most) (IsHitCount most)) classes kept
+    → AreCountsAt job most positions kept
+counts_at job most classes positions kept b placed long are = record {
+  count = long;
+  within = λ class lt.
+      let at = placed.each class (omega (arith, lt, long)) in
+      let low = slice_get_within classes (slice_index positions class) class at in
+      let count = are.count in
+      omega (arith, low, count);
+  each = λ class n lt is.
+      let at = placed.each class (omega (arith, lt, long)) in
+      counted_before job most class (64 * blocks (length job.tests.tests)) n b lt (omega arith)
+      (λ r detects of decides.
+      let whole : 64 * blocks (length job.tests.tests) - 0 ≡ 64 * blocks (length job.tests.tests) =
+      omega arith in
+      are.each detects (slice_index positions class) class n at is (r, of, decides)
+      ∙ ap (λ m. min most (count_by detects (below m))) whole);
+}
+
+-- a count up to a number, of one up to a greater one
+pub fewer : (job : Parts) (most class n : ℕ) → IsClassCount job (max most 1) class n
+    → IsClassCount job most class (min most n)
+fewer job most class n is = record {
+  fault = is.fault;
+  of = is.of;
+  count = record {
+    detects = is.count.detects;
+    decides = is.count.decides;
+    number = omega (arith, is.count.number);
+  };
+}
+
+-- a count up to a number that isn't 0 is open at first
+pub open_at_first : (job : Parts) (most : ℕ)
+    → IsOpenAtFirst (task_of job (λ n. nat_lt n (max most 1)) (IsHitCount (max most 1)))
+open_at_first job most n hits is =
+    let none : count_by hits (from_up 0 (0 - 0)) ≡ 0 = refl in
+    lt-ltb n (max most 1) (omega (arith, is, none))

@@ -1,5 +1,5 @@
 -- Laws of counts over ranges of numbers.
-use Rattle.std.proofs.Common.{◌≡◌, ◌<◌, ◌≤◌, ◌+◌, ◌-◌, ℕ, zero, suc, Bool, false, cond}
+use Rattle.std.proofs.Common.{◌≡◌, ◌<◌, ◌≤◌, ◌+◌, ◌-◌, ◌*◌, ℕ, zero, suc, Bool, false, cond}
 use Rattle.std.proofs.Common.{refl, sym, ap, ◌∙◌, arith}
 use Rattle.std.specs.Prelude.{count_by, nat_lt}
 use Rattle.std.proofs.lemmas.Bool.{false≢true}
@@ -8,6 +8,7 @@ use Rattle.std.proofs.lemmas.Bool.{cases_lt}
 use Rattle.std.proofs.Common.{◌⊎◌, inl, inr, lt-ltb, true}
 use Rattle.patterns.specs.Least.{from_up}
 use Rattle.n_detect.specs.HitCounts.{IsHitCount}
+use Rattle.n_detect.specs.ListLanes.{AreLanesIn}
 
 -- one number more at the front
 pub count_more : (p : ℕ → Bool) (a n : ℕ)
@@ -77,3 +78,42 @@ count_stays most n hits low high more full le is = go (cases_lt n most)
 -- what is always wanted is never not wanted
 pub always_wanted : {A : Type 0} → true ≡ false → A
 always_wanted off = absurd (false≢true (sym off))
+
+-- one number of hits decides whether more are wanted
+pub count_agrees : (most one other : ℕ) (hits : ℕ → Bool) (low high : ℕ)
+    → IsHitCount most hits low high one → IsHitCount most hits low high other
+    → nat_lt one most ≡ nat_lt other most
+count_agrees most one other hits low high a b = ap (λ n. nat_lt n most) (a ∙ sym b)
+
+-- tests that are no hits change no count
+pub count_unchanged : (most n : ℕ) (hits : ℕ → Bool) (low high more : ℕ) → high ≤ more
+    → ((t : ℕ) → high ≤ t → t < more → hits t ≡ false) → IsHitCount most hits low high n
+    → IsHitCount most hits low more n
+count_unchanged most n hits low high more le none is = go (cases_lt high low)
+  where
+    go : (high < low) ⊎ (low ≤ high) → IsHitCount most hits low more n
+    go (inl under) =
+        let before : high - low ≡ 0 = omega (arith, under) in
+        let own = ap (λ k. count_by hits (from_up low k)) before in
+        let rest = count_none hits low (more - low) (λ j lt.
+        none (low + j) (omega (arith, under)) (omega (arith, lt))) in
+        omega (arith, is, own, rest)
+    go (inr up) =
+        let parts : more - low ≡ (high - low) + (more - high) = omega (arith, le, up) in
+        let both = count_parts hits low (high - low) (more - high) in
+        let whole = ap (λ k. count_by hits (from_up low k)) parts in
+        let rest = count_none hits (low + (high - low)) (more - high) (λ j lt.
+        none (low + (high - low) + j) (omega (arith, up)) (omega (arith, lt, up))) in
+        omega (arith, is, both, whole, rest)
+
+-- nor lanes
+pub lanes_unchanged : (group word : ℕ) (hits : ℕ → Bool) (low high more : ℕ) → high ≤ more
+    → ((t : ℕ) → high ≤ t → t < more → hits t ≡ false) → AreLanesIn group hits low high word
+    → AreLanesIn group hits low more word
+lanes_unchanged group word hits low high more le none are = λ k lt. (
+  λ on. (let h = (are k lt).0 on in let below = h.1 in (h.0, omega (arith, below, le), h.2)),
+  λ h. (elim (cases_lt (128 * group + k) high) [
+    | inl under ↦ (are k lt).1 (h.0, under, h.2)
+    | inr above ↦ absurd (false≢true (sym (none (128 * group + k) above h.1) ∙ h.2))
+  ]),
+)

@@ -1,5 +1,6 @@
 -- The number of tests that detect a fault.
-use Rattle.std.specs.Prelude.{◌≡◌, ℕ, Bool, List, Some, count_by, length, min, slice_get}
+use Rattle.std.specs.Prelude.{◌≡◌, ◌<◌, ℕ, Bool, List, Some, count_by, length, min, slice_get}
+use Rattle.std.specs.Prelude.{slice_index}
 use Rattle.std.specs.Bool.{Decides}
 use Rattle.bench_net.specs.Statement.{Statement}
 use Rattle.fault_model.specs.declared.Model.{Model}
@@ -30,3 +31,11 @@ pub record AreCounts (m : Model) (c : List Statement) (tests : List Test) (most 
   pub count : length counts ≡ length (faults m c)
   pub each : (i : ℕ) (f : Fault) (n : ℕ) → slice_get (faults m c) i ≡ Some f
       → slice_get counts i ≡ Some n → IsCount c tests most f n
+
+-- each class has a position, and there stands its count
+pub record AreCountsAt (job : Parts) (most : ℕ) (positions counts : List ℕ) : Type 0 where
+  pub count : length positions ≡ length job.classes.representative
+  pub within : (class : ℕ) → class < length job.classes.representative
+      → slice_index positions class < length counts
+  pub each : (class n : ℕ) → class < length job.classes.representative
+      → slice_get counts (slice_index positions class) ≡ Some n → IsClassCount job most class n

@@ -1,5 +1,4 @@
 pub mod Detections
-pub mod Share
 pub mod ListLanes
 pub mod HitCounts
 pub mod CountLaws

@@ -1,10 +1,11 @@
 //! The number of tests that detect a class, as the goal of a simulation.
 
 ghost use Rattle.std.specs.Prelude.{◌≡◌, ◌^◌, ◌<◌, min, nat_lt, true};
-ghost use Rattle.n_detect.specs.CountLaws.{count_stays};
+ghost use Rattle.n_detect.specs.CountLaws.{count_agrees, count_stays, count_unchanged};
 ghost use Rattle.n_detect.specs.HitCounts.{IsHitCount};
 
 use region_sim::Goal;
+use std::alloc::{AllocError, Global};
 
 /// The number of tests that detect a class, counted up to a number.
 #[derive(Clone, Copy)]
@@ -15,7 +16,7 @@ pub(crate) struct Count {
 
 impl Goal for Count {
     ghost use Rattle.std.specs.Prelude.{nat_lt, true};
-    ghost use Rattle.n_detect.specs.CountLaws.{count_stays};
+    ghost use Rattle.n_detect.specs.CountLaws.{count_agrees, count_stays, count_unchanged};
     ghost use Rattle.n_detect.specs.HitCounts.{IsHitCount};
 
     type Kept = u32;
@@ -29,6 +30,16 @@ impl Goal for Count {
     ghost means = { λ goal hits low high kept. IsHitCount goal.most hits low high kept };
 
     ghost stays = { λ goal kept hits low high more. count_stays goal.most kept hits low high more };
+
+    ghost agrees = { λ goal one other hits low high.
+        count_agrees goal.most one other hits low high };
+
+    ghost unchanged = { λ goal kept hits low high more.
+        count_unchanged goal.most kept hits low high more };
+
+    fn start(&self, _alloc: Global) -> Result<u32, AllocError> {
+        Ok(0)
+    }
 
     #[inline(always)]
     fn is_open(&self, kept: &u32) -> bool {
@@ -44,7 +55,7 @@ impl Goal for Count {
 
 /// Returns the lesser of two numbers.
 #[inline(always)]
-fn least(one: u32, other: u32) -> u32
+pub(crate) fn least(one: u32, other: u32) -> u32
     ensures least { result ≡ min one other }
     ensures fits { one < 2 ^ 32 }
 {

@@ -6,11 +6,11 @@ ghost use Rattle.bench_net.specs.Scan.{names};
 ghost use Rattle.flat_circuit.specs.BlockSpans.{IsSpan, groups};
 ghost use Rattle.block_sim.specs.Listed.{IsListed};
 ghost use Rattle.region_sim.specs.ClassOrder.{AreRowsOf};
-ghost use Rattle.n_detect.specs.CountLaws.{always_wanted};
+ghost use Rattle.region_sim.specs.OpenPlaces.{AreSuccessors};
+ghost use Rattle.n_detect.specs.CountLaws.{always_wanted, lanes_unchanged};
 ghost use Rattle.n_detect.specs.ListLanes.{AreLanesIn, AreListLanes, HaveGroupLanes, IsOrderOf};
 ghost use Rattle.n_detect.specs.ListLanes.{numbers_at};
 
-use crate::share::successors;
 use block_sim::block_span::BlockSpan;
 use block_sim::{Job, ListedClass};
 use counting_sort::{SortedPlaces, sorted_places};
@@ -129,6 +129,19 @@ fn lanes_of(
     Ok(words)
 }
 
+/// Returns for each of some places the one after it.
+fn successors(alloc: Global, places: usize) -> Result<Vec<usize>, AllocError>
+    requires { places < 2 ^ 63 }
+    ensures count { IfOk result (λ next. length next.items ≡ places) }
+    ensures next { IfOk result (λ next. AreSuccessors next.items) }
+{
+    let mut next = Vec::with_capacity(alloc, places)?;
+    for place in 0..places {
+        next.push(place + 1)?;
+    }
+    Ok(next)
+}
+
 /// Returns the blocks of a group that there are.
 fn span_of(job: &Job, group: u32) -> BlockSpan
     requires { group < groups (length job.now.tests.tests) }
@@ -150,8 +163,8 @@ struct GroupLanes {
 }
 
 impl Goal for GroupLanes {
-    ghost use Rattle.std.specs.Prelude.{true};
-    ghost use Rattle.n_detect.specs.CountLaws.{always_wanted};
+    ghost use Rattle.std.specs.Prelude.{refl, true};
+    ghost use Rattle.n_detect.specs.CountLaws.{always_wanted, lanes_unchanged};
     ghost use Rattle.n_detect.specs.ListLanes.{AreLanesIn};
 
     type Kept = u128;
@@ -165,6 +178,15 @@ impl Goal for GroupLanes {
     ghost means = { λ goal hits low high kept. AreLanesIn goal.group hits low high kept };
 
     ghost stays = { λ goal kept hits low high more wanted le was. always_wanted wanted };
+
+    ghost agrees = { λ _ one other hits low high a b. refl };
+
+    ghost unchanged = { λ goal kept hits low high more.
+        lanes_unchanged goal.group kept hits low high more };
+
+    fn start(&self, _alloc: Global) -> Result<u128, AllocError> {
+        Ok(0)
+    }
 
     #[inline(always)]
     fn is_open(&self, _kept: &u128) -> bool {

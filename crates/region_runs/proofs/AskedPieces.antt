@@ -1,129 +1,110 @@
--- The gate was asked for all pieces whose class no earlier block detects.
-use Rattle.std.proofs.Common.{◌≡◌, ◌<◌, ◌≤◌, ◌+◌, ◌-◌, ◌*◌, ◌⊎◌, inl, inr, ℕ, zero, suc, List}
-use Rattle.std.proofs.Common.{length, set}
-use Rattle.std.proofs.Common.{Option, Some, None, get_or, refl, sym, ap, ◌∙◌, subst, arith}
+-- The gate was asked for all pieces whose class the earlier blocks leave open.
+use Rattle.std.proofs.Common.{◌≡◌, ◌<◌, ◌≤◌, ◌+◌, ◌*◌, ◌⊎◌, inl, inr, ℕ, Bool, true, false}
+use Rattle.std.proofs.Common.{List, All, length, Option, Some, None, sym, ap, ◌∙◌, subst, refl}
+use Rattle.std.proofs.Common.{arith}
 use Rattle.std.specs.Prelude.{slice_get}
-use Rattle.std.proofs.lemmas.Bool.{cases_eq, cases_lt}
-use Rattle.std.proofs.lemmas.List.{length-set}
-use Rattle.std.proofs.lemmas.Option.{slice_get-get_or, slice_get-map, slice_get_within}
 use Rattle.std.specs.Option.{option_map}
-use Rattle.patterns.specs.Least.{Table, least}
-use Rattle.patterns.specs.Tests.{blocks}
-use Rattle.patterns.specs.declared.Outcome.{Outcome}
-use Rattle.patterns.specs.declared.Outcome.TheVariants.{Clear, Hit}
+use Rattle.std.proofs.lemmas.Bool.{cases_lt, false≢true}
+use Rattle.std.proofs.lemmas.Option.{slice_get-map, slice_get_within}
 use Rattle.flat_circuit.specs.declared.origin.ListedClass.{ListedClass}
-use Rattle.block_sim.specs.First.{IsTrueOutcome}
+use Rattle.block_sim.specs.Listed.{IsListed}
 use Rattle.block_sim.specs.Parts.{BelongTogether, Parts}
-use Rattle.region_sim.specs.OpenPlaces.{AreSettled}
-use Rattle.block_sim.proofs.Public.{true_table}
-use Rattle.workers.specs.Schedule.{IsTableOf}
 use Rattle.workers.specs.Stops.{Stops}
 use Rattle.region_sim.specs.ClassOrder.{classes_of}
+use Rattle.region_sim.specs.Goals.{AreHits}
+use Rattle.region_sim.specs.RegionHits.{IsOpenAt}
 use Rattle.region_runs.specs.BlockSweeps.{AreNotStopped}
-use Rattle.region_runs.specs.StretchRuns.{AreFoundUpTo, ArePassed, IsEarlier, IsUndetected}
-use Rattle.list_lemmas.proofs.Places.{from_mapped}
-use Rattle.region_runs.proofs.FirstHits.{class_there}
-use Rattle.region_runs.proofs.OpenClasses.{get_set_here, get_set_other, set_other}
-use Rattle.region_runs.proofs.StretchRuns.{done_high, least_kept}
+use Rattle.region_runs.specs.StretchRuns.{AreKeptUpTo, ArePassed, IsEarlier, IsOpenAfter}
+use Rattle.region_runs.specs.Tasks.{IsSound, Task}
+use Rattle.list_lemmas.proofs.Places.{from_mapped, within_place}
+use Rattle.region_runs.proofs.FirstHits.{class_there, row_listed}
+use Rattle.region_runs.proofs.StretchRuns.{done_high, some_hits}
 
--- a class that is hit in the first blocks is so in more
-pub least_on : (table : Table) (n m class t : ℕ) → n ≤ m → least table n class ≡ Some t
-    → least table m class ≡ Some t
-least_on table n m class t le is =
-    let same : n + (m - n) ≡ m = omega (arith, le) in
-    subst (λ k. least table k class ≡ Some t) same (go (m - n))
-  where
-    go : (more : ℕ) → least table (n + more) class ≡ Some t
-    go zero = let here : n ≡ n + 0 = omega arith in
-        subst (λ k. least table k class ≡ Some t) here is
-    go (suc more) = let next : (n + more) + 1 ≡ n + suc more = omega arith in
-        subst (λ k. least table k class ≡ Some t) next
-        (least_kept table (n + more) class t (go more))
+-- the gate was asked for each class of rows that is open on one of the blocks up to the last
+module _ {K : Type 0} (task : Task K) (sound : IsSound task) (b : BelongTogether task.job)
+    (rows : List ListedClass) (listed : All (IsListed task.job) rows) (worker : ℕ) (S : Stops)
+    (from last : ℕ) (kept : List K) (found : AreKeptUpTo task (classes_of rows) 0 from kept) where
+  -- what is kept there can be changed
+  wanted_there : (k : ℕ) (row : ListedClass) (block : ℕ) (one : K) → slice_get rows k ≡ Some row
+      → slice_get kept k ≡ Some one → from ≤ block → IsOpenAfter task row.class block
+      → task.wants one ≡ true
+  wanted_there k row block one at here le still = go (task.wants one) refl
+    where
+      own : IsListed task.job row
+      own = row_listed task.job rows k row listed at
 
--- a class with a first test is not undetected after it
-pub not_undetected : {A : Type 0} (job : Parts) (class n t : ℕ) → BelongTogether job
-    → ((table : Table) → IsTableOf job table → Some t ≡ least table n class)
-    → IsUndetected job class n → A
-not_undetected job class n t b is still =
-    let table = true_table job.list.model job.circuit job.tests.tests b.circuit.well_formed in
-    let bad : Some t ≡ None = is table.0 table.1 ∙ still table.0 table.1 in absurd (cc)
+      h : (hits : ℕ → Bool) × AreHits task.job row.class hits
+      h = some_hits task.job b row.class own.within
 
--- the gate was asked for each class of rows that is undetected on one of the blocks up to the last
-module _ (job : Parts) (b : BelongTogether job) (rows : List ListedClass) (worker : ℕ) (S : Stops)
-    (from last : ℕ) (firsts : List (Option ℕ))
-    (found : AreFoundUpTo job (classes_of rows) 0 from firsts) where
-  still_unknown : (k class block : ℕ) → slice_get (classes_of rows) k ≡ Some class → from ≤ block
-      → IsUndetected job class block → slice_get firsts k ≡ Some None
-  still_unknown k class block at le still =
+      was : task.means h.0 0 (64 * from) one
+      was = found.each h.0 k row.class from one (class_there rows k row at) here h.1
+          (done_high 0 from k (omega arith))
+
+      go : (v : Bool) → task.wants one ≡ v → task.wants one ≡ true
+      go true e = e
+      go false e =
+          let later = sound.stays one h.0 0 (64 * from) (64 * block) e (omega (arith, le)) was in
+          absurd (false≢true (sym e ∙ still h.0 one h.1 later))
+
+  -- a class that is open after later blocks is open at its place
+  open_there : (k : ℕ) (row : ListedClass) (block : ℕ) → slice_get rows k ≡ Some row
+      → from ≤ block → IsOpenAfter task row.class block → IsOpenAt task.wants rows kept k row
+  open_there k row block at le still =
+      let lt = slice_get_within (classes_of rows) k row.class (class_there rows k row at) in
       let count = found.count in
-      let lt = slice_get_within (classes_of rows) k class at in
-      go (get_or firsts k None) (slice_get-get_or firsts k None (omega (arith, lt, count)))
-    where
-      go : (o : Option ℕ) → slice_get firsts k ≡ Some o → slice_get firsts k ≡ Some None
-      go None e = e
-      go (Some t) e =
-          not_undetected job class block t b
-          (λ table is. sym (least_on table from block class t le
-          (sym (found.each table is k class from (Some t) at e
-          (done_high 0 from k (omega arith)))))) still
+      let there = within_place kept k (omega (arith, lt, count)) in
+      record {
+        row_is = at;
+        one = there.0;
+        kept_is = there.1;
+        wanted = wanted_there k row block there.0 at there.1 le still;
+      }
 
-  rest_asked : (k class block : ℕ) → slice_get (classes_of rows) k ≡ Some class → from ≤ block
-      → IsUndetected job class block → AreNotStopped rows firsts worker S block (length rows)
-      → S.must worker class block → ⊥
-  rest_asked k class block at le still asked must = go (slice_get rows k) refl
-    where
-      go : (o : Option ListedClass) → slice_get rows k ≡ o → ⊥
-      go None e =
-          let bad : Some class ≡ None =
-          sym at ∙ (slice_get-map (λ (at : ListedClass). at.class) rows k
-          ∙ ap (option_map (λ (at : ListedClass). at.class)) e) in
-          absurd (cc)
-      go (Some row) e =
-          let both : Some class ≡ Some row.class = sym at ∙ class_there rows k row e in
-          let same : class ≡ row.class = cc in
-          asked k row (slice_get_within rows k row e) (record {
-            row_is = e;
-            one = None;
-            kept_is = still_unknown k class block at le still;
-            wanted = refl;
-          }) (subst (λ n. S.must worker n block) same must)
+  -- the row of a class at a place
+  asked_at : (k class block : ℕ) → slice_get (classes_of rows) k ≡ Some class → from ≤ block
+      → IsOpenAfter task class block
+      → (row : ListedClass) × (k < length rows) × IsOpenAt task.wants rows kept k row
+      × (row.class ≡ class)
+  asked_at k class block at le still =
+      let x = from_mapped (λ (at : ListedClass). at.class) rows k class at in (
+        x.0,
+        slice_get_within rows k x.0 x.1,
+        open_there k x.0 block x.1 le (subst (λ c. IsOpenAfter task c block) (sym x.2) still),
+        x.2,
+      )
 
-  pub rest_passed : ArePassed job (classes_of rows) worker S 0 from
+  pub rest_passed : ArePassed task (classes_of rows) worker S 0 from
       → ((block : ℕ) → from ≤ block → block ≤ last
-      → AreNotStopped rows firsts worker S block (length rows))
-      → ArePassed job (classes_of rows) worker S 0 (last + 1)
+      → AreNotStopped task.wants rows kept worker S block (length rows))
+      → ArePassed task (classes_of rows) worker S 0 (last + 1)
   rest_passed first asked = λ k class block at e still must.
       go k class block at e still must (cases_lt block from)
     where
       go : (k class block : ℕ) → slice_get (classes_of rows) k ≡ Some class
-          → IsEarlier k block 0 (last + 1) → IsUndetected job class block
+          → IsEarlier k block 0 (last + 1) → IsOpenAfter task class block
           → S.must worker class block → (block < from) ⊎ (from ≤ block) → ⊥
       go k class block at (inr x) still must y = let no = x.1 in omega (arith, no)
       go k class block at (inl lt) still must (inl low) =
           first k class block at (inl low) still must
       go k class block at (inl lt) still must (inr high) =
-          rest_asked k class block at high still (asked block high (omega (arith, lt))) must
+          let x = asked_at k class block at high still in
+          asked block high (omega (arith, lt)) k x.0 x.1 x.2
+          (subst (λ c. S.must worker c block) (sym x.3) must)
 
   -- or for those before a place, on one block
-  pub before_passed : (place : ℕ) → ArePassed job (classes_of rows) worker S 0 from
-      → AreNotStopped rows firsts worker S from place
-      → ArePassed job (classes_of rows) worker S place from
+  pub before_passed : (place : ℕ) → ArePassed task (classes_of rows) worker S 0 from
+      → AreNotStopped task.wants rows kept worker S from place
+      → ArePassed task (classes_of rows) worker S place from
   before_passed place first asked = λ k class block at e still must. go k class block at e
       still must
     where
       go : (k class block : ℕ) → slice_get (classes_of rows) k ≡ Some class
-          → IsEarlier k block place from → IsUndetected job class block
+          → IsEarlier k block place from → IsOpenAfter task class block
           → S.must worker class block → ⊥
       go k class block at (inl lt) still must = first k class block at (inl lt) still must
       go k class block at (inr x) still must =
-          let own = from_mapped (λ (at : ListedClass). at.class) rows k class at in
-          let here = subst (IsUndetected job class) x.0 still in
-          asked k own.0 x.1
-          (record {
-            row_is = own.1;
-            one = None;
-            kept_is = still_unknown k class from at (omega arith) here;
-            wanted = refl;
-          })
-          (subst (λ n. S.must worker n from) (sym own.2)
+          let own = asked_at k class from at (omega arith)
+          (subst (IsOpenAfter task class) x.0 still) in
+          asked k own.0 x.1 own.2
+          (subst (λ n. S.must worker n from) (sym own.3)
           (subst (S.must worker class) x.0 must))

@@ -12,35 +12,36 @@ use Rattle.region_runs.specs.declared.stretch_run.Stop.{Stop}
 use Rattle.region_runs.specs.declared.stretches.Cut.{Cut}
 use Rattle.region_runs.specs.declared.stretch_workers.Done.{Done}
 use Rattle.region_runs.specs.declared.stretch_workers.Served.{Served}
-use Rattle.region_runs.specs.StretchRuns.{AreFoundUpTo, HasEnded, IsDone}
+use Rattle.region_runs.specs.StretchRuns.{AreKeptUpTo, HasEnded, IsDone}
 use Rattle.region_runs.specs.Part.{stretch}
 use Rattle.region_runs.specs.Stretches.{HasServed}
-use Rattle.region_runs.proofs.StretchRuns.{found_none}
+use Rattle.region_runs.proofs.StretchRuns.{kept_at_first}
+use Rattle.region_runs.specs.Tasks.{IsAtFirst, Task}
 
--- the results at first
-pub none_found : (job : Parts) (classes : List ℕ) (firsts : List (Option ℕ))
-    → length firsts ≡ length classes → All (λ first. first ≡ None) firsts
-    → AreFoundUpTo job classes 0 0 firsts
-none_found job classes firsts count none =
-    found_none job classes firsts count
-    (λ k first at. sym (get_or_from_slice_get firsts k first first at)
-    ∙ none k first (slice_get_within firsts k first at))
+-- what is kept at first
+pub starts_kept : {K : Type 0} (task : Task K) (classes : List ℕ) (kept : List K)
+    → length kept ≡ length classes → All (λ one. IsAtFirst task one) kept
+    → AreKeptUpTo task classes 0 0 kept
+starts_kept {K} task classes kept count first =
+    kept_at_first task classes kept count
+    (λ k one at. subst (IsAtFirst task) (get_or_from_slice_get kept k one one at)
+    (first k one (slice_get_within kept k one at)))
 
 -- the results of a worker, under other gates of the same
-pub done_along : (job : Parts) (size : ℕ) (classes : List ℕ) (w : ℕ) (P P' : Type 0)
-    (S S' : Stops) (done : Done) → (P' → P) → ((u k b : ℕ) → S.may u k b → S'.may u k b)
+pub done_along : {K : Type 0} (task : Task K) (size : ℕ) (classes : List ℕ) (w : ℕ) (P P' : Type 0)
+    (S S' : Stops) (done : Done K) → (P' → P) → ((u k b : ℕ) → S.may u k b → S'.may u k b)
     → ((u k b : ℕ) → S'.must u k b → S.must u k b)
-    → IsDone job size classes w P S done → IsDone job size classes w P' S' done
-done_along job size classes w P P' S S' done q t v is = record {
+    → IsDone task size classes w P S done → IsDone task size classes w P' S' done
+done_along {K} task size classes w P P' S S' done q t v is = record {
   worker_is = is.worker_is;
   ended = go done.stop is.ended;
   lowest = is.lowest;
   passed = λ p. is.passed (q p);
 }
   where
-    go : (stop : Option Stop) → HasEnded job (stretch size classes done.part) w S stop
-        done.firsts.items → HasEnded job (stretch size classes done.part) w S' stop
-        done.firsts.items
+    go : (stop : Option Stop) → HasEnded task (stretch size classes done.part) w S stop
+        done.kept.items → HasEnded task (stretch size classes done.part) w S' stop
+        done.kept.items
     go None e = (e.0, λ k class b at lt still must. e.1 k class b at lt still (v w class b must))
     go (Some stop) e = (
       record {
@@ -48,52 +49,56 @@ done_along job size classes w P P' S S' done q t v is = record {
         at = e.0.at;
         within = e.0.within;
         stopped = t w e.0.class stop.block e.0.stopped;
-        undetected = e.0.undetected;
+        still = e.0.still;
       },
       e.1,
       λ k class b at lt still must. e.2 k class b at lt still (v w class b must),
     )
 
 -- the result of a thread, under other names of the same
-pub served_along : {E : Type 0} (r r' : Result Served E) (j j' : Parts) (u u' : Cut) (p p' : Place)
-    (w w' : ℕ) (P P' : Type 0) (S S' : Stops) → r ≡ r' → j ≡ j' → u ≡ u' → p ≡ p' → w ≡ w'
-    → (P' → P) → ((v k b : ℕ) → S.may v k b → S'.may v k b)
-    → ((v k b : ℕ) → S'.must v k b → S.must v k b)
-    → IfOk r (λ served. HasServed j u.size u.classes.items p w P S served.seat served.dones.items)
-    → IfOk r' (λ served. HasServed j' u'.size u'.classes.items p' w' P' S' served.seat
+pub served_along : {E K V : Type 0} (of : Parts → V → Task K) (r r' : Result (Served K) E)
+    (j j' : Parts) (a a' : V) (u u' : Cut) (p p' : Place) (w w' : ℕ) (P P' : Type 0)
+    (S S' : Stops) → r ≡ r' → j ≡ j' → a ≡ a' → u ≡ u' → p ≡ p' → w ≡ w' → (P' → P)
+    → ((v k b : ℕ) → S.may v k b → S'.may v k b) → ((v k b : ℕ) → S'.must v k b → S.must v k b)
+    → IfOk r (λ served. HasServed (of j a) u.size u.classes.items p w P S served.seat
     served.dones.items)
-served_along {E} r r' j j' u u' p p' w w' P P' S S' er ej eu ep ew q t v is =
-    subst (λ (x : Result Served E). IfOk x (λ served. HasServed j' u'.size u'.classes.items p' w' P'
-    S' served.seat served.dones.items)) er (go r is)
+    → IfOk r' (λ served. HasServed (of j' a') u'.size u'.classes.items p' w' P' S' served.seat
+    served.dones.items)
+served_along {E} {K} {V} of r r' j j' a a' u u' p p' w w' P P' S S' er ej ea eu ep ew q t v is =
+    subst (λ (x : Result (Served K) E). IfOk x (λ served. HasServed (of j' a') u'.size
+    u'.classes.items p' w' P' S' served.seat served.dones.items)) er (go r is)
   where
-    go : (x : Result Served E)
-        → IfOk x (λ served. HasServed j u.size u.classes.items p w P S served.seat
+    go : (x : Result (Served K) E)
+        → IfOk x (λ served. HasServed (of j a) u.size u.classes.items p w P S served.seat
         served.dones.items)
-        → IfOk x (λ served. HasServed j' u'.size u'.classes.items p' w' P' S' served.seat
+        → IfOk x (λ served. HasServed (of j' a') u'.size u'.classes.items p' w' P' S' served.seat
         served.dones.items)
     go (Err x) h = tt
     go (Ok served) h =
-        subst (λ x. HasServed x u'.size u'.classes.items p' w' P' S' served.seat served.dones.items)
-        ej
-        (subst (λ (x : Cut). HasServed j x.size x.classes.items p' w' P' S' served.seat
+        subst (λ x. HasServed (of x a') u'.size u'.classes.items p' w' P' S' served.seat
+        served.dones.items) ej
+        (subst (λ x. HasServed (of j x) u'.size u'.classes.items p' w' P' S' served.seat
+        served.dones.items) ea
+        (subst (λ (x : Cut). HasServed (of j a) x.size x.classes.items p' w' P' S' served.seat
         served.dones.items) eu
-        (subst (λ x. HasServed j u.size u.classes.items x w' P' S' served.seat served.dones.items)
-        ep
-        (subst (λ x. HasServed j u.size u.classes.items p x P' S' served.seat served.dones.items) ew
+        (subst (λ x. HasServed (of j a) u.size u.classes.items x w' P' S' served.seat
+        served.dones.items) ep
+        (subst (λ x. HasServed (of j a) u.size u.classes.items p x P' S' served.seat
+        served.dones.items) ew
         (record {
           place_is = h.place_is;
           worker_is = h.worker_is;
           legal = h.legal;
           accounts = record {
-            done = All-weaker (λ done. IsDone j u.size u.classes.items w P S done)
-                (λ done. IsDone j u.size u.classes.items w P' S' done)
-                (λ done d. done_along j u.size u.classes.items w P P' S S' done q t v d)
+            done = All-weaker (λ done. IsDone (of j a) u.size u.classes.items w P S done)
+                (λ done. IsDone (of j a) u.size u.classes.items w P' S' done)
+                (λ done d. done_along (of j a) u.size u.classes.items w P P' S S' done q t v d)
                 served.dones.items h.accounts.done;
             stand = h.accounts.stand;
             claimed = h.accounts.claimed;
           };
           ended = h.ended;
-        }))))
+        })))))
 
 -- the number of seats
 pub seats_count : (seats : List Sitter) (p : Place) → seats ≡ newcomers p

@@ -1,16 +1,13 @@
--- The first tests of classes after the blocks of a span more, and after each block of a true table.
+-- What is kept of classes after the blocks of a span more, and the first tests of classes.
 use Rattle.std.proofs.Common.{◌≡◌, ◌≢◌, ◌<◌, ◌≤◌, ◌+◌, ◌-◌, ◌*◌, ◌/◌, ◌⊎◌, inl, inr, ℕ, zero, suc}
 use Rattle.std.proofs.Common.{Bool, true, false, List, All, Option, Some, None, length, refl, sym}
 use Rattle.std.proofs.Common.{ap, ◌∙◌, subst, arith}
 use Rattle.std.specs.Prelude.{slice_get, unwrap_or}
 use Rattle.std.specs.Option.{option_map}
-use Rattle.std.proofs.lemmas.Bool.{cases_eq, cases_lt, false≢true}
-use Rattle.std.proofs.lemmas.List.{length-map}
+use Rattle.std.proofs.lemmas.Bool.{cases_lt, false≢true}
 use Rattle.std.proofs.lemmas.Option.{get_or_from_slice_get, slice_get-map, slice_get_within}
-use Rattle.list_lemmas.proofs.Places.{from_mapped, place_within, within_place}
-use Rattle.fault_model.specs.Collapse.{representatives}
+use Rattle.list_lemmas.proofs.Places.{from_mapped, place_within}
 use Rattle.fault_model.specs.Detection.{DetectsAt}
-use Rattle.fault_model.specs.Fault.{Fault}
 use Rattle.patterns.specs.Least.{Table, least}
 use Rattle.patterns.specs.Tests.{blocks}
 use Rattle.patterns.specs.declared.Outcome.{Outcome}
@@ -18,17 +15,19 @@ use Rattle.patterns.specs.declared.Outcome.TheVariants.{Clear, Hit}
 use Rattle.flat_circuit.specs.declared.block_span.BlockSpan.{BlockSpan}
 use Rattle.flat_circuit.specs.declared.origin.ListedClass.{ListedClass}
 use Rattle.flat_circuit.specs.BlockSpans.{one_block}
-use Rattle.block_sim.specs.First.{IsFirstOn, IsTrueOutcome}
+use Rattle.block_sim.specs.First.{IsFirst, IsFirstOn, IsTrueOutcome}
 use Rattle.block_sim.specs.Listed.{IsListed}
 use Rattle.block_sim.specs.Parts.{BelongTogether, Parts}
-use Rattle.block_sim.proofs.Public.{true_table, which_detect}
+use Rattle.block_sim.proofs.Public.{least_is_first, true_table}
 use Rattle.region_sim.specs.ClassOrder.{classes_of}
-use Rattle.region_sim.specs.Goals.{AreHits, HasTakenAt, HasTakenSpan, HaveTaken, IsFirstHit}
+use Rattle.region_sim.specs.Goals.{AreHits, HasTakenAt, HaveTaken, IsFirstHit}
 use Rattle.workers.specs.Schedule.{IsTableOf}
+use Rattle.workers.specs.Verdict.{AreClassFirsts}
 use Rattle.workers.proofs.Public.{class_count}
-use Rattle.region_runs.specs.StretchRuns.{AreEarlier, AreFoundUpTo, IsUndetected}
+use Rattle.region_runs.specs.StretchRuns.{AreEarlier, AreKeptUpTo}
+use Rattle.region_runs.specs.Tasks.{AreKept, IsOpenAtFirst, Task, first_tests}
 use Rattle.region_runs.proofs.StretchRuns.{done_high, done_low, hit_at, least_kept, least_more}
-use Rattle.region_runs.proofs.StretchRuns.{one_count}
+use Rattle.region_runs.proofs.StretchRuns.{listed_class, one_count, some_hits}
 
 -- ---- rows and classes
 pub class_there : (rows : List ListedClass) (k : ℕ) (row : ListedClass)
@@ -63,19 +62,6 @@ one_first hits low high (Some t) (Some s) a b = go (cases_lt t s) (cases_lt s t)
 -- ---- the least test of a class in a true table
 module _ (job : Parts) (b : BelongTogether job) (class : ℕ)
     (lt : class < length job.classes.representative) where
-  class_fault : (r : Fault) × (slice_get (representatives job.list.model job.circuit) class
-      ≡ Some r)
-  class_fault = let r = within_place (representatives job.list.model job.circuit) class
-      (omega (arith, lt, class_count job b)) in (r.0, r.1)
-
-  -- the hits of the class
-  pub some_hits : (hits : ℕ → Bool) × AreHits job class hits
-  some_hits =
-      let r = class_fault in
-      let w = which_detect job.list.model job.circuit job.tests.tests class r.0
-      b.circuit.well_formed r.1 in
-      (w.0, (r.0, r.1, w.1))
-
   module _ (table : Table) (is : IsTableOf job table) (hits : ℕ → Bool)
       (h : AreHits job class hits) where
     -- a test of a block that isn't its first hit
@@ -157,94 +143,109 @@ module _ (job : Parts) (b : BelongTogether job) (class : ℕ)
             (is class n (omega (arith, lt, class_count job b)) (omega (arith, le)))
             (subst (IsFirstHit hits 0 (64 * n)) e before)))
 
-  -- what was the least test before a span is so behind it, once its tests are taken
-  pub least_taken : (table : Table) → IsTableOf job table → (span : BlockSpan)
-      → span.first ≤ span.last → span.last < blocks (length job.tests.tests)
-      → (old new : Option ℕ) → HasTakenSpan IsFirstHit job span class old new
-      → old ≡ least table span.first class → new ≡ least table (span.last + 1) class
-  least_taken table is span up low old new taken was =
-      let hits = some_hits.0 in
-      let h = some_hits.1 in
-      let end : 64 * span.last + 64 ≡ 64 * (span.last + 1) = omega arith in
-      one_first hits 0 (64 * (span.last + 1)) new (least table (span.last + 1) class)
-      (subst (λ n. IsFirstHit hits 0 n new) end
-      (taken hits 0 h (omega arith)
-      (subst (IsFirstHit hits 0 (64 * span.first)) (sym was)
-      (least_is_hit table is hits h span.first (omega (arith, up, low))))))
-      (least_is_hit table is hits h (span.last + 1) (omega (arith, low)))
+  -- no test is a hit of a class that no test detects
+  pub never_hit : ((span : BlockSpan) → IsFirstOn job span class None) → (hits : ℕ → Bool)
+      → AreHits job class hits → (t : ℕ) → hits t ≡ false
+  never_hit dead hits h t = go (hits t) refl
+    where
+      go : (v : Bool) → hits t ≡ v → hits t ≡ false
+      go false e = e
+      go true e =
+          let d = (h.2 t).0 e in
+          let own = dead (one_block (t / 64)) in
+          let same : own.0 ≡ h.0 = ap (λ o. unwrap_or o own.0) (sym own.1 ∙ h.1) in
+          absurd (own.2 t (record {
+            from = omega arith;
+            to = omega arith;
+            listed = place_within job.tests.tests t d.0 d.1;
+          })
+          (subst (λ r. DetectsAt job.circuit job.tests.tests r t) (sym same) d))
 
-  -- a class that no test detects has no least test
-  pub never_hit : ((span : BlockSpan) → IsFirstOn job span class None) → (n : ℕ)
-      → n ≤ blocks (length job.tests.tests) → IsUndetected job class n
-  never_hit dead n le table is =
-      let hits = some_hits.0 in
-      let h = some_hits.1 in
-      one_first hits 0 (64 * n) (least table n class) None (least_is_hit table is hits h n le)
-      (λ t up below. miss table is hits h (t / 64) t (omega arith) (omega arith)
-      (λ k at listed d.
-      let own = dead (one_block (t / 64)) in
-      let same : own.0 ≡ h.0 = ap (λ o. unwrap_or o own.0) (sym own.1 ∙ h.1) in
-      own.2 t (record { from = omega arith; to = omega arith; listed = listed })
-      (subst (λ r. DetectsAt job.circuit job.tests.tests r t) (sym same) d)))
-
--- ---- the first tests of rows
-module _ (job : Parts) (b : BelongTogether job) (rows : List ListedClass)
-    (listed : All (IsListed job) rows) (span : BlockSpan) (up : span.first ≤ span.last)
-    (low : span.last < blocks (length job.tests.tests)) (firsts now : List (Option ℕ))
-    (found : AreFoundUpTo job (classes_of rows) 0 span.first firsts)
-    (count : length now ≡ length firsts) where
+-- ---- what is kept of rows
+module _ {K : Type 0} (task : Task K) (rows : List ListedClass) (span : BlockSpan)
+    (up : span.first ≤ span.last) (before now : List K)
+    (found : AreKeptUpTo task (classes_of rows) 0 span.first before)
+    (count : length now ≡ length before) where
   -- of a row of which the tests of the span were taken
-  row_found : (k class : ℕ) (first : Option ℕ) → slice_get (classes_of rows) k ≡ Some class
-      → slice_get now k ≡ Some first
+  row_kept : (hits : ℕ → Bool) (k class : ℕ) (one : K) → slice_get (classes_of rows) k ≡ Some class
+      → slice_get now k ≡ Some one → AreHits task.job class hits
       → ((row : ListedClass) → slice_get rows k ≡ Some row
-      → HasTakenAt IsFirstHit job span row firsts now k)
-      → (table : Table) → IsTableOf job table → first ≡ least table (span.last + 1) class
-  row_found k class first ec ef taken table is =
+      → HasTakenAt task.means task.job span row before now k)
+      → task.means hits 0 (64 * (span.last + 1)) one
+  row_kept hits k class one ec ek h taken =
       let x = from_mapped (λ (at : ListedClass). at.class) rows k class ec in
-      let own = row_listed job rows k x.0 listed x.1 in
       let t = taken x.0 x.1 in
-      let both : Some t.1 ≡ Some first = sym t.3 ∙ ef in
-      let same : t.1 ≡ first = cc in
-      let was = found.each table is k class span.first t.0 ec t.2
+      let both : Some t.1 ≡ Some one = sym t.3 ∙ ek in
+      let same : t.1 ≡ one = cc in
+      let was = found.each hits k class span.first t.0 ec t.2 h
       (done_high 0 span.first k (omega arith)) in
-      sym same ∙ (least_taken job b x.0.class own.within table is span up low t.0 t.1 t.4
-      (was ∙ ap (least table span.first) (sym x.2)) ∙ ap (least table (span.last + 1)) x.2)
+      let end : 64 * span.last + 64 ≡ 64 * (span.last + 1) = omega arith in
+      subst (λ v. task.means hits 0 (64 * (span.last + 1)) v) same
+      (subst (λ n. task.means hits 0 n t.1) end
+      (t.4 hits 0 (subst (λ c. AreHits task.job c hits) (sym x.2) h) (omega arith) was))
 
   -- of all rows
-  pub found_swept : HaveTaken IsFirstHit job span rows 0 (length rows) firsts now
-      → AreFoundUpTo job (classes_of rows) 0 (span.last + 1) now
-  found_swept taken = record {
+  pub kept_swept : HaveTaken task.means task.job span rows 0 (length rows) before now
+      → AreKeptUpTo task (classes_of rows) 0 (span.last + 1) now
+  kept_swept taken = record {
     count = count ∙ found.count;
-    each = λ table is k class n first ec ef earlier.
-        row_found k class first ec ef
-        (λ row at. taken k row (omega arith) (slice_get_within rows k row at) at) table is
-        ∙ ap (λ m. least table m class) (one_count 0 (span.last + 1) k (span.last + 1) n
-        (done_high 0 (span.last + 1) k (omega arith)) earlier);
+    each = λ hits k class n one ec ek h earlier.
+        subst (λ m. task.means hits 0 (64 * m) one)
+        (one_count 0 (span.last + 1) k (span.last + 1) n
+        (done_high 0 (span.last + 1) k (omega arith)) earlier)
+        (row_kept hits k class one ec ek h
+        (λ row at. taken k row (omega arith) (slice_get_within rows k row at) at));
   }
 
   -- of those before a place, if the span is a block
-  pub found_before : span.last ≡ span.first → (place : ℕ)
+  pub kept_before : span.last ≡ span.first → (place : ℕ)
       → ((k : ℕ) (row : ListedClass) → k < place → slice_get rows k ≡ Some row
-      → HasTakenAt IsFirstHit job span row firsts now k)
-      → ((k : ℕ) → place ≤ k → slice_get now k ≡ slice_get firsts k)
-      → AreFoundUpTo job (classes_of rows) place span.first now
-  found_before alone place taken others = record {
+      → HasTakenAt task.means task.job span row before now k)
+      → ((k : ℕ) → place ≤ k → slice_get now k ≡ slice_get before k)
+      → AreKeptUpTo task (classes_of rows) place span.first now
+  kept_before alone place taken others = record {
     count = count ∙ found.count;
-    each = λ table is k class n first ec ef earlier.
-        go table is k class n first ec ef earlier (cases_lt k place);
+    each = λ hits k class n one ec ek h earlier.
+        go hits k class n one ec ek h earlier (cases_lt k place);
   }
     where
-      go : (table : Table) → IsTableOf job table → (k class n : ℕ) (first : Option ℕ)
-          → slice_get (classes_of rows) k ≡ Some class → slice_get now k ≡ Some first
-          → AreEarlier place span.first k n → (k < place) ⊎ (place ≤ k)
-          → first ≡ least table n class
-      go table is k class n first ec ef earlier (inl lt) =
-          row_found k class first ec ef (λ row at. taken k row lt at) table is
-          ∙ ap (λ m. least table m class) (ap (λ m. m + 1) alone
+      go : (hits : ℕ → Bool) (k class n : ℕ) (one : K)
+          → slice_get (classes_of rows) k ≡ Some class → slice_get now k ≡ Some one
+          → AreHits task.job class hits → AreEarlier place span.first k n
+          → (k < place) ⊎ (place ≤ k) → task.means hits 0 (64 * n) one
+      go hits k class n one ec ek h earlier (inl lt) =
+          subst (λ m. task.means hits 0 (64 * m) one) (ap (λ m. m + 1) alone
           ∙ one_count place span.first k (span.first + 1) n (done_low place span.first k lt)
           earlier)
-      go table is k class n first ec ef earlier (inr le) =
-          found.each table is k class span.first first ec (sym (others k le) ∙ ef)
-          (done_high 0 span.first k (omega arith))
-          ∙ ap (λ m. least table m class) (one_count place span.first k span.first n
-          (done_high place span.first k le) earlier)
+          (row_kept hits k class one ec ek h (λ row at. taken k row lt at))
+      go hits k class n one ec ek h earlier (inr le) =
+          subst (λ m. task.means hits 0 (64 * m) one)
+          (one_count place span.first k span.first n (done_high place span.first k le) earlier)
+          (found.each hits k class span.first one ec (sym (others k le) ∙ ek) h
+          (done_high 0 span.first k (omega arith)))
+
+-- ---- the first tests of all classes
+pub firsts_kept : (job : Parts) (classes : List ℕ) (firsts : List (Option ℕ)) → BelongTogether job
+    → All (λ class. class < length job.classes.representative) classes
+    → AreKept (first_tests job) classes firsts
+    → AreClassFirsts job.list.model job.circuit job.tests.tests classes firsts
+firsts_kept job classes firsts b all found = record {
+  count = found.count;
+  first = λ k class f first ec of ef.
+      let lt = listed_class job classes k class all ec in
+      let h = some_hits job b class lt in
+      let table = true_table job.list.model job.circuit job.tests.tests b.circuit.well_formed in
+      let least_is = least_is_hit job b class lt table.0 table.1 h.0 h.1
+      (blocks (length job.tests.tests)) (omega arith) in
+      let same = one_first h.0 0 (64 * blocks (length job.tests.tests)) first
+      (least table.0 (blocks (length job.tests.tests)) class)
+      (found.each h.0 k class first ec ef h.1) least_is in
+      subst (IsFirst job.circuit job.tests.tests f) (sym same)
+      (least_is_first job.list.model job.circuit job.tests.tests table.0 b.circuit.well_formed
+      b.circuit.arities table.1 f class of);
+}
+
+-- none of them is settled by no test
+pub first_open : (job : Parts) → IsOpenAtFirst (first_tests job)
+first_open job None hits h = refl
+first_open job (Some t) hits h = let low = h.1 in absurd (omega (arith, low))

@@ -1,5 +1,5 @@
 -- Parts are a partition, and the verdicts of runs over them.
-use Rattle.std.proofs.Common.{◌≡◌, ◌≢◌, ◌<◌, ◌≤◌, ◌+◌, ◌*◌, ◌%◌, ◌^◌, ◌⊎◌, inl, inr, ℕ, zero}
+use Rattle.std.proofs.Common.{◌≡◌, ◌≢◌, ◌<◌, ◌≤◌, ◌+◌, ◌*◌, ◌%◌, ◌^◌, ◌⊎◌, inl, inr, ℕ, Bool, zero}
 use Rattle.std.proofs.Common.{suc, List, [], ◌∷◌, ◌++◌, map, set, take, drop, length, get_or, All}
 use Rattle.std.proofs.Common.{Option, Some, None, refl, sym, ap, ◌∙◌, subst, arith, replicate}
 use Rattle.std.proofs.Common.{add-one}
@@ -36,6 +36,8 @@ use Rattle.region_sim.specs.ClassOrder.{AreAllByRegion}
 use Rattle.region_runs.specs.Part.{IsInOnePart, IsOfPart, IsPartVerdict}
 use Rattle.region_runs.specs.Part.{first_in, stretch, stretch_size}
 use Rattle.region_runs.specs.Cut.{IsCutOf}
+use Rattle.region_runs.specs.Tasks.{AreKept, Task}
+use Rattle.region_sim.specs.Goals.{AreHits}
 
 -- the part of a class is the part of its one stem
 pub part_of_stem : (job : Parts) (parts part class stem : ℕ)
@@ -203,47 +205,43 @@ part_verdicts job parts part classes firsts table verdicts b own found by is = r
         (λ here. let k = own.all class lt here in
         x.0 k.0 (slice_get_within classes k.0 class k.1) k.1)
 
--- the first tests of two lists of classes are the first tests of both together
-append_firsts : (m : Model) (c : List Statement) (tests : List Test) (xs ys : List ℕ)
-    (f g : List (Option ℕ)) → AreClassFirsts m c tests xs f → AreClassFirsts m c tests ys g
-    → AreClassFirsts m c tests (xs ++ ys) (f ++ g)
-append_firsts m c tests [] ys [] g a b = b
-append_firsts m c tests [] ys (y ∷ f) g a b = absurd (omega (arith, a.count))
-append_firsts m c tests (x ∷ xs) ys [] g a b = absurd (omega (arith, a.count))
-append_firsts m c tests (x ∷ xs) ys (y ∷ f) g a b =
-    let rest = append_firsts m c tests xs ys f g (record {
+-- what is kept of two lists of classes is kept of both together
+append_kept : {K : Type 0} (task : Task K) (xs ys : List ℕ) (f g : List K) → AreKept task xs f
+    → AreKept task ys g → AreKept task (xs ++ ys) (f ++ g)
+append_kept {K} task [] ys [] g a b = b
+append_kept {K} task [] ys (y ∷ f) g a b = absurd (omega (arith, a.count))
+append_kept {K} task (x ∷ xs) ys [] g a b = absurd (omega (arith, a.count))
+append_kept {K} task (x ∷ xs) ys (y ∷ f) g a b =
+    let rest = append_kept task xs ys f g (record {
       count = omega (arith, a.count);
-      first = λ k. a.first (suc k);
+      each = λ hits k. a.each hits (suc k);
     }) b in
-    record { count = ap suc rest.count; first = at rest }
+    record { count = ap suc rest.count; each = at rest }
   where
-    at : AreClassFirsts m c tests (xs ++ ys) (f ++ g)
-        → (k class : ℕ) (fault : Fault) (first : Option ℕ)
-        → slice_get (x ∷ (xs ++ ys)) k ≡ Some class → IsClassOf m c fault class
-        → slice_get (y ∷ (f ++ g)) k ≡ Some first → IsFirst c tests fault first
-    at rest zero class fault first e of v = a.first 0 class fault first e of v
-    at rest (suc k) class fault first e of v = rest.first k class fault first e of v
+    at : AreKept task (xs ++ ys) (f ++ g) → (hits : ℕ → Bool) (k class : ℕ) (one : K)
+        → slice_get (x ∷ (xs ++ ys)) k ≡ Some class → slice_get (y ∷ (f ++ g)) k ≡ Some one
+        → AreHits task.job class hits
+        → task.means hits 0 (64 * blocks (length task.job.tests.tests)) one
+    at rest hits zero class one e v h = a.each hits 0 class one e v h
+    at rest hits (suc k) class one e v h = rest.each hits k class one e v h
 
--- the first tests up to the start of a part
-abbrev pub FirstsUpTo : Parts → List ℕ → ℕ → List (Option ℕ) → Type 0
-FirstsUpTo job classes start firsts = AreClassFirsts job.list.model job.circuit job.tests.tests
-    (take start classes) firsts
+-- what is kept of the classes up to the start of a part
+abbrev pub AreKeptBelow : {K : Type 0} → Task K → List ℕ → ℕ → List K → Type 0
+AreKeptBelow task classes start kept = AreKept task (take start classes) kept
 
-pub firsts_none : (job : Parts) (classes : List ℕ) → FirstsUpTo job classes 0 []
-firsts_none job classes = record {
+pub kept_none : {K : Type 0} (task : Task K) (classes : List ℕ) → AreKeptBelow task classes 0 []
+kept_none {K} task classes = record {
   count = refl;
-  first = λ k class f first e of at. let bad : None ≡ Some class = e in absurd (cc);
+  each = λ hits k class one e at h. let bad : None ≡ Some class = e in absurd (cc);
 }
 
 -- one stretch more
-pub firsts_more : (job : Parts) (classes : List ℕ) (size part : ℕ) (firsts more : List (Option ℕ))
-    → FirstsUpTo job classes (part * size) firsts
-    → AreClassFirsts job.list.model job.circuit job.tests.tests (stretch size classes part) more
-    → FirstsUpTo job classes ((part + 1) * size) (firsts ++ more)
-firsts_more job classes size part firsts more was found =
-    subst (λ l. AreClassFirsts job.list.model job.circuit job.tests.tests l (firsts ++ more)) joined
-    (append_firsts job.list.model job.circuit job.tests.tests (take (part * size) classes)
-    (stretch size classes part) firsts more was found)
+pub kept_more : {K : Type 0} (task : Task K) (classes : List ℕ) (size part : ℕ) (kept more : List K)
+    → AreKeptBelow task classes (part * size) kept → AreKept task (stretch size classes part) more
+    → AreKeptBelow task classes ((part + 1) * size) (kept ++ more)
+kept_more {K} task classes size part kept more was found =
+    subst (λ l. AreKept task l (kept ++ more)) joined
+    (append_kept task (take (part * size) classes) (stretch size classes part) kept more was found)
   where
     joined : take (part * size) classes ++ stretch size classes part
         ≡ take ((part + 1) * size) classes
@@ -253,12 +251,11 @@ firsts_more job classes size part firsts more was found =
         omega (arith, next, ap (λ n. n * size) same))
 
 -- all stretches have all classes
-pub firsts_all : (job : Parts) (parts size : ℕ) (classes : List ℕ) (firsts : List (Option ℕ))
-    → IsCutOf job parts size classes → FirstsUpTo job classes (parts * size) firsts
-    → AreClassFirsts job.list.model job.circuit job.tests.tests classes firsts
-firsts_all job parts size classes firsts cut found =
-    subst (λ l. AreClassFirsts job.list.model job.circuit job.tests.tests l firsts)
-    (take_all (parts * size) classes long) found
+pub kept_all : {K : Type 0} (task : Task K) (parts size : ℕ) (classes : List ℕ) (kept : List K)
+    → IsCutOf task.job parts size classes → AreKeptBelow task classes (parts * size) kept
+    → AreKept task classes kept
+kept_all {K} task parts size classes kept cut found =
+    subst (λ l. AreKept task l kept) (take_all (parts * size) classes long) found
   where
     long : length classes ≤ parts * size
     long =

@@ -12,6 +12,7 @@ use Rattle.region_runs.specs.declared.stretch_workers.Served.{Served}
 use Rattle.region_runs.specs.StretchRuns.{AreGivenBack, ArePut}
 use Rattle.region_runs.specs.Stretches.{AreApart}
 use Rattle.region_runs.proofs.ClassOrders.{pushed}
+use Rattle.region_runs.specs.Tasks.{AreKept, IsOpenAtFirst, IsSound, Task, first_tests, task_of}
 
 -- an element of a list stays at its place if more elements follow
 pub kept : {X : Type 0} (xs ys : List X) (k : ℕ) (x : X) → slice_get xs k ≡ Some x
@@ -46,19 +47,19 @@ set_place (z ∷ xs) (suc i) (suc k) x y e = go (set_place xs i k x y e)
     go (inr h) = inr h
 
 -- a place that is set is not empty
-set_full : (xs : List (Option Done)) (i : ℕ) (d : Done) → slice_get (set xs i (Some d)) i
+set_full : {K : Type 0} (xs : List (Option (Done K))) (i : ℕ) (d : Done K) → slice_get (set xs i (Some d)) i
     ≢ Some None
-set_full [] i d e = let bad : None ≡ Some None = e in absurd (cc)
-set_full (z ∷ xs) zero d e = let bad : Some (Some d) ≡ Some None = e in absurd (cc)
-set_full (z ∷ xs) (suc i) d e = set_full xs i d e
+set_full {K} [] i d e = let bad : None ≡ Some None = e in absurd (cc)
+set_full {K} (z ∷ xs) zero d e = let bad : Some (Some d) ≡ Some None = e in absurd (cc)
+set_full {K} (z ∷ xs) (suc i) d e = set_full xs i d e
 
 -- no element follows the end
-behind_end : (xs : List (Option Done)) (k : ℕ) → length xs ≤ k → slice_get xs k ≢ Some None
-behind_end xs k le e = let lt = slice_get_within xs k None e in absurd (omega (arith, le, lt))
+behind_end : {K : Type 0} (xs : List (Option (Done K))) (k : ℕ) → length xs ≤ k → slice_get xs k ≢ Some None
+behind_end {K} xs k le e = let lt = slice_get_within xs k None e in absurd (omega (arith, le, lt))
 
 -- the results in a table that was empty
-pub put_none : (was : List (Option Done)) → ArePut was [] was
-put_none was = record {
+pub put_none : {K : Type 0} (was : List (Option (Done K))) → ArePut was [] was
+put_none {K} was = record {
   count = refl;
   each = λ part d at. inl at;
   stays = λ part e. e;
@@ -66,34 +67,34 @@ put_none was = record {
 }
 
 -- one more was given back, and has no place in the table
-pub put_past : (was : List (Option Done)) (given : List Done) (now : List (Option Done))
-    (done : Done) → length now ≤ done.part → ArePut was given now
+pub put_past : {K : Type 0} (was : List (Option (Done K))) (given : List (Done K)) (now : List (Option (Done K)))
+    (done : Done K) → length now ≤ done.part → ArePut was given now
     → ArePut was (given ++ done ∷ []) now
-put_past was given now done high put = record {
+put_past {K} was given now done high put = record {
   count = put.count;
   each = λ part d at. go part d (put.each part d at);
   stays = put.stays;
   all = λ k d at. all k d (pushed given done d k at);
 }
   where
-    go : (part : ℕ) (d : Done) → (slice_get was part ≡ Some (Some d))
+    go : (part : ℕ) (d : Done K) → (slice_get was part ≡ Some (Some d))
         ⊎ ((d.part ≡ part) × (k : ℕ) × (slice_get given k ≡ Some d))
         → (slice_get was part ≡ Some (Some d))
         ⊎ ((d.part ≡ part) × (k : ℕ) × (slice_get (given ++ done ∷ []) k ≡ Some d))
     go part d (inl x) = inl x
     go part d (inr x) = inr (x.0, x.1, kept given (done ∷ []) x.1 d x.2)
 
-    all : (k : ℕ) (d : Done) → (slice_get given k ≡ Some d) ⊎ ((k ≡ length given) × (done ≡ d))
+    all : (k : ℕ) (d : Done K) → (slice_get given k ≡ Some d) ⊎ ((k ≡ length given) × (done ≡ d))
         → slice_get now d.part ≢ Some None
     all k d (inl x) = put.all k d x
-    all k d (inr x) = subst (λ (y : Done). slice_get now y.part ≢ Some None) x.1
+    all k d (inr x) = subst (λ (y : Done K). slice_get now y.part ≢ Some None) x.1
         (behind_end now done.part high)
 
 -- or was put at its place
-pub put_more : (was : List (Option Done)) (given : List Done) (now : List (Option Done))
-    (done : Done) → ArePut was given now
+pub put_more : {K : Type 0} (was : List (Option (Done K))) (given : List (Done K)) (now : List (Option (Done K)))
+    (done : Done K) → ArePut was given now
     → ArePut was (given ++ done ∷ []) (set now done.part (Some done))
-put_more was given now done put = record {
+put_more {K} was given now done put = record {
   count = length-set now done.part (Some done) ∙ put.count;
   each = λ part d at. go part d (set_place now done.part part (Some done) (Some d) at);
   stays = λ part e. stays part e (set_place now done.part part (Some done) None e);
@@ -101,14 +102,14 @@ put_more was given now done put = record {
       (set_place now done.part d.part (Some done) None e);
 }
   where
-    go : (part : ℕ) (d : Done) → ((part ≡ done.part) × (Some done ≡ Some d))
+    go : (part : ℕ) (d : Done K) → ((part ≡ done.part) × (Some done ≡ Some d))
         ⊎ (slice_get now part ≡ Some (Some d))
         → (slice_get was part ≡ Some (Some d))
         ⊎ ((d.part ≡ part) × (k : ℕ) × (slice_get (given ++ done ∷ []) k ≡ Some d))
     go part d (inl x) =
         let same : done ≡ d = let e = x.1 in cc in
         inr (
-          ap (λ (y : Done). y.part) (sym same) ∙ sym x.0,
+          ap (λ (y : Done K). y.part) (sym same) ∙ sym x.0,
           length given,
           last_of given done ∙ ap Some same,
         )
@@ -127,33 +128,33 @@ put_more was given now done put = record {
     stays part e (inl x) = let bad : Some done ≡ None = x.1 in absurd (cc)
     stays part e (inr x) = put.stays part x
 
-    all : (k : ℕ) (d : Done) → (slice_get given k ≡ Some d) ⊎ ((k ≡ length given) × (done ≡ d))
+    all : (k : ℕ) (d : Done K) → (slice_get given k ≡ Some d) ⊎ ((k ≡ length given) × (done ≡ d))
         → slice_get (set now done.part (Some done)) d.part ≡ Some None
         → ((d.part ≡ done.part) × (Some done ≡ None)) ⊎ (slice_get now d.part ≡ Some None) → ⊥
     all k d x e (inl y) = let bad : Some done ≡ None = y.1 in absurd (cc)
     all k d (inl x) e (inr y) = put.all k d x y
     all k d (inr x) e (inr y) = set_full now done.part done
-        (subst (λ (z : Done). slice_get (set now done.part (Some done)) z.part ≡ Some None)
+        (subst (λ (z : Done K). slice_get (set now done.part (Some done)) z.part ≡ Some None)
         (sym x.1) e)
 
 -- of no thread
-pub given_none : {Z : Type 0} (parts : ℕ) (table : List (Option Done)) → length table ≡ parts
+pub given_none : {Z : Type 0} {K : Type 0} (parts : ℕ) (table : List (Option (Done K))) → length table ≡ parts
     → All (λ at. IfSome at (λ _. ⊥)) table → AreGivenBack {Z = Z} parts [] table
-given_none {Z} parts table count none = record {
+given_none {Z} {K} parts table count none = record {
   count = count;
   each = λ part done at.
       let low = slice_get_within table part (Some done) at in
-      let bad : IfSome (Some done) (λ _. ⊥) = subst (λ (x : Option Done). IfSome x (λ _. ⊥))
+      let bad : IfSome (Some done) (λ _. ⊥) = subst (λ (x : Option (Done K)). IfSome x (λ _. ⊥))
       (get_or_from_slice_get table part (Some done) None at) (none part None low) in absurd bad;
   all = λ thread given k done at there e. let bad : None ≡ Some given = at in absurd (cc);
 }
 
 -- of one thread more
-pub given_more : {Z : Type 0} (parts : ℕ) (back : List (Vec Done Z))
-    (given : Vec Done Z) (was table : List (Option Done)) → AreGivenBack parts back was
+pub given_more : {Z : Type 0} {K : Type 0} (parts : ℕ) (back : List (Vec (Done K) Z))
+    (given : Vec (Done K) Z) (was table : List (Option (Done K))) → AreGivenBack parts back was
     → ArePut was given.items table
     → AreGivenBack parts (back ++ given ∷ []) table
-given_more {Z} parts back given was table before put =
+given_more {Z} {K} parts back given was table before put =
     record {
       count = put.count ∙ before.count;
       each = λ part done at. go part done (put.each part done at);
@@ -161,40 +162,40 @@ given_more {Z} parts back given was table before put =
           all thread own k done (pushed back given own thread at) there e;
     }
   where
-    go : (part : ℕ) (done : Done) → (slice_get was part ≡ Some (Some done))
+    go : (part : ℕ) (done : Done K) → (slice_get was part ≡ Some (Some done))
         ⊎ ((done.part ≡ part) × (k : ℕ) × (slice_get given.items k ≡ Some done))
-        → (done.part ≡ part) × (thread : ℕ) × (all : Vec Done Z)
+        → (done.part ≡ part) × (thread : ℕ) × (all : Vec (Done K) Z)
         × (slice_get (back ++ given ∷ []) thread ≡ Some all) × (k : ℕ)
         × (slice_get all.items k ≡ Some done)
     go part done (inl x) = let h = before.each part done x in
         (h.0, h.1, h.2, kept back (given ∷ []) h.1 h.2 h.3, h.4, h.5)
     go part done (inr x) = (x.0, length back, given, last_of back given, x.1, x.2)
 
-    all : (thread : ℕ) (own : Vec Done Z) (k : ℕ) (done : Done)
+    all : (thread : ℕ) (own : Vec (Done K) Z) (k : ℕ) (done : Done K)
         → (slice_get back thread ≡ Some own) ⊎ ((thread ≡ length back) × (given ≡ own))
         → slice_get own.items k ≡ Some done → slice_get table done.part ≢ Some None
     all thread own k done (inl x) there e =
         before.all thread own k done x there (put.stays done.part e)
     all thread own k done (inr x) there e =
-        put.all k done (subst (λ (v : Vec Done Z). slice_get v.items k ≡ Some done) (sym x.1) there)
+        put.all k done (subst (λ (v : Vec (Done K) Z). slice_get v.items k ≡ Some done) (sym x.1) there)
         e
 
 -- ---- seats, and their workers' results
 
 -- of none
-pub apart_none : {E Z : Type 0} → AreApart {E = E} {Z = Z} [] [] []
-apart_none {E} {Z} = record {
+pub apart_none : {K E Z : Type 0} → AreApart {K = K} {E = E} {Z = Z} [] [] []
+apart_none {K} {E} {Z} = record {
   seats_count = refl;
   dones_count = refl;
   each = λ k seat own at there. let bad : None ≡ Some seat = at in absurd (cc);
 }
 
 -- of one more
-pub apart_more : {E Z : Type 0} (back : List (Result Served E)) (seats : List Sitter)
-    (dones : List (Vec Done Z)) (served : Served) (own : Vec Done Z)
+pub apart_more : {E Z : Type 0} {K : Type 0} (back : List (Result (Served K) E)) (seats : List Sitter)
+    (dones : List (Vec (Done K) Z)) (served : Served K) (own : Vec (Done K) Z)
     → own.items ≡ served.dones.items → AreApart back seats dones
     → AreApart (back ++ Ok served ∷ []) (seats ++ served.seat ∷ []) (dones ++ own ∷ [])
-apart_more {E} {Z} back seats dones served own same was = record {
+apart_more {E} {Z} {K} back seats dones served own same was = record {
   seats_count = omega (
     arith,
     length-append seats (served.seat ∷ []),
@@ -211,10 +212,10 @@ apart_more {E} {Z} back seats dones served own same was = record {
       go k seat x (pushed seats served.seat seat k at) (pushed dones own x k there);
 }
   where
-    go : (k : ℕ) (seat : Sitter) (x : Vec Done Z)
+    go : (k : ℕ) (seat : Sitter) (x : Vec (Done K) Z)
         → (slice_get seats k ≡ Some seat) ⊎ ((k ≡ length seats) × (served.seat ≡ seat))
         → (slice_get dones k ≡ Some x) ⊎ ((k ≡ length dones) × (own ≡ x))
-        → (one : Served) × (slice_get (back ++ Ok served ∷ []) k ≡ Some (Ok one))
+        → (one : Served K) × (slice_get (back ++ Ok served ∷ []) k ≡ Some (Ok one))
         × (seat ≡ one.seat) × (x.items ≡ one.dones.items)
     go k seat x (inl a) (inl b) = let h = was.each k seat x a b in
         (h.0, kept back (Ok served ∷ []) k (Ok h.0) h.1, h.2, h.3)
@@ -229,7 +230,7 @@ apart_more {E} {Z} back seats dones served own same was = record {
       subst (λ i. slice_get (back ++ Ok served ∷ []) i ≡ Some (Ok served))
           (sym (a.0 ∙ was.seats_count)) (last_of back (Ok served)),
       sym a.1,
-      ap (λ (v : Vec Done Z). v.items) (sym b.1) ∙ same,
+      ap (λ (v : Vec (Done K) Z). v.items) (sym b.1) ∙ same,
     )
 
 -- the element of a list at the next place

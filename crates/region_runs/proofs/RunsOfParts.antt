@@ -5,18 +5,15 @@ use Rattle.std.proofs.Common.{◌∙◌, subst, arith, append-nil}
 use Rattle.std.specs.Prelude.{slice_get}
 use Rattle.std.proofs.lemmas.Option.{get_or_from_slice_get, slice_get_within}
 use Rattle.patterns.specs.Tests.{blocks}
-use Rattle.block_sim.specs.First.{IsFirst}
-use Rattle.block_sim.specs.Parts.{Parts, BelongTogether}
-use Rattle.block_sim.proofs.Public.{least_is_first, true_table}
+use Rattle.block_sim.specs.Parts.{Parts}
 use Rattle.list_lemmas.proofs.Places.{within_place}
-use Rattle.workers.specs.Verdict.{AreClassFirsts}
 use Rattle.workers.specs.Stops.{Stops}
 use Rattle.region_runs.specs.declared.stretch_run.Stop.{Stop}
 use Rattle.region_runs.specs.declared.stretch_run.Waiting.{Waiting}
 use Rattle.region_runs.specs.declared.stretch_workers.Done.{Done}
-use Rattle.region_runs.specs.StretchRuns.{AreAllFound, AreAllLowest, AreAllStopped}
-use Rattle.region_runs.specs.StretchRuns.{AreFoundUpTo, AreRunsOf, HasEnded, HasPassed}
-use Rattle.region_runs.specs.StretchRuns.{HasRunSo, IsDone, IsFoundAt, IsLowerOf, IsLowest}
+use Rattle.region_runs.specs.StretchRuns.{AreAllKept, AreAllLowest, AreAllStopped}
+use Rattle.region_runs.specs.StretchRuns.{AreKeptUpTo, AreRunsOf, HasEnded, HasPassed}
+use Rattle.region_runs.specs.StretchRuns.{HasRunSo, IsDone, IsKeptAt, IsLowerOf, IsLowest}
 use Rattle.region_runs.specs.StretchRuns.{IsLowestAt}
 use Rattle.region_runs.specs.StretchRuns.{IsLowestIn, IsOpenIn, IsStopAt, PartRun}
 use Rattle.region_runs.specs.StretchRuns.{StretchesWaitFor, WaitsIn, at_first, run_at, runs_from}
@@ -24,33 +21,29 @@ use Rattle.region_runs.specs.StretchRuns.{unbegun_run}
 use Rattle.region_runs.specs.Part.{stretch}
 use Rattle.region_runs.specs.Cut.{IsCutOf}
 use Rattle.region_runs.proofs.ReturnsByPart.{kept, last_of}
-use Rattle.region_runs.proofs.PartsOfClasses.{FirstsUpTo, firsts_more, stretch_within}
+use Rattle.region_runs.proofs.PartsOfClasses.{AreKeptBelow, kept_more, stretch_within}
 use Rattle.region_runs.proofs.ClassOrders.{pushed}
 use Rattle.region_runs.proofs.StretchRuns.{done_high, lowest_along, lowest_join}
 use Rattle.region_runs.proofs.StretchTables.{AreFoundByPart, AreWhole, IsWholeAt}
+use Rattle.region_runs.specs.Tasks.{AreKept, IsOpenAtFirst, IsSound, Task, first_tests, task_of}
 
--- if all blocks are done, the first tests are found
-pub firsts_found : (job : Parts) (classes : List ℕ) (firsts : List (Option ℕ)) → BelongTogether job
-    → AreFoundUpTo job classes 0 (blocks (length job.tests.tests)) firsts
-    → AreClassFirsts job.list.model job.circuit job.tests.tests classes firsts
-firsts_found job classes firsts b found = record {
+-- if all blocks are done, all tests are taken
+pub all_kept : {K : Type 0} (task : Task K) (classes : List ℕ) (kept : List K)
+    → AreKeptUpTo task classes 0 (blocks (length task.job.tests.tests)) kept
+    → AreKept task classes kept
+all_kept {K} task classes kept found = record {
   count = found.count;
-  first = λ k class f first ec of ef.
-      let table = true_table job.list.model job.circuit job.tests.tests b.circuit.well_formed in
-      let least_is = found.each table.0 table.1 k class (blocks (length job.tests.tests)) first ec
-      ef
-      (done_high 0 (blocks (length job.tests.tests)) k (omega arith)) in
-      subst (IsFirst job.circuit job.tests.tests f) (sym least_is)
-      (least_is_first job.list.model job.circuit job.tests.tests table.0 b.circuit.well_formed
-      b.circuit.arities table.1 f class of);
+  each = λ hits k class one ec ek h.
+      found.each hits k class (blocks (length task.job.tests.tests)) one ec ek h
+      (done_high 0 (blocks (length task.job.tests.tests)) k (omega arith));
 }
 
 -- a worker that leaves no class open was not stopped
-pub not_stopped : (job : Parts) (classes : List ℕ) (worker : ℕ) (S : Stops) (stop : Option Stop)
-    (firsts : List (Option ℕ)) → HasEnded job classes worker S stop firsts
-    → IsLowest (IsOpenIn job classes stop) None → stop ≡ None
-not_stopped job classes worker S None firsts e none = refl
-not_stopped job classes worker S (Some stop) firsts e none =
+pub not_stopped : {K : Type 0} (task : Task K) (classes : List ℕ) (worker : ℕ) (S : Stops) (stop : Option Stop)
+    (kept : List K) → HasEnded task classes worker S stop kept
+    → IsLowest (IsOpenIn task classes stop) None → stop ≡ None
+not_stopped {K} task classes worker S None kept e none = refl
+not_stopped {K} task classes worker S (Some stop) kept e none =
     let at = e.0 in
     absurd (none at.class stop.block (record {
       place = stop.place;
@@ -58,26 +51,26 @@ not_stopped job classes worker S (Some stop) firsts e none =
       at = at.at;
       block_is = done_high stop.place stop.block stop.place (omega arith);
       within = at.within;
-      undetected = at.undetected;
+      still = at.still;
     }))
 
 -- and one that was not stopped leaves none
-pub none_open : (job : Parts) (classes : List ℕ) (lowest : Option Waiting)
-    → IsLowest (IsOpenIn job classes None) lowest → lowest ≡ None
-none_open job classes None is = refl
-none_open job classes (Some w) is = absurd is.0
+pub none_open : {K : Type 0} (task : Task K) (classes : List ℕ) (lowest : Option Waiting)
+    → IsLowest (IsOpenIn task classes None) lowest → lowest ≡ None
+none_open {K} task classes None is = refl
+none_open {K} task classes (Some w) is = absurd is.0
 
 -- ---- the runs in a table
 
 -- one more
-pub runs_push : (size : ℕ) (classes : List ℕ) (part : ℕ) (table : List (Option Done))
-    (place : Option Done) → runs_from size classes part (table ++ place ∷ [])
+pub runs_push : {K : Type 0} (size : ℕ) (classes : List ℕ) (part : ℕ) (table : List (Option (Done K)))
+    (place : Option (Done K)) → runs_from size classes part (table ++ place ∷ [])
     ≡ runs_from size classes part table
     ++ run_at (stretch size classes (part + length table)) place ∷ []
-runs_push size classes part [] place =
+runs_push {K} size classes part [] place =
     let same : part ≡ part + 0 = omega arith in
     ap (λ n. run_at (stretch size classes n) place ∷ []) same
-runs_push size classes part (x ∷ table) place =
+runs_push {K} size classes part (x ∷ table) place =
     let same : part + 1 + length table ≡ part + suc (length table) = omega arith in
     ap (λ l. run_at (stretch size classes part) x ∷ l)
     (runs_push size classes (part + 1) table place
@@ -85,42 +78,42 @@ runs_push size classes part (x ∷ table) place =
     ++ run_at (stretch size classes n) place ∷ []) same)
 
 -- as many as there are places
-pub runs_count : (size : ℕ) (classes : List ℕ) (part : ℕ) (table : List (Option Done))
+pub runs_count : {K : Type 0} (size : ℕ) (classes : List ℕ) (part : ℕ) (table : List (Option (Done K)))
     → length (runs_from size classes part table) ≡ length table
-runs_count size classes part [] = refl
-runs_count size classes part (x ∷ table) = ap suc (runs_count size classes (part + 1) table)
+runs_count {K} size classes part [] = refl
+runs_count {K} size classes part (x ∷ table) = ap suc (runs_count size classes (part + 1) table)
 
 -- the run at a place
-run_from : (size : ℕ) (classes : List ℕ) (part : ℕ) (table : List (Option Done)) (k : ℕ)
-    (place : Option Done) → slice_get table k ≡ Some place
+run_from : {K : Type 0} (size : ℕ) (classes : List ℕ) (part : ℕ) (table : List (Option (Done K))) (k : ℕ)
+    (place : Option (Done K)) → slice_get table k ≡ Some place
     → slice_get (runs_from size classes part table) k
     ≡ Some (run_at (stretch size classes (part + k)) place)
-run_from size classes part [] k place e = let bad : None ≡ Some place = e in absurd (cc)
-run_from size classes part (x ∷ table) zero place e =
+run_from {K} size classes part [] k place e = let bad : None ≡ Some place = e in absurd (cc)
+run_from {K} size classes part (x ∷ table) zero place e =
     let same : x ≡ place = cc in
     let here : part ≡ part + 0 = omega arith in
     ap (λ p. Some (run_at (stretch size classes part) p)) same
     ∙ ap (λ n. Some (run_at (stretch size classes n) place)) here
-run_from size classes part (x ∷ table) (suc k) place e =
+run_from {K} size classes part (x ∷ table) (suc k) place e =
     let here : part + 1 + k ≡ part + suc k = omega arith in
     run_from size classes (part + 1) table k place e
     ∙ ap (λ n. Some (run_at (stretch size classes n) place)) here
 
-pub run_there : (size : ℕ) (classes : List ℕ) (table : List (Option Done)) (part : ℕ)
-    (place : Option Done) → slice_get table part ≡ Some place
+pub run_there : {K : Type 0} (size : ℕ) (classes : List ℕ) (table : List (Option (Done K))) (part : ℕ)
+    (place : Option (Done K)) → slice_get table part ≡ Some place
     → slice_get (runs_from size classes 0 table) part
     ≡ Some (run_at (stretch size classes part) place)
-run_there size classes table part place e =
+run_there {K} size classes table part place e =
     let here : 0 + part ≡ part = omega arith in
     run_from size classes 0 table part place e
     ∙ ap (λ n. Some (run_at (stretch size classes n) place)) here
 
 -- and each is at a place
-pub run_back : (size : ℕ) (classes : List ℕ) (table : List (Option Done)) (part : ℕ)
+pub run_back : {K : Type 0} (size : ℕ) (classes : List ℕ) (table : List (Option (Done K))) (part : ℕ)
     (run : PartRun) → slice_get (runs_from size classes 0 table) part ≡ Some run
-    → (place : Option Done) × (slice_get table part ≡ Some place)
+    → (place : Option (Done K)) × (slice_get table part ≡ Some place)
     × (run ≡ run_at (stretch size classes part) place)
-run_back size classes table part run at =
+run_back {K} size classes table part run at =
     let lt = slice_get_within (runs_from size classes 0 table) part run at in
     let n = runs_count size classes 0 table in
     let x = within_place table part (omega (arith, lt, n)) in
@@ -130,113 +123,112 @@ run_back size classes table part run at =
     (x.0, x.1, same)
 
 -- the class that waits in one run more
-pub waits_more : (job : Parts) (runs : List PartRun) (run : PartRun)
+pub waits_more : {K : Type 0} (task : Task K) (runs : List PartRun) (run : PartRun)
     (lowest own lower : Option Waiting)
-    → IsLowest (WaitsIn job runs) lowest → IsLowest (IsOpenIn job run.classes run.stop) own
-    → IsLowerOf lowest own lower → IsLowest (WaitsIn job (runs ++ run ∷ [])) lower
-waits_more job runs run lowest own lower was is lo =
-    lowest_along (λ c b. WaitsIn job runs c b ⊎ IsOpenIn job run.classes run.stop c b)
-    (WaitsIn job (runs ++ run ∷ [])) lower (λ c b x. to c b x)
+    → IsLowest (WaitsIn task runs) lowest → IsLowest (IsOpenIn task run.classes run.stop) own
+    → IsLowerOf lowest own lower → IsLowest (WaitsIn task (runs ++ run ∷ [])) lower
+waits_more {K} task runs run lowest own lower was is lo =
+    lowest_along (λ c b. WaitsIn task runs c b ⊎ IsOpenIn task run.classes run.stop c b)
+    (WaitsIn task (runs ++ run ∷ [])) lower (λ c b x. to c b x)
     (λ c b x. from c b x (pushed runs run x.1 x.0 x.2))
-    (lowest_join (WaitsIn job runs) (IsOpenIn job run.classes run.stop) lowest own lower was is lo)
+    (lowest_join (WaitsIn task runs) (IsOpenIn task run.classes run.stop) lowest own lower was is lo)
   where
-    to : (c b : ℕ) → WaitsIn job runs c b ⊎ IsOpenIn job run.classes run.stop c b
-        → WaitsIn job (runs ++ run ∷ []) c b
+    to : (c b : ℕ) → WaitsIn task runs c b ⊎ IsOpenIn task run.classes run.stop c b
+        → WaitsIn task (runs ++ run ∷ []) c b
     to c b (inl x) = (x.0, x.1, kept runs (run ∷ []) x.0 x.1 x.2, x.3)
     to c b (inr x) = (length runs, run, last_of runs run, x)
 
-    from : (c b : ℕ) (x : WaitsIn job (runs ++ run ∷ []) c b) → (slice_get runs x.0 ≡ Some x.1)
+    from : (c b : ℕ) (x : WaitsIn task (runs ++ run ∷ []) c b) → (slice_get runs x.0 ≡ Some x.1)
         ⊎ ((x.0 ≡ length runs) × (run ≡ x.1))
-        → WaitsIn job runs c b ⊎ IsOpenIn job run.classes run.stop c b
+        → WaitsIn task runs c b ⊎ IsOpenIn task run.classes run.stop c b
     from c b x (inl h) = inl (x.0, x.1, h, x.3)
-    from c b x (inr h) = inr (subst (λ (r : PartRun). IsOpenIn job r.classes r.stop c b)
+    from c b x (inr h) = inr (subst (λ (r : PartRun). IsOpenIn task r.classes r.stop c b)
         (sym h.1) x.3)
 
 -- a worker that was stopped was so at a piece where its gate may
-stopped_there : (job : Parts) (classes : List ℕ) (worker : ℕ) (S : Stops) (stop : Option Stop)
-    (firsts : List (Option ℕ)) → HasEnded job classes worker S stop firsts
-    → (at : Stop) → stop ≡ Some at → IsStopAt job classes worker S at
-stopped_there job classes worker S None firsts e at is = absurd (cc)
-stopped_there job classes worker S (Some stop) firsts e at is = let same : stop ≡ at = cc in
-    subst (IsStopAt job classes worker S) same e.0
+stopped_there : {K : Type 0} (task : Task K) (classes : List ℕ) (worker : ℕ) (S : Stops) (stop : Option Stop)
+    (kept : List K) → HasEnded task classes worker S stop kept
+    → (at : Stop) → stop ≡ Some at → IsStopAt task classes worker S at
+stopped_there {K} task classes worker S None kept e at is = absurd (cc)
+stopped_there {K} task classes worker S (Some stop) kept e at is = let same : stop ≡ at = cc in
+    subst (IsStopAt task classes worker S) same e.0
 
 -- and the gate let it pass all before
-passed_there : (job : Parts) (classes : List ℕ) (worker : ℕ) (S : Stops) (stop : Option Stop)
-    (firsts : List (Option ℕ)) → HasEnded job classes worker S stop firsts
-    → HasPassed job classes worker S stop
-passed_there job classes worker S None firsts e = e.1
-passed_there job classes worker S (Some stop) firsts e = e.2
+passed_there : {K : Type 0} (task : Task K) (classes : List ℕ) (worker : ℕ) (S : Stops) (stop : Option Stop)
+    (kept : List K) → HasEnded task classes worker S stop kept
+    → HasPassed task classes worker S stop
+passed_there {K} task classes worker S None kept e = e.1
+passed_there {K} task classes worker S (Some stop) kept e = e.2
 
--- one that was not has found the first tests
-pub not_stopped_found : (job : Parts) (classes : List ℕ) (worker : ℕ) (S : Stops)
+-- one that was not has taken all tests
+pub not_stopped_kept : {K : Type 0} (task : Task K) (classes : List ℕ) (worker : ℕ) (S : Stops)
     (stop : Option Stop)
-    (firsts : List (Option ℕ)) → BelongTogether job → HasEnded job classes worker S stop firsts
-    → stop ≡ None → AreClassFirsts job.list.model job.circuit job.tests.tests classes firsts
-not_stopped_found job classes worker S None firsts b e is = firsts_found job classes firsts b e.0
-not_stopped_found job classes worker S (Some stop) firsts b e is = absurd (cc)
+    (kept : List K) → HasEnded task classes worker S stop kept
+    → stop ≡ None → AreKept task classes kept
+not_stopped_kept {K} task classes worker S None kept e is = all_kept task classes kept e.0
+not_stopped_kept {K} task classes worker S (Some stop) kept e is = absurd (cc)
 
--- no first test of no class
-firsts_of_none : (job : Parts) (own : List ℕ) (firsts : List (Option ℕ)) → length own ≡ 0
-    → length firsts ≡ 0
-    → AreClassFirsts job.list.model job.circuit job.tests.tests own firsts
-firsts_of_none job own firsts e n = record {
+-- nothing is kept of no class
+kept_of_none : {K : Type 0} (task : Task K) (own : List ℕ) (kept : List K) → length own ≡ 0
+    → length kept ≡ 0 → AreKept task own kept
+kept_of_none {K} task own kept e n = record {
   count = omega (arith, e, n);
-  first = λ k class f first at of ef.
+  each = λ hits k class one at v h.
       let lt = slice_get_within own k class at in absurd (omega (arith, lt, e));
 }
 
--- a class that waits in a stretch of classes of the job is one of the job's, and so is its block
-open_within : (job : Parts) (size part : ℕ) (classes own : List ℕ) (stop : Option Stop)
-    (class block : ℕ) → All (λ class. class < length job.classes.representative) classes
+-- a class that waits in a stretch of classes of the task is one of the task's, and so is its block
+open_within : {K : Type 0} (task : Task K) (size part : ℕ) (classes own : List ℕ) (stop : Option Stop)
+    (class block : ℕ) → All (λ class. class < length task.job.classes.representative) classes
     → own ≡ stretch size classes part
-    → IsOpenIn job own stop class block
-    → (class < length job.classes.representative) × (block < blocks (length job.tests.tests))
-open_within job size part classes own None class block all is x = absurd x
-open_within job size part classes own (Some stop) class block all is x = (
+    → IsOpenIn task own stop class block
+    → (class < length task.job.classes.representative) × (block < blocks (length task.job.tests.tests))
+open_within {K} task size part classes own None class block all is x = absurd x
+open_within {K} task size part classes own (Some stop) class block all is x = (
   let at : slice_get (stretch size classes part) x.place ≡ Some class =
       subst (λ l. slice_get l x.place ≡ Some class) is x.at in
-      subst (λ c. c < length job.classes.representative)
+      subst (λ c. c < length task.job.classes.representative)
       (get_or_from_slice_get (stretch size classes part) x.place class 0 at)
-      (stretch_within job size part classes all x.place 0
+      (stretch_within task.job size part classes all x.place 0
       (slice_get_within (stretch size classes part) x.place class at)),
   x.within,
 )
 
 -- a run of a stretch that no worker began
-unbegun_so : (job : Parts) (size : ℕ) (classes : List ℕ) (workers : ℕ) (S : Stops)
+unbegun_so : {K : Type 0} (task : Task K) (size : ℕ) (classes : List ℕ) (workers : ℕ) (S : Stops)
     (runs : List PartRun) (own : List ℕ)
-    → (0 < length own → AreAllStopped job size classes workers S runs)
+    → (0 < length own → AreAllStopped task size classes workers S runs)
     → ((unbegun_run own).classes ≡ own)
-    × HasRunSo job size classes workers S runs (unbegun_run own) (unbegun_run own).worker
-unbegun_so job size classes workers S runs [] stopped = (refl, (refl, stopped))
-unbegun_so job size classes workers S runs (class ∷ own) stopped = (refl, (refl, stopped))
+    × HasRunSo task size classes workers S runs (unbegun_run own) (unbegun_run own).worker
+unbegun_so {K} task size classes workers S runs [] stopped = (refl, (refl, stopped))
+unbegun_so {K} task size classes workers S runs (class ∷ own) stopped = (refl, (refl, stopped))
 
 -- a class of it waits only if it has one
-unbegun_open : (job : Parts) (own : List ℕ) (class block : ℕ)
-    → IsOpenIn job (unbegun_run own).classes (unbegun_run own).stop class block → 0 < length own
-unbegun_open job [] class block x = absurd x
-unbegun_open job (c ∷ own) class block x = omega arith
+unbegun_open : {K : Type 0} (task : Task K) (own : List ℕ) (class block : ℕ)
+    → IsOpenIn task (unbegun_run own).classes (unbegun_run own).stop class block → 0 < length own
+unbegun_open {K} task [] class block x = absurd x
+unbegun_open {K} task (c ∷ own) class block x = omega arith
 
 -- so none waits in one without a class
-pub unbegun_empty : (job : Parts) (own : List ℕ) → length own ≡ 0
-    → IsLowestIn job (unbegun_run own) None
-unbegun_empty job [] e = λ class block x. x
-unbegun_empty job (class ∷ own) e = absurd (omega (arith, e))
+pub unbegun_empty : {K : Type 0} (task : Task K) (own : List ℕ) → length own ≡ 0
+    → IsLowestIn task (unbegun_run own) None
+unbegun_empty {K} task [] e = λ class block x. x
+unbegun_empty {K} task (class ∷ own) e = absurd (omega (arith, e))
 
 -- and in another the lowest class does
-pub unbegun_lowest : (job : Parts) (own : List ℕ) (lowest : Option Waiting)
-    → IsLowest (IsOpenIn job own (Some at_first)) lowest → IsLowestIn job (unbegun_run own) lowest
-unbegun_lowest job [] lowest is = lowest_along (IsOpenIn job [] (Some at_first))
-    (IsOpenIn job [] None) lowest
+pub unbegun_lowest : {K : Type 0} (task : Task K) (own : List ℕ) (lowest : Option Waiting)
+    → IsLowest (IsOpenIn task own (Some at_first)) lowest → IsLowestIn task (unbegun_run own) lowest
+unbegun_lowest {K} task [] lowest is = lowest_along (IsOpenIn task [] (Some at_first))
+    (IsOpenIn task [] None) lowest
     (λ class block x. let low = x.low in absurd (omega (arith, low)))
     (λ class block x. absurd x) is
-unbegun_lowest job (class ∷ own) lowest is = is
+unbegun_lowest {K} task (class ∷ own) lowest is = is
 
 -- and if it has one, it waits
-unbegun_waits : (job : Parts) (own : List ℕ) → 0 < length own → 0 < blocks (length job.tests.tests)
-    → (class : ℕ) × IsOpenIn job (unbegun_run own).classes (unbegun_run own).stop class 0
-unbegun_waits job [] some block = absurd (omega (arith, some))
-unbegun_waits job (class ∷ own) some block = (
+unbegun_waits : {K : Type 0} (task : Task K) → IsOpenAtFirst task → (own : List ℕ) → 0 < length own → 0 < blocks (length task.job.tests.tests)
+    → (class : ℕ) × IsOpenIn task (unbegun_run own).classes (unbegun_run own).stop class 0
+unbegun_waits {K} task first [] some block = absurd (omega (arith, some))
+unbegun_waits {K} task first (class ∷ own) some block = (
   class,
   record {
     place = 0;
@@ -244,7 +236,7 @@ unbegun_waits job (class ∷ own) some block = (
     at = refl;
     block_is = done_high 0 0 0 (omega arith);
     within = block;
-    undetected = λ table is. refl;
+    still = λ hits one h means. first one hits means;
   },
 )
 
@@ -254,21 +246,21 @@ unbegun_none [] = refl
 unbegun_none (class ∷ own) = refl
 
 -- the result of a worker for a stretch that it ran is at the stretch's place
-begun : (own : List ℕ) (place : Option Done) (run : PartRun) (w : ℕ) → run ≡ run_at own place
+begun : {K : Type 0} (own : List ℕ) (place : Option (Done K)) (run : PartRun) (w : ℕ) → run ≡ run_at own place
     → run.worker ≡ Some w
-    → (done : Done) × (place ≡ Some done) × (done.worker ≡ w) × (run.stop ≡ done.stop)
-begun own None run w e q =
+    → (done : Done K) × (place ≡ Some done) × (done.worker ≡ w) × (run.stop ≡ done.stop)
+begun {K} own None run w e q =
     let bad : None ≡ Some w = sym (unbegun_none own) ∙ (sym (ap (λ (r : PartRun). r.worker) e) ∙ q)
     in absurd (cc)
-begun own (Some done) run w e q =
+begun {K} own (Some done) run w e q =
     let both : Some done.worker ≡ Some w = sym (ap (λ (r : PartRun). r.worker) e) ∙ q in
     (done, refl, cc, ap (λ (r : PartRun). r.stop) e)
 
 -- if a worker was stopped, a class waits
-stopped_waits : (job : Parts) (size : ℕ) (classes : List ℕ) (worker : ℕ) (P : Type 0) (S : Stops)
-    (done : Done) (stop : Stop) → IsDone job size classes worker P S done → done.stop ≡ Some stop
+stopped_waits : {K : Type 0} (task : Task K) (size : ℕ) (classes : List ℕ) (worker : ℕ) (P : Type 0) (S : Stops)
+    (done : Done K) (stop : Stop) → IsDone task size classes worker P S done → done.stop ≡ Some stop
     → (v : Waiting) × (done.waiting ≡ Some v)
-stopped_waits job size classes worker P S done stop is e = pick done.waiting refl
+stopped_waits {K} task size classes worker P S done stop is e = pick done.waiting refl
   where
     own : List ℕ
     own = stretch size classes done.part
@@ -276,17 +268,17 @@ stopped_waits job size classes worker P S done stop is e = pick done.waiting ref
     pick : (x : Option Waiting) → done.waiting ≡ x → (v : Waiting) × (done.waiting ≡ Some v)
     pick (Some v) q = (v, q)
     pick None q =
-        let low = subst (IsLowest (IsOpenIn job own done.stop)) q is.lowest in
-        let none = not_stopped job own worker S done.stop done.firsts.items is.ended low in
+        let low = subst (IsLowest (IsOpenIn task own done.stop)) q is.lowest in
+        let none = not_stopped task own worker S done.stop done.kept.items is.ended low in
         let bad : Some stop ≡ None = sym e ∙ none in absurd (cc)
 
-module _ (job : Parts) (size : ℕ) (classes : List ℕ) (workers : ℕ) (P : Type 0) (S : Stops)
-    (table : List (Option Done)) (found : AreFoundByPart job size classes workers P S table) where
+module _ {K : Type 0} (task : Task K) (size : ℕ) (classes : List ℕ) (workers : ℕ) (P : Type 0) (S : Stops)
+    (table : List (Option (Done K))) (found : AreFoundByPart task size classes workers P S table) where
   abbrev pub runs : List PartRun
   runs = runs_from size classes 0 table
 
   -- the runs of a table are runs of the stretches
-  pub runs_are : AreRunsOf job size classes workers S (length table) runs
+  pub runs_are : AreRunsOf task size classes workers S (length table) runs
   runs_are = record {
     count = runs_count size classes 0 table;
     each = λ part run at. let x = run_back size classes table part run at in
@@ -298,104 +290,105 @@ module _ (job : Parts) (size : ℕ) (classes : List ℕ) (workers : ℕ) (P : Ty
         let v = begun (stretch size classes k) y.0 b w y.2 wb in
         let iu : slice_get table i ≡ Some (Some u.0) = x.1 ∙ ap Some u.1 in
         let iv : slice_get table k ≡ Some (Some v.0) = y.1 ∙ ap Some v.1 in
-        let p = stopped_waits job size classes u.0.worker P S u.0 s (found.each i u.0 iu).2
+        let p = stopped_waits task size classes u.0.worker P S u.0 s (found.each i u.0 iu).2
         (sym u.3 ∙ sa) in
-        let q = stopped_waits job size classes v.0.worker P S v.0 t (found.each k v.0 iv).2
+        let q = stopped_waits task size classes v.0.worker P S v.0 t (found.each k v.0 iv).2
         (sym v.3 ∙ sb) in
         found.once i k u.0 v.0 p.0 q.0 iu iv (u.2 ∙ sym v.2) p.1 q.1;
   }
     where
-      go : (part : ℕ) (run : PartRun) (place : Option Done) → slice_get table part ≡ Some place
+      go : (part : ℕ) (run : PartRun) (place : Option (Done K)) → slice_get table part ≡ Some place
           → run ≡ run_at (stretch size classes part) place
           → (run.classes ≡ stretch size classes part)
-          × HasRunSo job size classes workers S runs run run.worker
+          × HasRunSo task size classes workers S runs run run.worker
       go part run (Some done) at e =
           let f = found.each part done at in
-          let ended : HasEnded job (stretch size classes part) done.worker S done.stop
-          done.firsts.items = subst (λ n. HasEnded job (stretch size classes n) done.worker S
-          done.stop done.firsts.items) f.0 f.2.ended in
+          let ended : HasEnded task (stretch size classes part) done.worker S done.stop
+          done.kept.items = subst (λ n. HasEnded task (stretch size classes n) done.worker S
+          done.stop done.kept.items) f.0 f.2.ended in
           subst (λ (r : PartRun). (r.classes ≡ stretch size classes part)
-          × HasRunSo job size classes workers S runs r r.worker) (sym e) (
+          × HasRunSo task size classes workers S runs r r.worker) (sym e) (
             refl,
             (
               f.1,
-              λ stop q. stopped_there job (stretch size classes part) done.worker S done.stop
-                  done.firsts.items ended stop q,
-              passed_there job (stretch size classes part) done.worker S done.stop
-                  done.firsts.items ended,
+              λ stop q. stopped_there task (stretch size classes part) done.worker S done.stop
+                  done.kept.items ended stop q,
+              passed_there task (stretch size classes part) done.worker S done.stop
+                  done.kept.items ended,
             ),
           )
       go part run None at e =
           subst (λ (r : PartRun). (r.classes ≡ stretch size classes part)
-          × HasRunSo job size classes workers S runs r r.worker) (sym e)
-          (unbegun_so job size classes workers S runs (stretch size classes part)
+          × HasRunSo task size classes workers S runs r r.worker) (sym e)
+          (unbegun_so task size classes workers S runs (stretch size classes part)
           (λ some. (found.none part at some).2))
 
   -- a gate that lets all pass leaves no class open
-  none_waits : P → (class block : ℕ) → WaitsIn job runs class block → ⊥
+  none_waits : P → (class block : ℕ) → WaitsIn task runs class block → ⊥
   none_waits p class block x =
       let y = run_back size classes table x.0 x.1 x.2 in
-      go x.0 y.0 y.1 (subst (λ (r : PartRun). IsOpenIn job r.classes r.stop class block) y.2 x.3)
+      go x.0 y.0 y.1 (subst (λ (r : PartRun). IsOpenIn task r.classes r.stop class block) y.2 x.3)
     where
-      go : (part : ℕ) (place : Option Done) → slice_get table part ≡ Some place
-          → IsOpenIn job (run_at (stretch size classes part) place).classes
+      go : (part : ℕ) (place : Option (Done K)) → slice_get table part ≡ Some place
+          → IsOpenIn task (run_at (stretch size classes part) place).classes
           (run_at (stretch size classes part) place).stop class block → ⊥
       go part (Some done) at still_open =
           let f = found.each part done at in
-          subst (λ s. IsOpenIn job (stretch size classes part) s class block) (f.2.passed p)
+          subst (λ s. IsOpenIn task (stretch size classes part) s class block) (f.2.passed p)
           still_open
       go part None at still_open =
-          (found.none part at (unbegun_open job (stretch size classes part) class block
+          (found.none part at (unbegun_open task (stretch size classes part) class block
           still_open)).0 p
 
   -- the lowest class that waits
-  pub stretches_wait : (parts class block : ℕ) → IsCutOf job parts size classes
+  pub stretches_wait : (parts class block : ℕ) → IsCutOf task.job parts size classes
       → length table ≡ parts
-      → IsLowest (WaitsIn job runs) (Some (record { class = class; block = block }))
-      → (class < length job.classes.representative) × (block < blocks (length job.tests.tests))
-      × (P → ⊥) × StretchesWaitFor job size classes parts workers S class block
+      → IsLowest (WaitsIn task runs) (Some (record { class = class; block = block }))
+      → (class < length task.job.classes.representative) × (block < blocks (length task.job.tests.tests))
+      × (P → ⊥) × StretchesWaitFor task size classes parts workers S class block
   stretches_wait parts class block cut count low =
       let x = low.0 in
       let own = (runs_are.each x.0 x.1 x.2).0 in
-      let within = open_within job size x.0 classes x.1.classes x.1.stop class block cut.within own
+      let within = open_within task size x.0 classes x.1.classes x.1.stop class block cut.within own
       x.3 in (
         within.0,
         within.1,
         λ p. none_waits p class block x,
         record {
           runs = runs;
-          are = subst (λ n. AreRunsOf job size classes workers S n runs) count runs_are;
+          are = subst (λ n. AreRunsOf task size classes workers S n runs) count runs_are;
           lowest = low;
         },
       )
 
   -- the results at each place give its lowest class
-  pub all_lowest : AreAllLowest job size classes table
+  pub all_lowest : AreAllLowest task size classes table
   all_lowest part place at = go place at
     where
-      go : (place : Option Done) → slice_get table part ≡ Some place
-          → IsLowestAt job (stretch size classes part) place
+      go : (place : Option (Done K)) → slice_get table part ≡ Some place
+          → IsLowestAt task (stretch size classes part) place
       go None at = λ some. (found.none part at some).1
       go (Some done) at =
           let f = found.each part done at in
-          subst (λ n. IsLowest (IsOpenIn job (stretch size classes n) done.stop) done.waiting) f.0
+          subst (λ n. IsLowest (IsOpenIn task (stretch size classes n) done.stop) done.waiting) f.0
           f.2.lowest
 
   -- if no class waits, all places are whole
-  pub none_whole : IsLowest (WaitsIn job runs) None → AreWhole size classes table
-  none_whole none part place at = go place at
+  pub none_whole : IsOpenAtFirst task → IsLowest (WaitsIn task runs) None
+      → AreWhole size classes table
+  none_whole first none part place at = go place at
     where
-      go : (place : Option Done) → slice_get table part ≡ Some place
+      go : (place : Option (Done K)) → slice_get table part ≡ Some place
           → IsWholeAt size classes part place
       go (Some done) at = pick done.waiting refl
         where
-          low : IsLowest (IsOpenIn job (stretch size classes part) done.stop) done.waiting
+          low : IsLowest (IsOpenIn task (stretch size classes part) done.stop) done.waiting
           low = all_lowest part (Some done) at
 
           pick : (x : Option Waiting) → done.waiting ≡ x → done.waiting ≡ None
           pick None e = e
           pick (Some v) e =
-              let own = subst (IsLowest (IsOpenIn job (stretch size classes part) done.stop)) e
+              let own = subst (IsLowest (IsOpenIn task (stretch size classes part) done.stop)) e
               low in
               absurd (none v.class v.block (
                 part,
@@ -410,49 +403,46 @@ module _ (job : Parts) (size : ℕ) (classes : List ℕ) (workers : ℕ) (P : Ty
           pick zero e = e
           pick (suc n) e =
               let some : 0 < length (stretch size classes part) = omega (arith, e) in
-              let x = unbegun_waits job (stretch size classes part) some
+              let x = unbegun_waits task first (stretch size classes part) some
               (found.none part at some).1 in
               absurd (none x.0 0 (
                 part,
-                run_at (stretch size classes part) None,
+                run_at {K = K} (stretch size classes part) None,
                 run_there size classes table part None at,
                 x.1,
               ))
 
-  -- and whole places give the first tests
-  pub whole_found : BelongTogether job → AreWhole size classes table
-      → AreAllFound job size classes table
-  whole_found b whole part place at = go place at (whole part place at)
+  -- and whole places give what is kept
+  pub whole_kept : AreWhole size classes table → AreAllKept task size classes table
+  whole_kept whole part place at = go place at (whole part place at)
     where
-      go : (place : Option Done) → slice_get table part ≡ Some place
-          → IsWholeAt size classes part place → IsFoundAt job (stretch size classes part) place
+      go : (place : Option (Done K)) → slice_get table part ≡ Some place
+          → IsWholeAt size classes part place → IsKeptAt task (stretch size classes part) place
       go None at none = none
       go (Some done) at none =
           let f = found.each part done at in
           let own = stretch size classes done.part in
-          let low = subst (IsLowest (IsOpenIn job own done.stop)) none f.2.lowest in
-          let stop = not_stopped job own done.worker S done.stop done.firsts.items f.2.ended low in
-          subst (λ n. AreClassFirsts job.list.model job.circuit job.tests.tests
-          (stretch size classes n) done.firsts.items) f.0
-          (not_stopped_found job own done.worker S done.stop done.firsts.items b f.2.ended stop)
+          let low = subst (IsLowest (IsOpenIn task own done.stop)) none f.2.lowest in
+          let stop = not_stopped task own done.worker S done.stop done.kept.items f.2.ended low in
+          subst (λ n. AreKept task (stretch size classes n) done.kept.items) f.0
+          (not_stopped_kept task own done.worker S done.stop done.kept.items f.2.ended stop)
 
--- ---- first tests, one stretch after another
+-- ---- what is kept, one stretch after another
 
 -- the runs of a stretch more
-pub firsts_joined : (job : Parts) (size : ℕ) (classes : List ℕ) (part : ℕ)
-    (firsts : List (Option ℕ)) (done : Done)
-    → IsFoundAt job (stretch size classes part) (Some done)
-    → FirstsUpTo job classes (part * size) firsts
-    → FirstsUpTo job classes ((part + 1) * size) (firsts ++ done.firsts.items)
-firsts_joined job size classes part firsts done own was =
-    firsts_more job classes size part firsts done.firsts.items was own
+pub kept_joined : {K : Type 0} (task : Task K) (size : ℕ) (classes : List ℕ) (part : ℕ)
+    (kept : List K) (done : Done K) → IsKeptAt task (stretch size classes part) (Some done)
+    → AreKeptBelow task classes (part * size) kept
+    → AreKeptBelow task classes ((part + 1) * size) (kept ++ done.kept.items)
+kept_joined {K} task size classes part kept done own was =
+    kept_more task classes size part kept done.kept.items was own
 
 -- and of one without a class
-pub firsts_skipped : (job : Parts) (size : ℕ) (classes : List ℕ) (part : ℕ)
-    (firsts : List (Option ℕ)) → IsFoundAt job (stretch size classes part) None
-    → FirstsUpTo job classes (part * size) firsts
-    → FirstsUpTo job classes ((part + 1) * size) firsts
-firsts_skipped job size classes part firsts none was =
-    subst (FirstsUpTo job classes ((part + 1) * size)) (append-nil firsts)
-    (firsts_more job classes size part firsts [] was
-    (firsts_of_none job (stretch size classes part) [] none refl))
+pub kept_skipped : {K : Type 0} (task : Task K) (size : ℕ) (classes : List ℕ) (part : ℕ)
+    (kept : List K) → IsKeptAt task (stretch size classes part) None
+    → AreKeptBelow task classes (part * size) kept
+    → AreKeptBelow task classes ((part + 1) * size) kept
+kept_skipped {K} task size classes part kept none was =
+    subst (AreKeptBelow task classes ((part + 1) * size)) (append-nil kept)
+    (kept_more task classes size part kept [] was
+    (kept_of_none task (stretch size classes part) [] none refl))

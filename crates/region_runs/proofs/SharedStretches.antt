@@ -31,7 +31,6 @@ use Rattle.fault_ledger.proofs.Public.{claim_accepted, claims_past, held_once, h
 use Rattle.fault_ledger.proofs.Public.{held_piece, legal_claims, report_accepted, status-open}
 use Rattle.fault_ledger.proofs.Public.{unclaimed_open}
 use Rattle.list_lemmas.proofs.Places.{within_place}
-use Rattle.workers.specs.Verdict.{AreClassFirsts}
 use Rattle.workers.specs.Stops.{Stops}
 use Rattle.workers.specs.Work.{EachReport}
 use Rattle.workers.proofs.Public.{all_settled, class_count, finished_settled, settled_finished}
@@ -44,7 +43,7 @@ use Rattle.region_runs.specs.StretchRuns.{IsLowest, IsOpenIn, IsStopAt, IsStoppe
 use Rattle.region_runs.specs.StretchRuns.{run_at, runs_from}
 use Rattle.region_runs.specs.Part.{stretch, stretch_count, stretch_size}
 use Rattle.region_runs.specs.Cut.{IsCutOf}
-use Rattle.region_runs.specs.Stretches.{AreApart, AreOfStretches, AreServed, AreShared}
+use Rattle.region_runs.specs.Stretches.{AreApart, AreByStretches, AreServed, AreShared}
 use Rattle.region_runs.specs.Stretches.{EachClaim, StandsFor}
 use Rattle.region_runs.specs.Stretches.{EndsServing, HasServed, IsAmong, Stands, crew_of}
 use Rattle.region_runs.specs.Stretches.{shape_of_stretches}
@@ -52,56 +51,57 @@ use Rattle.region_runs.proofs.StretchTables.{AreFoundByPart, AreWhole, IsWholeAt
 use Rattle.region_runs.proofs.PartRefusals.{ceil_le}
 use Rattle.region_runs.proofs.RunsOfParts.{none_open, run_there}
 use Rattle.region_runs.proofs.StretchSeats.{accounts_on}
+use Rattle.region_runs.specs.Tasks.{AreKept, IsOpenAtFirst, IsSound, Task, first_tests, task_of}
 
 -- ---- the ledger is closed
 
 -- each seat that came back is one of the ledger's
-pub apart_placed : {E Z : Type 0} (p : Place) (back : List (Result Served E)) (seats : List Sitter)
-    (dones : List (Vec Done Z)) → AreApart back seats dones
+pub apart_placed : {E Z : Type 0} {K : Type 0} (p : Place) (back : List (Result (Served K) E)) (seats : List Sitter)
+    (dones : List (Vec (Done K) Z)) → AreApart back seats dones
     → All (λ one. IfOk one (λ served. served.seat.place ≡ p)) back
     → All (λ (seat : Sitter). seat.place ≡ p) seats
-apart_placed {E} {Z} p back seats dones apart placed k d lt =
+apart_placed {E} {Z} {K} p back seats dones apart placed k d lt =
     let a = within_place seats k lt in
     let b = within_place dones k (omega (arith, lt, apart.seats_count, apart.dones_count)) in
     let x = apart.each k a.0 b.0 a.1 b.1 in
-    let own : x.0.seat.place ≡ p = subst (λ (r : Result Served E). IfOk r (λ served.
+    let own : x.0.seat.place ≡ p = subst (λ (r : Result (Served K) E). IfOk r (λ served.
     served.seat.place ≡ p)) (get_or_from_slice_get back k (Ok x.0) (Ok x.0) x.1)
     (placed k (Ok x.0) (slice_get_within back k (Ok x.0) x.1)) in
     ap (λ (x : Sitter). x.place) (get_or_from_slice_get seats k a.0 d a.1)
     ∙ ap (λ (x : Sitter). x.place) x.2 ∙ own
 
 -- so are the results of all workers
-pub served_placed : {E : Type 0} (job : Parts) (size : ℕ) (classes : List ℕ) (p : Place)
-    (P : Type 0) (S : Stops) (back : List (Result Served E))
-    → AreServed job size classes p P S back
+pub served_placed : {E : Type 0} {K : Type 0} (task : Task K) (size : ℕ) (classes : List ℕ) (p : Place)
+    (P : Type 0) (S : Stops) (back : List (Result (Served K) E))
+    → AreServed task size classes p P S back
     → All (λ one. IfOk one (λ served. served.seat.place ≡ p)) back
-served_placed {E} job size classes p P S back served k d lt =
+served_placed {E} {K} task size classes p P S back served k d lt =
     let x = within_place back k lt in
-    subst (λ (r : Result Served E). IfOk r (λ served. served.seat.place ≡ p))
+    subst (λ (r : Result (Served K) E). IfOk r (λ served. served.seat.place ≡ p))
     (sym (get_or_from_slice_get back k x.0 d x.1)) (go x.0 (served.each k x.0 x.1))
   where
-    go : (one : Result Served E)
-        → IfOk one (λ served. HasServed job size classes p k P S served.seat served.dones.items)
+    go : (one : Result (Served K) E)
+        → IfOk one (λ served. HasServed task size classes p k P S served.seat served.dones.items)
         → IfOk one (λ served. served.seat.place ≡ p)
     go (Err e) h = tt
     go (Ok x) h = h.place_is
 
 -- how a worker ended it has ended later
-ended_on : (s : Shape) (w : ℕ) (later earlier : History) (own : List Done) → IsLegal s later
+ended_on : {K : Type 0} (s : Shape) (w : ℕ) (later earlier : History) (own : List (Done K)) → IsLegal s later
     → ContinuesWithout w later earlier → EndsServing s earlier own → EndsServing s later own
-ended_on s w later earlier own l c (inl all) =
+ended_on {K} s w later earlier own l c (inl all) =
     let more : claims earlier ≤ claims later = subst (λ k. claims earlier ≤ claims k)
     (sym c.1) (claims_past c.0 earlier) in
     let few = legal_claims s later l in
     inl (omega (arith, all, more, few))
-ended_on s w later earlier own l c (inr stopped) = inr stopped
+ended_on {K} s w later earlier own l c (inr stopped) = inr stopped
 
 -- the results of all workers, by the history of the closed ledger
-pub shared : {E Z : Type 0} (job : Parts) (size : ℕ) (classes : List ℕ) (p : Place) (P : Type 0)
-    (S : Stops) (back : List (Result Served E)) (seats : List Sitter) (dones : List (Vec Done Z))
-    (closed : ClosedFace) → AreServed job size classes p P S back → AreApart back seats dones
-    → Closes p.shape seats closed → AreShared job size classes p.shape P S dones closed
-shared {E} {Z} job size classes p P S back seats dones closed served apart closes = record {
+pub shared : {E Z : Type 0} {K : Type 0} (task : Task K) (size : ℕ) (classes : List ℕ) (p : Place) (P : Type 0)
+    (S : Stops) (back : List (Result (Served K) E)) (seats : List Sitter) (dones : List (Vec (Done K) Z))
+    (closed : ClosedFace) → AreServed task size classes p P S back → AreApart back seats dones
+    → Closes p.shape seats closed → AreShared task size classes p.shape P S dones closed
+shared {E} {Z} {K} task size classes p P S back seats dones closed served apart closes = record {
   count = apart.dones_count ∙ served.count;
   history = closes.0;
   legal = closes.1;
@@ -110,47 +110,47 @@ shared {E} {Z} job size classes p P S back seats dones closed served apart close
       let lt = slice_get_within dones w own there in
       let a = within_place seats w (omega (arith, lt, apart.seats_count, apart.dones_count)) in
       let x = apart.each w a.0 own a.1 there in
-      let o : HasServed job size classes p w P S x.0.seat x.0.dones.items =
+      let o : HasServed task size classes p w P S x.0.seat x.0.dones.items =
       served.each w (Ok x.0) x.1 in
-      let h : HasServed job size classes p w P S a.0 own.items =
-      subst (λ l. HasServed job size classes p w P S a.0 l) (sym x.3)
-      (subst (λ s. HasServed job size classes p w P S s x.0.dones.items) (sym x.2) o) in
+      let h : HasServed task size classes p w P S a.0 own.items =
+      subst (λ l. HasServed task size classes p w P S a.0 l) (sym x.3)
+      (subst (λ s. HasServed task size classes p w P S s x.0.dones.items) (sym x.2) o) in
       let c : ContinuesWithout a.0.worker closes.0 a.0.seen =
       subst (λ (x : Sitter). ContinuesWithout x.worker closes.0 x.seen)
       (get_or_from_slice_get seats w a.0 a.0 a.1)
       (closes.2 w a.0 (slice_get_within seats w a.0 a.1)) in
       let d : ContinuesWithout w closes.0 a.0.seen =
       subst (λ v. ContinuesWithout v closes.0 a.0.seen) h.worker_is c in (
-        accounts_on job size classes p w P S closes.0 a.0.seen own.items d h.accounts,
+        accounts_on task size classes p w P S closes.0 a.0.seen own.items d h.accounts,
         ended_on p.shape w closes.0 a.0.seen own.items closes.1 d h.ended,
       );
 }
 
 -- the end of the closed ledger
-pub face_finish : {Z : Type 0} (job : Parts) (size : ℕ) (classes : List ℕ) (s : Shape) (P : Type 0)
-    (S : Stops) (dones : List (Vec Done Z)) (face : ClosedFace) (end : Finish)
-    → (all : AreShared job size classes s P S dones face)
+pub face_finish : {Z : Type 0} {K : Type 0} (task : Task K) (size : ℕ) (classes : List ℕ) (s : Shape) (P : Type 0)
+    (S : Stops) (dones : List (Vec (Done K) Z)) (face : ClosedFace) (end : Finish)
+    → (all : AreShared task size classes s P S dones face)
     → ((h : History) → IsLegal face.shape h → face ≡ closed_face face.shape h
     → end ≡ finish face.shape h)
     → end ≡ finish s all.history
-face_finish {Z} job size classes s P S dones face end all tells =
+face_finish {Z} {K} task size classes s P S dones face end all tells =
     let same : face.shape ≡ s = ap (λ (f : ClosedFace). f.shape) all.shows in
     tells all.history (subst (λ (z : Shape). IsLegal z all.history) (sym same) all.legal)
     (subst (λ (z : Shape). face ≡ closed_face z all.history) (sym same) all.shows)
     ∙ ap (λ (z : Shape). finish z all.history) same
 
 -- the shared results, under another name of the shape
-pub shared_at : {Z : Type 0} (job : Parts) (size : ℕ) (classes : List ℕ) (s : Shape)
-    (n crew workers : ℕ) (P : Type 0) (S : Stops) (dones : List (Vec Done Z)) (closed : ClosedFace)
+pub shared_at : {Z : Type 0} {K : Type 0} (task : Task K) (size : ℕ) (classes : List ℕ) (s : Shape)
+    (n crew workers : ℕ) (P : Type 0) (S : Stops) (dones : List (Vec (Done K) Z)) (closed : ClosedFace)
     → s ≡ shape_of_stretches n crew → n ≡ stretch_count size classes → crew ≡ crew_of workers n
-    → AreShared job size classes s P S dones closed
-    → AreShared job size classes (shape_of_stretches (stretch_count size classes)
+    → AreShared task size classes s P S dones closed
+    → AreShared task size classes (shape_of_stretches (stretch_count size classes)
     (crew_of workers (stretch_count size classes))) P S dones closed
-shared_at {Z} job size classes s n crew workers P S dones closed e f h x =
-    subst (λ m. AreShared job size classes (shape_of_stretches m (crew_of workers m)) P S dones
+shared_at {Z} {K} task size classes s n crew workers P S dones closed e f h x =
+    subst (λ m. AreShared task size classes (shape_of_stretches m (crew_of workers m)) P S dones
     closed) f
-    (subst (λ m. AreShared job size classes (shape_of_stretches n m) P S dones closed) h
-    (subst (λ z. AreShared job size classes z P S dones closed) e x))
+    (subst (λ m. AreShared task size classes (shape_of_stretches n m) P S dones closed) h
+    (subst (λ z. AreShared task size classes z P S dones closed) e x))
 
 -- ---- stretches that have a class
 
@@ -244,20 +244,20 @@ claimed_by s H p (Event.Report u o ∷ h) l lt each = claimed_by s H p h l.1 lt 
 claimed_by s H p (Event.Drop u ∷ h) l lt each = claimed_by s H p h l.1 lt each
 
 -- if a class of a stretch waits, the gate stopped the worker in it
-stopped_in : (job : Parts) (size : ℕ) (classes : List ℕ) (w : ℕ) (P : Type 0) (S : Stops)
-    (done : Done) (v : Waiting) → done.waiting ≡ Some v → IsDone job size classes w P S done
+stopped_in : {K : Type 0} (task : Task K) (size : ℕ) (classes : List ℕ) (w : ℕ) (P : Type 0) (S : Stops)
+    (done : Done K) (v : Waiting) → done.waiting ≡ Some v → IsDone task size classes w P S done
     → (P → ⊥) × (stop : Stop) × (done.stop ≡ Some stop)
-    × IsStopAt job (stretch size classes done.part) w S stop
-stopped_in job size classes w P S done v e is = go done.stop refl is.ended is.lowest
+    × IsStopAt task (stretch size classes done.part) w S stop
+stopped_in {K} task size classes w P S done v e is = go done.stop refl is.ended is.lowest
   where
     own : List ℕ
     own = stretch size classes done.part
 
-    go : (stop : Option Stop) → done.stop ≡ stop → HasEnded job own w S stop done.firsts.items
-        → IsLowest (IsOpenIn job own stop) done.waiting
-        → (P → ⊥) × (stop : Stop) × (done.stop ≡ Some stop) × IsStopAt job own w S stop
+    go : (stop : Option Stop) → done.stop ≡ stop → HasEnded task own w S stop done.kept.items
+        → IsLowest (IsOpenIn task own stop) done.waiting
+        → (P → ⊥) × (stop : Stop) × (done.stop ≡ Some stop) × IsStopAt task own w S stop
     go None q ended low =
-        let bad = sym e ∙ none_open job own done.waiting low in absurd (cc)
+        let bad = sym e ∙ none_open task own done.waiting low in absurd (cc)
     go (Some stop) q ended low = (
       (λ x. let bad = sym q ∙ is.passed x in absurd (cc)),
       stop,
@@ -268,11 +268,11 @@ stopped_in job size classes w P S done v e is = go done.stop refl is.ended is.lo
 pieces : (n crew : ℕ) → piece_count (shape_of_stretches n crew) ≡ n
 pieces n crew = mul-one n
 
-module _ {Z : Type 0} (job : Parts) (parts size : ℕ) (classes : List ℕ) (workers : ℕ)
-    (P : Type 0) (S : Stops) (back : List (Vec Done Z)) (table : List (Option Done))
-    (face : ClosedFace) (cut : IsCutOf job parts size classes) (many : 0 < workers)
+module _ {Z : Type 0} {K : Type 0} (task : Task K) (parts size : ℕ) (classes : List ℕ) (workers : ℕ)
+    (P : Type 0) (S : Stops) (back : List (Vec (Done K) Z)) (table : List (Option (Done K)))
+    (face : ClosedFace) (cut : IsCutOf task.job parts size classes) (many : 0 < workers)
     (given : AreGivenBack parts back table)
-    (all : AreShared job size classes (shape_of_stretches (stretch_count size classes)
+    (all : AreShared task size classes (shape_of_stretches (stretch_count size classes)
     (crew_of workers (stretch_count size classes))) P S back face) where
   abbrev pub n : ℕ
   n = stretch_count size classes
@@ -290,15 +290,15 @@ module _ {Z : Type 0} (job : Parts) (parts size : ℕ) (classes : List ℕ) (wor
   crew_low = omega (arith, many)
 
   -- the results of one of the workers
-  own_done : (w : ℕ) (own : Vec Done Z) (k : ℕ) (done : Done) → slice_get back w ≡ Some own
+  own_done : (w : ℕ) (own : Vec (Done K) Z) (k : ℕ) (done : Done K) → slice_get back w ≡ Some own
       → slice_get own.items k ≡ Some done
-      → IsDone job size classes w P S done × Stands w h done.part done.waiting
+      → IsDone task size classes w P S done × Stands w h done.part done.waiting
   own_done w own k done at there =
       let x = (all.each w own at).0 in
       let lt = slice_get_within own.items k done there in
       let e = get_or_from_slice_get own.items k done done there in (
-        subst (λ (d : Done). IsDone job size classes w P S d) e (x.done k done lt),
-        subst (λ (d : Done). Stands w h d.part d.waiting) e (x.stand k done lt),
+        subst (λ (d : Done K). IsDone task size classes w P S d) e (x.done k done lt),
+        subst (λ (d : Done K). Stands w h d.part d.waiting) e (x.stand k done lt),
       )
 
   -- a stretch whose place in the table is empty was not claimed
@@ -306,14 +306,14 @@ module _ {Z : Type 0} (job : Parts) (parts size : ℕ) (classes : List ℕ) (wor
   unclaimed part none = go (cases_lt part (claims h))
     where
       Found : ℕ → ℕ → Type 0
-      Found w q = (own : Vec Done Z) × (slice_get back w ≡ Some own) × IsAmong own.items q
+      Found w q = (own : Vec (Done K) Z) × (slice_get back w ≡ Some own) × IsAmong own.items q
 
       each : (w : ℕ) → w < crew → EachClaim (Found w) w h
       each w lt =
           let x = within_place back w (omega (arith, lt, all.count)) in
           weaker x.0 x.1 h (all.each w x.0 x.1).0.claimed
         where
-          weaker : (own : Vec Done Z) → slice_get back w ≡ Some own → (g : History)
+          weaker : (own : Vec (Done K) Z) → slice_get back w ≡ Some own → (g : History)
               → EachClaim (IsAmong own.items) w g → EachClaim (Found w) w g
           weaker own at [] t = tt
           weaker own at (Event.Claim u ∷ g) t = (
@@ -333,9 +333,9 @@ module _ {Z : Type 0} (job : Parts) (parts size : ℕ) (classes : List ℕ) (wor
           (subst (λ q. slice_get table q ≡ Some None) (sym among.3) none))
 
   -- if a worker was stopped in a stretch, its place in the table has that
-  stopped_there : (w : ℕ) (own : Vec Done Z) (k : ℕ) (done : Done) (v : Waiting)
+  stopped_there : (w : ℕ) (own : Vec (Done K) Z) (k : ℕ) (done : Done K) (v : Waiting)
       → slice_get back w ≡ Some own → slice_get own.items k ≡ Some done → done.waiting ≡ Some v
-      → (P → ⊥) × IsStoppedAmong job S (runs_from size classes 0 table) w
+      → (P → ⊥) × IsStoppedAmong task S (runs_from size classes 0 table) w
   stopped_there w own k done v at there e = go (slice_get table done.part) refl
     where
       held : held_by w h ≡ Some done.part
@@ -344,24 +344,24 @@ module _ {Z : Type 0} (job : Parts) (parts size : ℕ) (classes : List ℕ) (wor
       low : done.part < length table
       low =
           let a = held_piece shape w done.part h all.legal held in
-          let few = filled_few job parts size classes cut in
+          let few = filled_few task.job parts size classes cut in
           omega (arith, a, few, given.count, pieces n crew)
 
-      by_place : (one : Done) → slice_get table done.part ≡ Some (Some one)
-          → (P → ⊥) × IsStoppedAmong job S (runs_from size classes 0 table) w
+      by_place : (one : Done K) → slice_get table done.part ≡ Some (Some one)
+          → (P → ⊥) × IsStoppedAmong task S (runs_from size classes 0 table) w
       by_place one stands = pick one.waiting refl
         where
-          g : (one.part ≡ done.part) × (thread : ℕ) × (given : Vec Done Z)
+          g : (one.part ≡ done.part) × (thread : ℕ) × (given : Vec (Done K) Z)
               × (slice_get back thread ≡ Some given)
               × (k : ℕ) × (slice_get given.items k ≡ Some one)
           g = given.each done.part one stands
 
-          d : IsDone job size classes g.1 P S one
+          d : IsDone task size classes g.1 P S one
               × Stands g.1 h one.part one.waiting
           d = own_done g.1 g.2 g.4 one g.3 g.5
 
           pick : (x : Option Waiting) → one.waiting ≡ x
-              → (P → ⊥) × IsStoppedAmong job S (runs_from size classes 0 table) w
+              → (P → ⊥) × IsStoppedAmong task S (runs_from size classes 0 table) w
           pick None q =
               let clear : entry one.part h ≡ state.Clear = subst (Stands g.1 h one.part) q d.1 in
               let still_open : entry done.part h ≡ state.Open = held_open w done.part h held in
@@ -371,7 +371,7 @@ module _ {Z : Type 0} (job : Parts) (parts size : ℕ) (classes : List ℕ) (wor
           pick (Some u) q =
               let theirs : held_by g.1 h ≡ Some one.part = subst (Stands g.1 h one.part) q d.1 in
               let same : g.1 ≡ w = held_once g.1 w done.part h (theirs ∙ ap Some g.0) held in
-              let y = stopped_in job size classes g.1 P S one u q d.0 in (
+              let y = stopped_in task size classes g.1 P S one u q d.0 in (
                 y.0,
                 (
                   done.part,
@@ -380,13 +380,13 @@ module _ {Z : Type 0} (job : Parts) (parts size : ℕ) (classes : List ℕ) (wor
                   run_there size classes table done.part (Some one) stands,
                   ap Some (d.0.worker_is ∙ same),
                   y.2,
-                  subst (λ v. IsStopAt job (stretch size classes done.part) v S y.1) same
-                      (subst (λ p. IsStopAt job (stretch size classes p) g.1 S y.1) g.0 y.3),
+                  subst (λ v. IsStopAt task (stretch size classes done.part) v S y.1) same
+                      (subst (λ p. IsStopAt task (stretch size classes p) g.1 S y.1) g.0 y.3),
                 ),
               )
 
-      go : (place : Option (Option Done)) → slice_get table done.part ≡ place
-          → (P → ⊥) × IsStoppedAmong job S (runs_from size classes 0 table) w
+      go : (place : Option (Option (Done K))) → slice_get table done.part ≡ place
+          → (P → ⊥) × IsStoppedAmong task S (runs_from size classes 0 table) w
       go None q =
           let x = within_place table done.part low in
           let bad = sym q ∙ x.1 in absurd (cc)
@@ -395,13 +395,13 @@ module _ {Z : Type 0} (job : Parts) (parts size : ℕ) (classes : List ℕ) (wor
 
   -- and if no worker began one, each was stopped
   all_stopped : (part : ℕ) → slice_get table part ≡ Some None → part < n → (w : ℕ) → w < crew
-      → (P → ⊥) × IsStoppedAmong job S (runs_from size classes 0 table) w
+      → (P → ⊥) × IsStoppedAmong task S (runs_from size classes 0 table) w
   all_stopped part none low w lt =
       let x = within_place back w (omega (arith, lt, all.count)) in
       go x.0 x.1 (all.each w x.0 x.1).1
     where
-      go : (own : Vec Done Z) → slice_get back w ≡ Some own → EndsServing shape h own.items
-          → (P → ⊥) × IsStoppedAmong job S (runs_from size classes 0 table) w
+      go : (own : Vec (Done K) Z) → slice_get back w ≡ Some own → EndsServing shape h own.items
+          → (P → ⊥) × IsStoppedAmong task S (runs_from size classes 0 table) w
       go own at (inl full) =
           let free = unclaimed part none in
           absurd (omega (arith, full, free, low, pieces n crew))
@@ -415,7 +415,7 @@ module _ {Z : Type 0} (job : Parts) (parts size : ℕ) (classes : List ℕ) (wor
       go (inr le) = let e = past_empty size k classes le in absurd (omega (arith, some, e))
 
   -- the places of the table
-  pub found_by_part : AreFoundByPart job size classes workers P S table
+  pub found_by_part : AreFoundByPart task size classes workers P S table
   found_by_part = record {
     each = λ part done at.
         let g = given.each part done at in
@@ -423,7 +423,7 @@ module _ {Z : Type 0} (job : Parts) (parts size : ℕ) (classes : List ℕ) (wor
         let d = (own_done g.1 g.2 g.4 done g.3 g.5).0 in (
           g.0,
           omega (arith, lt, all.count, crew_low, d.worker_is),
-          subst (λ v. IsDone job size classes v P S done) (sym d.worker_is) d,
+          subst (λ v. IsDone task size classes v P S done) (sym d.worker_is) d,
         );
     none = λ part at some.
         let low : part < n = lower part some in
@@ -455,14 +455,14 @@ module _ {Z : Type 0} (job : Parts) (parts size : ℕ) (classes : List ℕ) (wor
       closed : (p : ℕ) → p < piece_count shape → entry p h ≢ state.Open
       closed p lt e =
           let low : p < n = omega (arith, lt, pieces n crew) in
-          let few = filled_few job parts size classes cut in
+          let few = filled_few task.job parts size classes cut in
           let x = within_place table p (omega (arith, low, few, given.count)) in
           go x.0 x.1 (whole p x.0 x.1)
         where
-          go : (place : Option Done) → slice_get table p ≡ Some place
+          go : (place : Option (Done K)) → slice_get table p ≡ Some place
               → IsWholeAt size classes p place → ⊥
           go None at none =
-              let some = below_filled job parts size p classes cut (omega (
+              let some = below_filled task.job parts size p classes cut (omega (
                 arith,
                 lt,
                 pieces n crew,
@@ -493,7 +493,7 @@ module _ {Z : Type 0} (job : Parts) (parts size : ℕ) (classes : List ℕ) (wor
           let bad = sym waits ∙ settled.1 in
           absurd (cc)
 
-      go : (place : Option Done) → slice_get table part ≡ Some place
+      go : (place : Option (Done K)) → slice_get table part ≡ Some place
           → IsWholeAt size classes part place
       go None at = pick (cases_lt part n)
         where
@@ -502,7 +502,7 @@ module _ {Z : Type 0} (job : Parts) (parts size : ℕ) (classes : List ℕ) (wor
           pick (inr le) = past_empty size part classes le
       go (Some done) at = pick done.waiting refl
         where
-          g : (done.part ≡ part) × (thread : ℕ) × (given : Vec Done Z)
+          g : (done.part ≡ part) × (thread : ℕ) × (given : Vec (Done K) Z)
               × (slice_get back thread ≡ Some given)
               × (k : ℕ) × (slice_get given.items k ≡ Some done)
           g = given.each part done at
@@ -518,7 +518,7 @@ module _ {Z : Type 0} (job : Parts) (parts size : ℕ) (classes : List ℕ) (wor
               absurd (still_open done.part (omega (arith, low, pieces n crew))
               (held_open g.1 done.part h held))
 
--- ---- first tests of stretches
+-- ---- what is kept of stretches
 
 taken_place : {X : Type 0} (n : ℕ) (xs : List X) (k : ℕ) (x : X)
     → slice_get (take n xs) k ≡ Some x → slice_get xs k ≡ Some x
@@ -535,58 +535,55 @@ dropped_place (suc n) (z ∷ xs) k zero x is e = absurd (omega (arith, is))
 dropped_place (suc n) (z ∷ xs) k (suc m) x is e = dropped_place n xs k m x (omega (arith, is)) e
 
 -- the classes of a stretch are among all classes
-firsts_of_stretch : (job : Parts) (size part : ℕ) (classes : List ℕ) (firsts : List (Option ℕ))
-    → AreClassFirsts job.list.model job.circuit job.tests.tests classes firsts
-    → AreClassFirsts job.list.model job.circuit job.tests.tests (stretch size classes part)
-    (take size (drop (part * size) firsts))
-firsts_of_stretch job size part classes firsts known = record {
+kept_of_stretch : {K : Type 0} (task : Task K) (size part : ℕ) (classes : List ℕ) (kept : List K)
+    → AreKept task classes kept
+    → AreKept task (stretch size classes part) (take size (drop (part * size) kept))
+kept_of_stretch {K} task size part classes kept known = record {
   count = omega (
     arith,
     length-take size (drop (part * size) classes),
     length-drop (part * size) classes,
-    length-take size (drop (part * size) firsts),
-    length-drop (part * size) firsts,
+    length-take size (drop (part * size) kept),
+    length-drop (part * size) kept,
     known.count,
   );
-  first = λ k class f first at of ef.
-      known.first (part * size + k) class f first
+  each = λ hits k class one at v h.
+      known.each hits (part * size + k) class one
       (dropped_place (part * size) classes k (part * size + k) class refl
-      (taken_place size (drop (part * size) classes) k class at)) of
-      (dropped_place (part * size) firsts k (part * size + k) first refl
-      (taken_place size (drop (part * size) firsts) k first ef));
+      (taken_place size (drop (part * size) classes) k class at))
+      (dropped_place (part * size) kept k (part * size + k) one refl
+      (taken_place size (drop (part * size) kept) k one v)) h;
 }
 
 -- each report stands for some
-reports_stand : (s : Shape) (job : Parts) (size : ℕ) (classes : List ℕ) (firsts : List (Option ℕ))
-    (w : ℕ) (h : History) → IsLegal s h
-    → AreClassFirsts job.list.model job.circuit job.tests.tests classes firsts
-    → EachReport (λ o g. StandsFor job size classes firsts (held_by w g)) w h []
-reports_stand s job size classes firsts w [] l known = tt
-reports_stand s job size classes firsts w (Event.Claim u ∷ h) l known =
-    reports_stand s job size classes firsts w h l.1 known
-reports_stand s job size classes firsts w (Event.Drop u ∷ h) l known =
-    reports_stand s job size classes firsts w h l.1 known
-reports_stand s job size classes firsts w (Event.Report u o ∷ h) l known = (
+reports_stand : {K : Type 0} (s : Shape) (task : Task K) (size : ℕ) (classes : List ℕ)
+    (kept : List K) (w : ℕ) (h : History) → IsLegal s h → AreKept task classes kept
+    → EachReport (λ o g. StandsFor task size classes kept (held_by w g)) w h []
+reports_stand {K} s task size classes kept w [] l known = tt
+reports_stand {K} s task size classes kept w (Event.Claim u ∷ h) l known =
+    reports_stand s task size classes kept w h l.1 known
+reports_stand {K} s task size classes kept w (Event.Drop u ∷ h) l known =
+    reports_stand s task size classes kept w h l.1 known
+reports_stand {K} s task size classes kept w (Event.Report u o ∷ h) l known = (
   (λ e.
       let a = report_accepted s h u o l.0 in
       let held : held_by w (h ++ []) ≡ Some a.0 =
       ap (held_by w) (append-nil h) ∙ subst (λ v. held_by v h ≡ Some a.0) e a.2 in
-      subst (StandsFor job size classes firsts) (sym held)
-      (firsts_of_stretch job size a.0 classes firsts known)),
-  reports_stand s job size classes firsts w h l.1 known,
+      subst (StandsFor task size classes kept) (sym held)
+      (kept_of_stretch task size a.0 classes kept known)),
+  reports_stand s task size classes kept w h l.1 known,
 )
 
 -- the results for all stretches, if the ledger is finished
-pub of_stretches : {Z : Type 0} (job : Parts) (size : ℕ) (classes : List ℕ) (workers : ℕ)
-    (P : Type 0) (S : Stops) (back : List (Vec Done Z)) (firsts : List (Option ℕ))
+pub by_stretches : {K Z : Type 0} (task : Task K) (size : ℕ) (classes : List ℕ) (workers : ℕ)
+    (P : Type 0) (S : Stops) (back : List (Vec (Done K) Z)) (kept : List K)
     (closed : ClosedFace)
-    → (all : AreShared job size classes (shape_of_stretches (stretch_count size classes)
+    → (all : AreShared task size classes (shape_of_stretches (stretch_count size classes)
     (crew_of workers (stretch_count size classes))) P S back closed)
     → finish (shape_of_stretches (stretch_count size classes)
     (crew_of workers (stretch_count size classes))) all.history ≡ finish_is.Finished
-    → AreClassFirsts job.list.model job.circuit job.tests.tests classes firsts
-    → AreOfStretches job size classes workers firsts closed
-of_stretches {Z} job size classes workers P S back firsts closed all finished known =
+    → AreKept task classes kept → AreByStretches task size classes workers kept closed
+by_stretches {K} {Z} task size classes workers P S back kept closed all finished known =
     let shape : closed.shape ≡ shape_of_stretches (stretch_count size classes)
     (crew_of workers (stretch_count size classes)) = ap (λ (f : ClosedFace). f.shape) all.shows in
     record {
@@ -597,17 +594,16 @@ of_stretches {Z} job size classes workers P S back firsts closed all finished kn
       finished = subst (λ (s : Shape). finish s all.history ≡ finish_is.Finished) (sym shape)
           finished;
       reports = λ w. reports_stand (shape_of_stretches (stretch_count size classes)
-          (crew_of workers (stretch_count size classes))) job size classes firsts w all.history
+          (crew_of workers (stretch_count size classes))) task size classes kept w all.history
           all.legal known;
     }
 
 -- the same under other names
-pub stretches_under : (job : Parts) (count parts size : ℕ) (cut classes : List ℕ) (workers : ℕ)
-    (firsts : List (Option ℕ)) (closed : ClosedFace) → IsCutOf job count size cut → count ≡ parts
-    → cut ≡ classes → AreOfStretches job size cut workers firsts closed
-    → AreOfStretches job (stretch_size (length classes) parts) classes workers firsts closed
-stretches_under job count parts size cut classes workers firsts closed is e f of =
-    subst (λ n. AreOfStretches job (stretch_size (length classes) n) classes workers firsts closed)
-    e
-    (subst (λ l. AreOfStretches job (stretch_size (length l) count) l workers firsts closed) f
-    (subst (λ n. AreOfStretches job n cut workers firsts closed) is.size_is of))
+pub stretches_under : {K : Type 0} (task : Task K) (count parts size : ℕ) (cut classes : List ℕ)
+    (workers : ℕ) (kept : List K) (closed : ClosedFace) → IsCutOf task.job count size cut
+    → count ≡ parts → cut ≡ classes → AreByStretches task size cut workers kept closed
+    → AreByStretches task (stretch_size (length classes) parts) classes workers kept closed
+stretches_under {K} task count parts size cut classes workers kept closed is e f of =
+    subst (λ n. AreByStretches task (stretch_size (length classes) n) classes workers kept closed) e
+    (subst (λ l. AreByStretches task (stretch_size (length l) count) l workers kept closed) f
+    (subst (λ n. AreByStretches task n cut workers kept closed) is.size_is of))

@@ -1,24 +1,25 @@
 -- The results of a worker that runs a list by itself, piece by piece.
-use Rattle.std.proofs.Common.{◌≡◌, ◌≢◌, ◌<◌, ◌≤◌, ◌+◌, ◌*◌, ◌⊎◌, inl, inr, ℕ, zero, suc}
+use Rattle.std.proofs.Common.{◌≡◌, ◌≢◌, ◌<◌, ◌≤◌, ◌+◌, ◌*◌, ◌⊎◌, inl, inr, ℕ, zero, suc, Bool}
 use Rattle.std.proofs.Common.{List, [], ◌∷◌, map, length, set, All, Option, Some, None, refl}
-use Rattle.std.proofs.Common.{sym, ap, ◌∙◌, subst, arith}
+use Rattle.std.proofs.Common.{sym, ap, ◌∙◌, subst, arith, true, false}
 use Rattle.std.specs.Prelude.{slice_get}
-use Rattle.std.proofs.lemmas.Bool.{cases_lt}
-use Rattle.std.proofs.lemmas.Option.{get_or_from_slice_get, slice_get-get_or, slice_get_within}
-use Rattle.std.proofs.lemmas.List.{get_or-set_same, get_or-set_other, length-set}
+use Rattle.std.proofs.lemmas.Bool.{cases_lt, false≢true}
+use Rattle.std.proofs.lemmas.Option.{get_or_from_slice_get, slice_get_within}
+use Rattle.list_lemmas.proofs.Places.{within_place}
+use Rattle.fault_model.specs.Collapse.{representatives}
 use Rattle.patterns.specs.Least.{Table, least, from_up, first_hit}
 use Rattle.patterns.specs.Tests.{blocks}
 use Rattle.patterns.specs.declared.Outcome.{Outcome}
 use Rattle.patterns.specs.declared.Outcome.TheVariants.{Clear, Hit}
-use Rattle.block_sim.specs.First.{IsTrueOutcome}
 use Rattle.block_sim.specs.Parts.{Parts, BelongTogether}
-use Rattle.block_sim.proofs.Public.{one_outcome, true_table}
-use Rattle.workers.specs.Schedule.{IsTableOf}
+use Rattle.block_sim.proofs.Public.{which_detect}
+use Rattle.region_sim.specs.Goals.{AreHits}
 use Rattle.workers.proofs.Public.{class_count}
 use Rattle.region_runs.specs.declared.stretch_run.Stop.{Stop}
 use Rattle.region_runs.specs.declared.stretch_run.Waiting.{Waiting}
-use Rattle.region_runs.specs.StretchRuns.{AreEarlier, AreFoundUpTo, IsEarlier, IsLowerOf, IsLowest}
-use Rattle.region_runs.specs.StretchRuns.{IsNoHigher, IsOpenBelow, IsUndetected}
+use Rattle.region_runs.specs.StretchRuns.{AreEarlier, AreKeptUpTo, IsEarlier, IsLowerOf, IsLowest}
+use Rattle.region_runs.specs.StretchRuns.{IsNoHigher, IsOpenAfter, IsOpenBelow}
+use Rattle.region_runs.specs.Tasks.{IsAtFirst, IsSound, Task}
 
 -- the test that an outcome of a block hits
 abbrev pub hit_at : ℕ → Outcome → Option ℕ
@@ -107,24 +108,26 @@ one_count place block k n m p q = go (cases_lt n m) (cases_lt m n)
     go (inr x) (inl lt) = let bad = (q m).1 ((p m).0 lt) in absurd (omega (arith, bad))
     go (inr x) (inr y) = omega (arith, x, y)
 
--- at first none
-pub found_none : (job : Parts) (classes : List ℕ) (firsts : List (Option ℕ))
-    → length firsts ≡ length classes → ((k : ℕ) (first : Option ℕ) → slice_get firsts k ≡ Some first
-    → first ≡ None)
-    → AreFoundUpTo job classes 0 0 firsts
-found_none job classes firsts count none = record {
+-- what is kept of no test
+pub kept_at_first : {K : Type 0} (task : Task K) (classes : List ℕ) (kept : List K)
+    → length kept ≡ length classes → ((k : ℕ) (one : K) → slice_get kept k ≡ Some one
+    → IsAtFirst task one)
+    → AreKeptUpTo task classes 0 0 kept
+kept_at_first {K} task classes kept count first = record {
   count = count;
-  each = λ table is k class n first ec ef up. none k first ef
-      ∙ ap (λ n. least table n class) (one_count 0 0 k 0 n (done_high 0 0 k (omega arith)) up);
+  each = λ hits k class n one ec ek h up.
+      let none : 0 ≡ n = one_count 0 0 k 0 n (done_high 0 0 k (omega arith)) up in
+      subst (λ m. task.means hits 0 m one) (omega (arith, none)) (first k one ek hits);
 }
 
--- the class at a place is one that no earlier block detects
-pub undetected : (job : Parts) (classes : List ℕ) (place block k class n : ℕ)
-    (firsts : List (Option ℕ)) → slice_get classes k ≡ Some class → slice_get firsts k ≡ Some None
-    → AreEarlier place block k n → AreFoundUpTo job classes place block firsts
-    → IsUndetected job class n
-undetected job classes place block k class n firsts ec ef up was =
-    λ table is. sym (was.each table is k class n None ec ef up)
+-- the class at a place is open as long as what is kept there wants more
+pub still_open : {K : Type 0} (task : Task K) → IsSound task → (classes : List ℕ)
+    (place block k class n : ℕ) (kept : List K) (one : K) → slice_get classes k ≡ Some class
+    → slice_get kept k ≡ Some one → task.wants one ≡ true → AreEarlier place block k n
+    → AreKeptUpTo task classes place block kept → IsOpenAfter task class n
+still_open {K} task sound classes place block k class n kept one ec ek wanted up was =
+    λ hits other h means. sound.agrees other one hits 0 (64 * n) means
+    (was.each hits k class n one ec ek h up) ∙ wanted
 
 -- a class of the list is one of the job's
 pub listed_class : (job : Parts) (classes : List ℕ) (place class : ℕ)
@@ -134,6 +137,16 @@ listed_class job classes place class all e =
     subst (λ n. n < length job.classes.representative)
     (get_or_from_slice_get classes place class 0 e)
     (all place 0 (slice_get_within classes place class e))
+
+-- a class has hits
+pub some_hits : (job : Parts) → BelongTogether job → (class : ℕ)
+    → class < length job.classes.representative → (hits : ℕ → Bool) × AreHits job class hits
+some_hits job b class lt =
+    let r = within_place (representatives job.list.model job.circuit) class
+    (omega (arith, lt, class_count job b)) in
+    let w = which_detect job.list.model job.circuit job.tests.tests class r.0
+    b.circuit.well_formed r.1 in
+    (w.0, (r.0, r.1, w.1))
 
 -- ---- the lowest class that waits
 
@@ -178,17 +191,17 @@ lowest_join P Q f s (Some w) p q is = (either is.0, λ c b x. go c b x)
     go c b (inr x) = lowest_bound Q s w is.2 q c b x
 
 -- before the first place none waits
-pub open_none : (job : Parts) (classes : List ℕ) (stop : Stop)
-    → IsLowest (IsOpenBelow job classes stop 0) None
-open_none job classes stop = λ c b x. omega (arith, x.low)
+pub open_none : {K : Type 0} (task : Task K) (classes : List ℕ) (stop : Stop)
+    → IsLowest (IsOpenBelow task classes stop 0) None
+open_none {K} task classes stop = λ c b x. omega (arith, x.low)
 
 -- that at one place more doesn't
-pub open_same : (job : Parts) (classes : List ℕ) (stop : Stop) (place : ℕ) (lowest : Option Waiting)
-    → ((c b : ℕ) (x : IsOpenBelow job classes stop (place + 1) c b) → x.place ≡ place → ⊥)
-    → IsLowest (IsOpenBelow job classes stop place) lowest
-    → IsLowest (IsOpenBelow job classes stop (place + 1)) lowest
-open_same job classes stop place lowest none is =
-    lowest_along (IsOpenBelow job classes stop place) (IsOpenBelow job classes stop (place + 1))
+pub open_same : {K : Type 0} (task : Task K) (classes : List ℕ) (stop : Stop) (place : ℕ) (lowest : Option Waiting)
+    → ((c b : ℕ) (x : IsOpenBelow task classes stop (place + 1) c b) → x.place ≡ place → ⊥)
+    → IsLowest (IsOpenBelow task classes stop place) lowest
+    → IsLowest (IsOpenBelow task classes stop (place + 1)) lowest
+open_same {K} task classes stop place lowest none is =
+    lowest_along (IsOpenBelow task classes stop place) (IsOpenBelow task classes stop (place + 1))
     lowest
     (λ c b x. record {
       place = x.place;
@@ -196,64 +209,65 @@ open_same job classes stop place lowest none is =
       at = x.at;
       block_is = x.block_is;
       within = x.within;
-      undetected = x.undetected;
+      still = x.still;
     })
     (λ c b x. go c b x (cases_lt x.place place))
     is
   where
-    go : (c b : ℕ) (x : IsOpenBelow job classes stop (place + 1) c b)
-        → (x.place < place) ⊎ (place ≤ x.place) → IsOpenBelow job classes stop place c b
+    go : (c b : ℕ) (x : IsOpenBelow task classes stop (place + 1) c b)
+        → (x.place < place) ⊎ (place ≤ x.place) → IsOpenBelow task classes stop place c b
     go c b x (inl l) = record {
       place = x.place;
       low = l;
       at = x.at;
       block_is = x.block_is;
       within = x.within;
-      undetected = x.undetected;
+      still = x.still;
     }
     go c b x (inr l) = let e : x.place ≡ place = omega (arith, l, x.low) in absurd (none c b x e)
 
--- as its class was hit
-pub open_hit : (job : Parts) (classes : List ℕ) (stop : Stop) (place t : ℕ)
-    (firsts : List (Option ℕ)) (lowest : Option Waiting) → BelongTogether job
-    → AreFoundUpTo job classes stop.place stop.block firsts
-    → slice_get firsts place ≡ Some (Some t) → IsLowest (IsOpenBelow job classes stop place) lowest
-    → IsLowest (IsOpenBelow job classes stop (place + 1)) lowest
-open_hit job classes stop place t firsts lowest b found ef =
-    open_same job classes stop place lowest (λ c block x e.
-    let table = true_table job.list.model job.circuit job.tests.tests b.circuit.well_formed in
-    let hit : Some t ≡ least table.0 block c =
-    found.each table.0 table.1 x.place c block (Some t) x.at (ap (slice_get firsts) e ∙ ef)
-    x.block_is in
-    let none : least table.0 block c ≡ None = x.undetected table.0 table.1 in
-    let bad : Some t ≡ None = hit ∙ none in absurd (cc))
+-- as more tests can't change its class
+pub open_closed : {K : Type 0} (task : Task K) (classes : List ℕ) (stop : Stop) (place : ℕ)
+    (kept : List K) (one : K) (lowest : Option Waiting) → BelongTogether task.job
+    → All (λ n. n < length task.job.classes.representative) classes
+    → AreKeptUpTo task classes stop.place stop.block kept → slice_get kept place ≡ Some one
+    → task.wants one ≡ false → IsLowest (IsOpenBelow task classes stop place) lowest
+    → IsLowest (IsOpenBelow task classes stop (place + 1)) lowest
+open_closed {K} task classes stop place kept one lowest b all found ek closed =
+    open_same task classes stop place lowest (λ c block x e.
+    let h = some_hits task.job b c (listed_class task.job classes x.place c all x.at) in
+    let wanted = x.still h.0 one h.1
+    (found.each h.0 x.place c block one x.at (ap (slice_get kept) e ∙ ek) h.1 x.block_is) in
+    absurd (false≢true (sym closed ∙ wanted)))
 
 -- as all blocks of it are done
-pub open_past : (job : Parts) (classes : List ℕ) (stop : Stop) (place block : ℕ)
+pub open_past : {K : Type 0} (task : Task K) (classes : List ℕ) (stop : Stop) (place block : ℕ)
     (lowest : Option Waiting) → AreEarlier stop.place stop.block place block
-    → blocks (length job.tests.tests) ≤ block
-    → IsLowest (IsOpenBelow job classes stop place) lowest
-    → IsLowest (IsOpenBelow job classes stop (place + 1)) lowest
-open_past job classes stop place block lowest is past =
-    open_same job classes stop place lowest (λ c b x e.
+    → blocks (length task.job.tests.tests) ≤ block
+    → IsLowest (IsOpenBelow task classes stop place) lowest
+    → IsLowest (IsOpenBelow task classes stop (place + 1)) lowest
+open_past {K} task classes stop place block lowest is past =
+    open_same task classes stop place lowest (λ c b x e.
     let same : b ≡ block = one_count stop.place stop.block place b block
     (subst (λ k. AreEarlier stop.place stop.block k b) e x.block_is) is in
     omega (arith, same, x.within, past))
 
 -- that at one place more waits
-pub open_more : (job : Parts) (classes : List ℕ) (stop : Stop) (place class block : ℕ)
-    (firsts : List (Option ℕ)) (w : Waiting) (lowest lower : Option Waiting)
-    → AreFoundUpTo job classes stop.place stop.block firsts
-    → slice_get classes place ≡ Some class → slice_get firsts place ≡ Some None
-    → AreEarlier stop.place stop.block place block → block < blocks (length job.tests.tests)
+pub open_more : {K : Type 0} (task : Task K) → IsSound task → (classes : List ℕ) (stop : Stop)
+    (place class block : ℕ) (kept : List K) (one : K) (w : Waiting)
+    (lowest lower : Option Waiting)
+    → AreKeptUpTo task classes stop.place stop.block kept → slice_get classes place ≡ Some class
+    → slice_get kept place ≡ Some one → task.wants one ≡ true
+    → AreEarlier stop.place stop.block place block → block < blocks (length task.job.tests.tests)
     → w.class ≡ class → w.block ≡ block → IsLowerOf lowest (Some w) lower
-    → IsLowest (IsOpenBelow job classes stop place) lowest
-    → IsLowest (IsOpenBelow job classes stop (place + 1)) lower
-open_more job classes stop place class block firsts w lowest lower found ec ef is low wc wb lo was =
-    lowest_along (λ c b. IsOpenBelow job classes stop place c b ⊎ Here c b)
-    (IsOpenBelow job classes stop (place + 1)) lower (λ c b x. to c b x)
+    → IsLowest (IsOpenBelow task classes stop place) lowest
+    → IsLowest (IsOpenBelow task classes stop (place + 1)) lower
+open_more {K} task sound classes stop place class block kept one w lowest lower found ec ek wanted is
+    low wc wb lo was =
+    lowest_along (λ c b. IsOpenBelow task classes stop place c b ⊎ Here c b)
+    (IsOpenBelow task classes stop (place + 1)) lower (λ c b x. to c b x)
     (λ c b x. from c b x (cases_lt x.place place))
-    (lowest_join (IsOpenBelow job classes stop place) Here lowest (Some w) lower was (
+    (lowest_join (IsOpenBelow task classes stop place) Here lowest (Some w) lower was (
       (wc, wb),
       λ c b x. omega (arith, wc, x.0),
     ) lo)
@@ -261,39 +275,39 @@ open_more job classes stop place class block firsts w lowest lower found ec ef i
     Here : ℕ → ℕ → Type 0
     Here c b = (c ≡ class) × (b ≡ block)
 
-    own : IsOpenBelow job classes stop (place + 1) class block
+    own : IsOpenBelow task classes stop (place + 1) class block
     own = record {
       place = place;
       low = omega arith;
       at = ec;
       block_is = is;
       within = low;
-      undetected = undetected job classes stop.place stop.block place class block firsts ec ef is
-          found;
+      still = still_open task sound classes stop.place stop.block place class block kept one ec ek
+          wanted is found;
     }
 
-    to : (c b : ℕ) → IsOpenBelow job classes stop place c b ⊎ Here c b
-        → IsOpenBelow job classes stop (place + 1) c b
+    to : (c b : ℕ) → IsOpenBelow task classes stop place c b ⊎ Here c b
+        → IsOpenBelow task classes stop (place + 1) c b
     to c b (inl x) = record {
       place = x.place;
       low = omega (arith, x.low);
       at = x.at;
       block_is = x.block_is;
       within = x.within;
-      undetected = x.undetected;
+      still = x.still;
     }
-    to c b (inr x) = subst (λ n. IsOpenBelow job classes stop (place + 1) n b) (sym x.0)
-        (subst (IsOpenBelow job classes stop (place + 1) class) (sym x.1) own)
+    to c b (inr x) = subst (λ n. IsOpenBelow task classes stop (place + 1) n b) (sym x.0)
+        (subst (IsOpenBelow task classes stop (place + 1) class) (sym x.1) own)
 
-    from : (c b : ℕ) (x : IsOpenBelow job classes stop (place + 1) c b)
-        → (x.place < place) ⊎ (place ≤ x.place) → IsOpenBelow job classes stop place c b ⊎ Here c b
+    from : (c b : ℕ) (x : IsOpenBelow task classes stop (place + 1) c b)
+        → (x.place < place) ⊎ (place ≤ x.place) → IsOpenBelow task classes stop place c b ⊎ Here c b
     from c b x (inl l) = inl (record {
       place = x.place;
       low = l;
       at = x.at;
       block_is = x.block_is;
       within = x.within;
-      undetected = x.undetected;
+      still = x.still;
     })
     from c b x (inr l) =
         let e : x.place ≡ place = omega (arith, l, x.low) in

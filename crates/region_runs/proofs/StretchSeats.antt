@@ -30,6 +30,7 @@ use Rattle.region_runs.specs.StretchRuns.{IsDone}
 use Rattle.region_runs.specs.Stretches.{Accounts, AfterRun, ClaimsStretch, EachClaim}
 use Rattle.region_runs.specs.Stretches.{HasServed, IsAmong, SeesAllClaimed, Stands}
 use Rattle.region_runs.proofs.ReturnsByPart.{kept, last_of}
+use Rattle.region_runs.specs.Tasks.{AreKept, IsOpenAtFirst, IsSound, Task, first_tests, task_of}
 
 -- ---- calls
 
@@ -120,15 +121,15 @@ none_of (Some v) e = absurd (cc)
 
 -- ---- the results that account for claims
 
-pub claims_weaker : (H K : ℕ → Type 0) (w : ℕ) (h : History) → ((p : ℕ) → H p → K p)
-    → EachClaim H w h → EachClaim K w h
-claims_weaker H K w [] f x = tt
-claims_weaker H K w (Event.Claim u ∷ h) f x = (
+pub claims_weaker : (H G : ℕ → Type 0) (w : ℕ) (h : History) → ((p : ℕ) → H p → G p)
+    → EachClaim H w h → EachClaim G w h
+claims_weaker H G w [] f x = tt
+claims_weaker H G w (Event.Claim u ∷ h) f x = (
   (λ e. f (claims h) (x.0 e)),
-  claims_weaker H K w h f x.1,
+  claims_weaker H G w h f x.1,
 )
-claims_weaker H K w (Event.Report u o ∷ h) f x = claims_weaker H K w h f x
-claims_weaker H K w (Event.Drop u ∷ h) f x = claims_weaker H K w h f x
+claims_weaker H G w (Event.Report u o ∷ h) f x = claims_weaker H G w h f x
+claims_weaker H G w (Event.Drop u ∷ h) f x = claims_weaker H G w h f x
 
 claims_none : (H : ℕ → Type 0) (w : ℕ) (d h : History) → NoneOf w d → EachClaim H w h
     → EachClaim H w (d ++ h)
@@ -204,49 +205,49 @@ ran_claims H b d (Some v) same t =
     subst (λ (y : Sitter). EachClaim H b.worker y.seen) (sym same) t
 
 -- a part that is among some is among more
-among_more : (dones : List Done) (done : Done) (p : ℕ) → IsAmong dones p
+among_more : {K : Type 0} (dones : List (Done K)) (done : Done K) (p : ℕ) → IsAmong dones p
     → IsAmong (dones ++ done ∷ []) p
-among_more dones done p x = (x.0, x.1, kept dones (done ∷ []) x.0 x.1 x.2, x.3)
+among_more {K} dones done p x = (x.0, x.1, kept dones (done ∷ []) x.0 x.1 x.2, x.3)
 
-module _ (job : Parts) (size : ℕ) (classes : List ℕ) (place : Place) (w : ℕ) (P : Type 0)
+module _ {K : Type 0} (task : Task K) (size : ℕ) (classes : List ℕ) (place : Place) (w : ℕ) (P : Type 0)
     (S : Stops) where
   -- a seat between two claims
-  pub record Serving (seat : Sitter) (dones : List Done) : Type 0 where
+  pub record Serving (seat : Sitter) (dones : List (Done K)) : Type 0 where
     pub place_is : seat.place ≡ place
     pub worker_is : seat.worker ≡ w
     pub legal : IsLegal place.shape seat.seen
-    pub accounts : Accounts job size classes w P S seat.seen dones
+    pub accounts : Accounts task size classes w P S seat.seen dones
 
-  pub serving_none : (a : Sitter) (dones : List Done) → a ≡ newcomer place w → dones ≡ []
+  pub serving_none : (a : Sitter) (dones : List (Done K)) → a ≡ newcomer place w → dones ≡ []
       → Serving a dones
   serving_none a dones e empty = record {
     place_is = ap (λ (x : Sitter). x.place) e;
     worker_is = ap (λ (x : Sitter). x.worker) e;
     legal = subst (λ (x : Sitter). IsLegal place.shape x.seen) (sym e) tt;
-    accounts = subst (λ (x : Sitter). Accounts job size classes w P S x.seen dones) (sym e)
-        (subst (Accounts job size classes w P S []) (sym empty) (record {
-          done = All-nil (IsDone job size classes w P S);
-          stand = All-nil (λ (d : Done). Stands w [] d.part d.waiting);
+    accounts = subst (λ (x : Sitter). Accounts task size classes w P S x.seen dones) (sym e)
+        (subst (Accounts task size classes w P S []) (sym empty) (record {
+          done = All-nil (IsDone task size classes w P S);
+          stand = All-nil (λ (d : Done K). Stands w [] d.part d.waiting);
           claimed = tt;
         }));
   }
 
   -- results that account for the claims do so later, if the worker does nothing
-  pub accounts_on : (later earlier : History) (dones : List Done)
-      → ContinuesWithout w later earlier → Accounts job size classes w P S earlier dones
-      → Accounts job size classes w P S later dones
+  pub accounts_on : (later earlier : History) (dones : List (Done K))
+      → ContinuesWithout w later earlier → Accounts task size classes w P S earlier dones
+      → Accounts task size classes w P S later dones
   accounts_on later earlier dones c x = record {
     done = x.done;
-    stand = All-weaker (λ (d : Done). Stands w earlier d.part d.waiting)
-        (λ (d : Done). Stands w later d.part d.waiting)
+    stand = All-weaker (λ (d : Done K). Stands w earlier d.part d.waiting)
+        (λ (d : Done K). Stands w later d.part d.waiting)
         (λ d s. stands_on w d.part d.waiting later earlier c s) dones x.stand;
     claimed = claims_go_on (IsAmong dones) w later earlier c x.claimed;
   }
 
   -- one stretch more
-  pub serving_more : (a b d : Sitter) (part : ℕ) (dones : List Done) (done : Done)
+  pub serving_more : (a b d : Sitter) (part : ℕ) (dones : List (Done K)) (done : Done K)
       → Serving a dones → held_by a.worker a.seen ≡ None → ClaimsStretch a part b
-      → AfterRun b done.waiting d → done.part ≡ part → IsDone job size classes w P S done
+      → AfterRun b done.waiting d → done.part ≡ part → IsDone task size classes w P S done
       → Serving d (dones ++ done ∷ [])
   serving_more a b d part dones done was free c after is own =
       let bw : b.worker ≡ w = c.worker ∙ was.worker_is in
@@ -279,10 +280,10 @@ module _ (job : Parts) (size : ℕ) (classes : List ℕ) (place : Place) (w : �
         worker_is = r.worker ∙ bw;
         legal = subst (λ (q : Place). IsLegal q.shape d.seen) bp r.legal;
         accounts = record {
-          done = All-push (IsDone job size classes w P S) dones done was.accounts.done own;
-          stand = All-push (λ (x : Done). Stands w d.seen x.part x.waiting) dones done
-              (All-weaker (λ (x : Done). Stands w a.seen x.part x.waiting)
-              (λ (x : Done). Stands w d.seen x.part x.waiting)
+          done = All-push (IsDone task size classes w P S) dones done was.accounts.done own;
+          stand = All-push (λ (x : Done K). Stands w d.seen x.part x.waiting) dones done
+              (All-weaker (λ (x : Done K). Stands w a.seen x.part x.waiting)
+              (λ (x : Done K). Stands w d.seen x.part x.waiting)
               (λ x s. subst (λ h. Stands w h x.part x.waiting) (sym all)
               (stands_past w x.part x.waiting tail a.seen af s)) dones was.accounts.stand)
               (subst (λ v. Stands v d.seen done.part done.waiting) bw
@@ -301,8 +302,8 @@ module _ (job : Parts) (size : ℕ) (classes : List ℕ) (place : Place) (w : �
       (claim_holds a b part c) after).free none
 
   -- a worker that saw all claimed
-  pub served_all : (a b : Sitter) (dones : List Done) → Serving a dones → SeesAllClaimed a b
-      → HasServed job size classes place w P S b dones
+  pub served_all : (a b : Sitter) (dones : List (Done K)) → Serving a dones → SeesAllClaimed a b
+      → HasServed task size classes place w P S b dones
   served_all a b dones was s = record {
     place_is = s.place ∙ was.place_is;
     worker_is = s.worker ∙ was.worker_is;
@@ -313,9 +314,9 @@ module _ (job : Parts) (size : ℕ) (classes : List ℕ) (place : Place) (w : �
   }
 
   -- a worker that was stopped
-  pub served_stopped : (d : Sitter) (dones : List Done) (done : Done) (v : Waiting)
+  pub served_stopped : (d : Sitter) (dones : List (Done K)) (done : Done K) (v : Waiting)
       → done.waiting ≡ Some v → Serving d (dones ++ done ∷ [])
-      → HasServed job size classes place w P S d (dones ++ done ∷ [])
+      → HasServed task size classes place w P S d (dones ++ done ∷ [])
   served_stopped d dones done v e was = record {
     place_is = was.place_is;
     worker_is = was.worker_is;

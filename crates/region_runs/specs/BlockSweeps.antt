@@ -1,23 +1,21 @@
 -- What a gate was asked by a worker that goes over a list, block after block.
-use Rattle.std.specs.Prelude.{◌≡◌, ◌<◌, ◌≤◌, ℕ, List, Option, Some, None, slice_get}
+use Rattle.std.specs.Prelude.{◌≡◌, ◌<◌, ◌≤◌, ℕ, Bool, List, Some, None, slice_get}
 use Rattle.flat_circuit.specs.declared.origin.ListedClass.{ListedClass}
 use Rattle.flat_circuit.specs.declared.block_span.BlockSpan.{BlockSpan}
 use Rattle.block_sim.specs.Parts.{Parts}
-use Rattle.region_sim.specs.Goals.{is_unknown}
 use Rattle.region_sim.specs.RegionHits.{IsOpenAt}
 use Rattle.block_sim.specs.First.{IsFirstOn}
 use Rattle.workers.specs.Stops.{Stops}
 
 -- the gate surely stops the worker on a block at none of the open classes before a place
-abbrev pub AreNotStopped : List ListedClass → List (Option ℕ) → ℕ → Stops → ℕ → ℕ → Type 0
-AreNotStopped rows firsts worker stops block place = (k : ℕ) (row : ListedClass) → k < place
-    → IsOpenAt is_unknown rows firsts k row → stops.must worker row.class block → ⊥
+abbrev pub AreNotStopped : {K : Type 0} → (K → Bool) → List ListedClass → List K → ℕ → Stops → ℕ → ℕ → Type 0
+AreNotStopped wants rows kept worker stops block place = (k : ℕ) (row : ListedClass) → k < place
+    → IsOpenAt wants rows kept k row → stops.must worker row.class block → ⊥
 
 -- the gate may stop the worker on a block at the open class at a place
-abbrev pub IsStoppedAt : List ListedClass → List (Option ℕ) → ℕ → Stops → ℕ → ℕ → Type 0
-IsStoppedAt rows firsts worker stops block place = (row : ListedClass)
-    × (slice_get rows place ≡ Some row) × (slice_get firsts place ≡ Some None)
-    × stops.may worker row.class block
+abbrev pub IsStoppedAt : {K : Type 0} → (K → Bool) → List ListedClass → List K → ℕ → Stops → ℕ → ℕ → Type 0
+IsStoppedAt wants rows kept worker stops block place = (row : ListedClass)
+    × IsOpenAt wants rows kept place row × stops.may worker row.class block
 
 -- and at none of all classes before a place
 abbrev pub AreAllNotStopped : List ListedClass → ℕ → Stops → ℕ → ℕ → Type 0

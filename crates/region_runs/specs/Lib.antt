@@ -8,3 +8,4 @@ pub mod Stretches
 pub mod ListRunners
 pub mod Windows
 pub mod WindowLedgers
+pub mod Tasks

@@ -9,6 +9,7 @@ use Rattle.workers.specs.Refused.{IsWorkersFault}
 use Rattle.workers.specs.Stops.{Stops}
 use Rattle.region_runs.specs.StretchRuns.{PartsWaitFor, PartWaitsFor, StretchesWaitFor}
 use Rattle.region_runs.specs.Part.{ArePartOf, stretch_size}
+use Rattle.region_runs.specs.Tasks.{Task, first_tests}
 
 -- the part, for this number of parts, is within the limit on pieces
 abbrev pub IsPartWithin : Parts → ℕ → ℕ → Type 0
@@ -35,16 +36,26 @@ HasLargePart job parts = max_pieces < pieces_of_stretch job parts
 
 -- the error if classes are run in this number of stretches of this size, each by one worker by
 -- itself: the class is the lowest of all that aren't settled
-abbrev pub IsStretchesFault : Parts → ℕ → List ℕ → ℕ → ℕ → Type 0 → Stops → RunFault → Type 0
-IsStretchesFault job size classes parts workers passing stops Memory =
+abbrev pub IsStretchesFault : {K : Type 0} → Task K → ℕ → List ℕ → ℕ → ℕ → Type 0 → Stops → RunFault → Type 0
+IsStretchesFault task size classes parts workers passing stops Memory =
     (0 < workers) × (workers ≤ 64)
-IsStretchesFault job size classes parts workers passing stops Threads =
+IsStretchesFault task size classes parts workers passing stops Threads =
     (0 < workers) × (workers ≤ 64)
-IsStretchesFault job size classes parts workers passing stops (Unfinished class block) =
+IsStretchesFault task size classes parts workers passing stops (Unfinished class block) =
     (0 < workers) × (workers ≤ 64)
-    × (class < length job.classes.representative) × (block < blocks (length job.tests.tests))
-    × (¬ passing) × StretchesWaitFor job size classes parts workers stops class block
-IsStretchesFault job size classes parts workers passing stops fault = ⊥
+    × (class < length task.job.classes.representative) × (block < blocks (length task.job.tests.tests))
+    × (¬ passing) × StretchesWaitFor task size classes parts workers stops class block
+IsStretchesFault task size classes parts workers passing stops fault = ⊥
+
+-- the error if all classes are run for a goal, in this number of stretches
+abbrev pub IsGoalFault : {K : Type 0} → Task K → ℕ → ℕ → Type 0 → Stops → RunFault → Type 0
+IsGoalFault task parts workers passing stops Memory = (0 < workers) × (workers ≤ 64)
+IsGoalFault task parts workers passing stops Threads = (0 < workers) × (workers ≤ 64)
+IsGoalFault task parts workers passing stops (Unfinished class block) =
+    (0 < workers) × (workers ≤ 64) × (class < length task.job.classes.representative)
+    × (block < blocks (length task.job.tests.tests)) × (¬ passing)
+    × PartsWaitFor task parts workers stops class block
+IsGoalFault task parts workers passing stops fault = IsWorkersFault workers fault
 
 -- the error if the classes are a part's, for this number of parts: the part has too many pieces
 abbrev pub IsPartFault : Parts → ℕ → ℕ → ℕ → Type 0 → Stops → RunFault → Type 0
@@ -67,7 +78,7 @@ IsPartsFault job parts workers passing stops TooManyPieces =
 IsPartsFault job parts workers passing stops (Unfinished class block) =
     (0 < workers) × (workers ≤ 64)
     × (class < length job.classes.representative) × (block < blocks (length job.tests.tests))
-    × (¬ passing) × PartsWaitFor job parts workers stops class block
+    × (¬ passing) × PartsWaitFor (first_tests job) parts workers stops class block
 IsPartsFault job parts workers passing stops fault = IsWorkersFault workers fault
 
 -- the error of a run of some classes with an open gate: its number of workers, and then memory or a

@@ -14,13 +14,14 @@ use Rattle.fault_ledger.specs.History.{piece_count}
 use Rattle.fault_ledger.specs.Answer.{IsLegal}
 use Rattle.fault_ledger.specs.Settled.{finish}
 use Rattle.fault_ledger.specs.Seats.{ClosedFace, Makes, Place, Sitter, closed_face}
-use Rattle.workers.specs.Verdict.{AreClassFirsts, VerdictList}
+use Rattle.workers.specs.Verdict.{VerdictList}
 use Rattle.workers.specs.Stops.{Stops}
 use Rattle.workers.specs.Work.{EachReport}
 use Rattle.region_runs.specs.declared.stretch_run.Waiting.{Waiting}
 use Rattle.region_runs.specs.declared.stretch_workers.Done.{Done}
 use Rattle.region_runs.specs.declared.stretch_workers.Served.{Served}
 use Rattle.region_runs.specs.StretchRuns.{AreDone}
+use Rattle.region_runs.specs.Tasks.{AreKept, Task, first_tests}
 use Rattle.region_runs.specs.declared.parts.PartVerdict.{PartVerdict}
 use Rattle.region_runs.specs.declared.parts.PartVerdict.TheVariants.{First}
 use Rattle.region_sim.specs.ClassOrder.{AreAllByRegion}
@@ -68,8 +69,8 @@ Stands w h part None = entry part h ≡ Clear
 Stands w h part (Some waiting) = held_by w h ≡ Some part
 
 -- the part is among the results
-abbrev pub IsAmong : List Done → ℕ → Type 0
-IsAmong dones part = (k : ℕ) × (done : Done) × (slice_get dones k ≡ Some done)
+abbrev pub IsAmong : {K : Type 0} → List (Done K) → ℕ → Type 0
+IsAmong {K} dones part = (k : ℕ) × (done : Done K) × (slice_get dones k ≡ Some done)
     × (done.part ≡ part)
 
 -- this holds of the number of each claim of a worker in a history
@@ -80,73 +81,72 @@ EachClaim Holds w (_ ∷ h) = EachClaim Holds w h
 
 -- The results of a worker account for its events in a history: each stretch that it claimed has a
 -- result, and its state follows from that.
-pub record Accounts (job : Parts) (size : ℕ) (classes : List ℕ) (w : ℕ) (passing : Type 0)
-    (stops : Stops) (h : History) (dones : List Done) : Type 0 where
-  pub done : AreDone job size classes w passing stops dones
+pub record Accounts {K : Type 0} (task : Task K) (size : ℕ) (classes : List ℕ) (w : ℕ) (passing : Type 0)
+    (stops : Stops) (h : History) (dones : List (Done K)) : Type 0 where
+  pub done : AreDone task size classes w passing stops dones
   pub stand : All (λ d. Stands w h d.part d.waiting) dones
   pub claimed : EachClaim (IsAmong dones) w h
 
 -- the gate stopped the worker in one of these
-abbrev pub IsStoppedIn : List Done → Type 0
-IsStoppedIn dones = (k : ℕ) × (done : Done) × (slice_get dones k ≡ Some done)
+abbrev pub IsStoppedIn : {K : Type 0} → List (Done K) → Type 0
+IsStoppedIn {K} dones = (k : ℕ) × (done : Done K) × (slice_get dones k ≡ Some done)
     × (waiting : Waiting) × (done.waiting ≡ Some waiting)
 
 -- how a worker ends: all stretches are claimed, or its gate stopped it
-abbrev pub EndsServing : Shape → History → List Done → Type 0
+abbrev pub EndsServing : {K : Type 0} → Shape → History → List (Done K) → Type 0
 EndsServing shape h dones = (claims h ≡ piece_count shape) ⊎ IsStoppedIn dones
 
 -- The seat of a worker of a new ledger of stretches at the end: it came back, its history is legal,
 -- and the worker's results account for it.
-pub record HasServed (job : Parts) (size : ℕ) (classes : List ℕ) (place : Place) (w : ℕ)
-    (passing : Type 0) (stops : Stops) (seat : Sitter) (dones : List Done) : Type 0 where
+pub record HasServed {K : Type 0} (task : Task K) (size : ℕ) (classes : List ℕ) (place : Place) (w : ℕ)
+    (passing : Type 0) (stops : Stops) (seat : Sitter) (dones : List (Done K)) : Type 0 where
   pub place_is : seat.place ≡ place
   pub worker_is : seat.worker ≡ w
   pub legal : IsLegal place.shape seat.seen
-  pub accounts : Accounts job size classes w passing stops seat.seen dones
+  pub accounts : Accounts task size classes w passing stops seat.seen dones
   pub ended : EndsServing place.shape seat.seen dones
 
 -- all workers came back, one of each number, unless memory ran out
-pub record AreServed {E : Type 0} (job : Parts) (size : ℕ) (classes : List ℕ) (place : Place)
-    (passing : Type 0) (stops : Stops) (back : List (Result Served E)) : Type 0 where
+pub record AreServed {K E : Type 0} (task : Task K) (size : ℕ) (classes : List ℕ) (place : Place)
+    (passing : Type 0) (stops : Stops) (back : List (Result (Served K) E)) : Type 0 where
   pub count : length back ≡ place.shape.workers
-  pub each : (w : ℕ) (one : Result Served E) → slice_get back w ≡ Some one
-      → IfOk one (λ served. HasServed job size classes place w passing stops served.seat
+  pub each : (w : ℕ) (one : Result (Served K) E) → slice_get back w ≡ Some one
+      → IfOk one (λ served. HasServed task size classes place w passing stops served.seat
       served.dones.items)
 
 -- the two lists of what came back: the seats, and their workers' results
-pub record AreApart {E Z : Type 0} (back : List (Result Served E)) (seats : List Sitter)
-    (dones : List (Vec Done Z)) : Type 0 where
+pub record AreApart {K E Z : Type 0} (back : List (Result (Served K) E)) (seats : List Sitter)
+    (dones : List (Vec (Done K) Z)) : Type 0 where
   pub seats_count : length seats ≡ length back
   pub dones_count : length dones ≡ length back
-  pub each : (k : ℕ) (seat : Sitter) (own : Vec Done Z) → slice_get seats k ≡ Some seat
+  pub each : (k : ℕ) (seat : Sitter) (own : Vec (Done K) Z) → slice_get seats k ≡ Some seat
       → slice_get dones k ≡ Some own
-      → (served : Served) × (slice_get back k ≡ Some (Ok served)) × (seat ≡ served.seat)
+      → (served : Served K) × (slice_get back k ≡ Some (Ok served)) × (seat ≡ served.seat)
       × (own.items ≡ served.dones.items)
 
 -- The results of workers at a closed ledger of stretches: a legal history that it shows accounts
 -- for all of them.
-pub record AreShared {Z : Type 0} (job : Parts) (size : ℕ) (classes : List ℕ) (shape : Shape)
-    (passing : Type 0) (stops : Stops) (dones : List (Vec Done Z))
+pub record AreShared {K Z : Type 0} (task : Task K) (size : ℕ) (classes : List ℕ) (shape : Shape)
+    (passing : Type 0) (stops : Stops) (dones : List (Vec (Done K) Z))
     (closed : ClosedFace) : Type 0 where
   pub count : length dones ≡ shape.workers
   pub history : History
   pub legal : IsLegal shape history
   pub shows : closed ≡ closed_face shape history
-  pub each : (w : ℕ) (own : Vec Done Z) → slice_get dones w ≡ Some own
-      → Accounts job size classes w passing stops history own.items
+  pub each : (w : ℕ) (own : Vec (Done K) Z) → slice_get dones w ≡ Some own
+      → Accounts task size classes w passing stops history own.items
       × EndsServing shape history own.items
 
--- a report of a stretch stands for the first tests of its own classes
-abbrev pub StandsFor : Parts → ℕ → List ℕ → List (Option ℕ) → Option ℕ → Type 0
-StandsFor job size classes firsts None = ⊥
-StandsFor job size classes firsts (Some part) =
-    AreClassFirsts job.list.model job.circuit job.tests.tests (stretch size classes part)
-    (take size (drop (part * size) firsts))
+-- a report of a stretch stands for what is kept of its own classes
+abbrev pub StandsFor : {K : Type 0} → Task K → ℕ → List ℕ → List K → Option ℕ → Type 0
+StandsFor task size classes kept None = ⊥
+StandsFor task size classes kept (Some part) =
+    AreKept task (stretch size classes part) (take size (drop (part * size) kept))
 
--- First tests of classes that were found stretch by stretch: the closed ledger of these stretches
--- shows a legal and finished history, in which each report stands for its stretch's first tests.
-pub record AreOfStretches (job : Parts) (size : ℕ) (classes : List ℕ) (workers : ℕ)
-    (firsts : List (Option ℕ)) (closed : ClosedFace) : Type 0 where
+-- What is kept of classes was found stretch by stretch: the closed ledger of these stretches shows
+-- a legal and finished history, in which each report stands for what is kept of its stretch.
+pub record AreByStretches {K : Type 0} (task : Task K) (size : ℕ) (classes : List ℕ)
+    (workers : ℕ) (kept : List K) (closed : ClosedFace) : Type 0 where
   pub shape : closed.shape ≡ shape_of_stretches (stretch_count size classes)
       (crew_of workers (stretch_count size classes))
   pub history : History
@@ -154,7 +154,12 @@ pub record AreOfStretches (job : Parts) (size : ℕ) (classes : List ℕ) (worke
   pub shows : closed ≡ closed_face closed.shape history
   pub finished : finish closed.shape history ≡ Finished
   pub reports : (w : ℕ)
-      → EachReport (λ o h. StandsFor job size classes firsts (held_by w h)) w history []
+      → EachReport (λ o h. StandsFor task size classes kept (held_by w h)) w history []
+
+-- so are first tests
+abbrev pub AreOfStretches : Parts → ℕ → List ℕ → ℕ → List (Option ℕ) → ClosedFace → Type 0
+AreOfStretches job size classes workers firsts closed =
+    AreByStretches (first_tests job) size classes workers firsts closed
 
 -- The verdicts were found stretch by stretch of all classes, cut into this number: the verdict on a
 -- fault is one that was found of its class.

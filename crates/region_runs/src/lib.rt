@@ -7,13 +7,14 @@
 //! of the workers.
 //!
 //! [`run_in_parts`] runs all classes in some number of stretches, and [`run_open`] in a number that
-//! suits the workers. [`run_part`] runs the classes of one part of a run that several machines
+//! suits the workers. [`run_goal`] runs them for any [`region_sim::Goal`]. [`run_part`] runs the classes of one part of a run that several machines
 //! share. [`run_in_windows`] and [`run_part_in_windows`] do so on some blocks at a time. A
 //! [`ListRunner`] runs lists of classes in its caller's thread.
 #![tactic(auto)]
 
 mod class_order;
 mod fault_firsts;
+mod goal_run;
 mod list_runner;
 mod open_classes;
 mod open_run;
@@ -23,6 +24,7 @@ mod stretch_workers;
 mod stretches;
 mod windows;
 
+pub use goal_run::{GoalRun, run_goal};
 pub use list_runner::ListRunner;
 pub use open_run::{run_classes, run_open};
 pub use parts::{

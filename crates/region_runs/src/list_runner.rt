@@ -11,10 +11,10 @@ use crate::class_order::all_classes;
 use crate::open_classes::all_open;
 use crate::parts::{PartVerdict, by_class, first_in, firsts_of_faults, skipped_after, verdict_on};
 use crate::stretch_run::run_list;
-use crate::stretch_workers::no_firsts;
+use crate::stretch_workers::starts;
 use block_sim::Job;
-use region_sim::RegionSimulation;
 use region_sim::class_order::rows_of;
+use region_sim::{FirstTest, RegionSimulation};
 use std::alloc::{AllocError, Global};
 use std::marker::Model;
 use workers::{OpenGate, Verdicts};
@@ -147,12 +147,14 @@ fn run_alone(
     let _tests = job.tests();
     simulation.make_room(classes.len())?;
     let rows = rows_of(alloc, job, classes)?;
-    let mut firsts = no_firsts(alloc, classes.len())?;
-    let mut open = all_open(alloc, firsts.as_slice())?;
+    let mut firsts = starts(alloc, &FirstTest, classes.len())?;
+    let mut open = all_open(alloc, classes.len())?;
     let listed = rows.as_slice();
     let next = open.as_mut_slice();
     let found = firsts.as_mut_slice();
-    let _stop = run_list(job, listed, 0, simulation, &OpenGate, next, found);
+    let _stop = run_list(
+        job, listed, 0, simulation, &FirstTest, &OpenGate, next, found,
+    );
     Ok(firsts)
 }
 

@@ -2,17 +2,18 @@
 
 ghost use Rattle.std.specs.Prelude.{◌≡◌, ◌+◌, ◌^◌, ◌<◌, IfOk, Some, length, slice_get};
 ghost use Rattle.std.specs.Prelude.{slice_set};
-ghost use Rattle.region_sim.specs.Goals.{is_unknown};
-ghost use Rattle.region_sim.specs.OpenPlaces.{AreNextOpen, AreSuccessors};
+ghost use Rattle.region_sim.specs.OpenPlaces.{AreSuccessors};
 
 use std::alloc::{AllocError, Global};
 
-/// Returns the next place of each, before any first test is known.
-pub(crate) fn all_open(alloc: Global, firsts: &[Option<u32>]) -> Result<Vec<usize>, AllocError>
-    ensures { IfOk result (λ next. AreNextOpen is_unknown firsts.now next.items) }
+/// Returns for each of some places the one after it.
+pub(crate) fn all_open(alloc: Global, places: usize) -> Result<Vec<usize>, AllocError>
+    requires { places < 2 ^ 63 }
+    ensures count { IfOk result (λ next. length next.items ≡ places) }
+    ensures next { IfOk result (λ next. AreSuccessors next.items) }
 {
-    let mut next = Vec::with_capacity(alloc, firsts.len())?;
-    for place in 0..firsts.len() {
+    let mut next = Vec::with_capacity(alloc, places)?;
+    for place in 0..places {
         next.push(place + 1)?;
     }
     Ok(next)

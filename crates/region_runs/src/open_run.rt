@@ -13,6 +13,7 @@ use crate::class_order::count_in;
 use crate::parts::{Gathered, gather, run_in_parts};
 use crate::stretches::{Cut, parts_for, stretches_for};
 use block_sim::Job;
+use region_sim::FirstTest;
 use std::alloc::Global;
 use std::sync::Wait;
 use std::thread::Threads;
@@ -67,9 +68,9 @@ pub fn run_classes<R: Threads + Wait>(
     check_workers(workers)?;
     let own = Vec::from_slice(alloc, classes)?;
     let cut = Cut::new(job, own, stretches_for(count_in(job, classes), workers));
-    let gathered = gather(rt, alloc, job, &cut, workers, &OpenGate)?;
+    let gathered = gather(rt, alloc, job, &cut, workers, &FirstTest, &OpenGate)?;
     let Gathered {
-        firsts,
+        kept: firsts,
         ledger: _ledger,
     } = gathered;
     Ok(firsts)

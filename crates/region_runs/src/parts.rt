@@ -1,13 +1,13 @@
 //! Runs over a part of the classes, and over all parts.
 
-ghost use Rattle.std.specs.Prelude.{◌≡◌, ◌⊎◌, ◌<◌, ◌≤◌, ◌^◌, ℕ, All, IfErr, IfOk, List};
+ghost use Rattle.std.specs.Prelude.{◌≡◌, ◌⊎◌, ◌<◌, ◌≤◌, ◌^◌, ◌++◌, ℕ, All, IfErr, IfOk, List};
 ghost use Rattle.std.specs.Prelude.{OnOk, Some, length, map, slice_index_or, vec_len};
 ghost use Rattle.patterns.specs.Tests.{blocks, max_pieces};
 ghost use Rattle.block_sim.specs.Parts.{BelongTogether, Parts};
 ghost use Rattle.fault_ledger.specs.Seats.{ClosedFace, Closes, Sitter, newcomers};
 ghost use Rattle.workers.specs.Verdict.{AreAfterHits, AreClassFirsts, AreFirsts};
 ghost use Rattle.workers.specs.Verdict.{blocks_after, pieces_after};
-ghost use Rattle.region_runs.specs.StretchRuns.{AreAllFound, AreAllLowest, AreGivenBack, ArePut};
+ghost use Rattle.region_runs.specs.StretchRuns.{AreAllKept, AreAllLowest, AreGivenBack, ArePut};
 ghost use Rattle.region_runs.specs.StretchRuns.{IsLowest, IsLowestAt, IsLowestIn, WaitsIn, run_at};
 ghost use Rattle.region_runs.specs.StretchRuns.{runs_from};
 ghost use Rattle.region_runs.specs.Part.{AreClassVerdicts, ArePartVerdicts, IsInOnePart};
@@ -16,19 +16,21 @@ ghost use Rattle.region_runs.specs.Cut.{IsCutOf};
 ghost use Rattle.region_runs.specs.Refused.{ArePartsWithin, IsPartFault, IsPartsFault};
 ghost use Rattle.region_runs.specs.Refused.{IsPartWithin};
 ghost use Rattle.region_runs.specs.Refused.{IsStretchesFault};
-ghost use Rattle.region_runs.specs.Stretches.{AreApart, AreOfStretches, AreShared};
+ghost use Rattle.region_runs.specs.Stretches.{AreApart, AreByStretches, AreShared};
 ghost use Rattle.region_runs.specs.Stretches.{IsOfStretches, IsPartOfStretches, crew_of};
 ghost use Rattle.region_runs.specs.Stretches.{shape_of_stretches};
+ghost use Rattle.region_runs.specs.Tasks.{AreKept, IsOpenAtFirst, task_of};
 
 use crate::class_order::{count_in, part_classes};
 use crate::fault_firsts::{OrderedFirsts, verdicts_in};
+use crate::goal_run::{GoalRun, run_goal};
 use crate::stretch_run::{Waiting, lower_of};
 use crate::stretch_workers::{Done, Served, empty_table, not_begun, take_parts};
 use crate::stretches::{Cut, filled, stretches_for};
 use block_sim::Job;
 use fault_ledger::{Closed, Finish, LedgerFault, Seat, SharedLedger};
 use patterns::BLOCK_SIZE;
-use region_sim::class_order::{ClassOrder, class_order};
+use region_sim::{FirstTest, Goal};
 use std::alloc::{AllocError, Global};
 use std::sync::Wait;
 use std::thread::Threads;
@@ -171,9 +173,9 @@ pub fn run_part<G: Gate + Sync, R: Threads + Wait>(
     let few = count_in(job, own.as_slice());
     check_pieces(job, few)?;
     let cut = Cut::new(job, own, stretches_for(few, workers));
-    let gathered = gather(rt, alloc, job, &cut, workers, gate)?;
+    let gathered = gather(rt, alloc, job, &cut, workers, &FirstTest, gate)?;
     let count = job.classes().count();
-    let found = gathered.firsts.as_slice();
+    let found = gathered.kept.as_slice();
     let table = by_class(alloc, count, cut.classes.as_slice(), found)?;
     let verdicts = of_faults(alloc, job, table.as_slice())?;
     Ok(verdicts)
@@ -268,11 +270,13 @@ pub fn run_over_ledger<G: Gate + Sync, R: Threads + Wait>(
     check_workers(workers)?;
     let count = job.classes().count();
     check_pieces(job, count.div_ceil(parts))?;
-    let order = class_order(alloc, job)?;
-    let ClassOrder { classes, positions } = order;
-    let cut = Cut::new(job, classes, parts);
-    let gathered = gather(rt, alloc, job, &cut, workers, gate)?;
-    let Gathered { firsts, ledger } = gathered;
+    let done = run_goal(rt, alloc, job, parts, workers, &FirstTest, gate)?;
+    let GoalRun {
+        classes: _classes,
+        positions,
+        kept: firsts,
+        ledger,
+    } = done;
     let ordered = OrderedFirsts { positions, firsts };
     let verdicts = verdicts_in(rt, alloc, job, &ordered, workers)?;
     Ok(LedgerRun { verdicts, ledger })
@@ -302,7 +306,7 @@ fn blocks_after(verdict: PartVerdict, blocks: u32) -> u32
 }
 
 /// Puts the results of a worker at the places of its parts.
-fn put_by_part(table: Vec<Option<Done>>, dones: Vec<Done>) -> Vec<Option<Done>>
+fn put_by_part<K: Drop>(table: Vec<Option<Done<K>>>, dones: Vec<Done<K>>) -> Vec<Option<Done<K>>>
     ensures { ArePut table.items dones.items result.items }
 {
     let mut table = table;
@@ -316,11 +320,11 @@ fn put_by_part(table: Vec<Option<Done>>, dones: Vec<Done>) -> Vec<Option<Done>>
 }
 
 /// Returns the results of all workers, by part.
-fn table_of(
+fn table_of<K: Drop>(
     alloc: Global,
     parts: u32,
-    back: Vec<Vec<Done>>,
-) -> Result<Vec<Option<Done>>, AllocError>
+    back: Vec<Vec<Done<K>>>,
+) -> Result<Vec<Option<Done<K>>>, AllocError>
     ensures { IfOk result (λ table. AreGivenBack parts back.items table.items) }
 {
     let mut table = empty_table(alloc, parts)?;
@@ -330,64 +334,84 @@ fn table_of(
     Ok(table)
 }
 
-/// Joins the first tests of the classes of all stretches.
-fn joined(
+/// Joins what is kept of the classes of all stretches.
+fn joined<A: Goal>(
     alloc: Global,
     job: &Job,
     cut: &Cut,
-    table: Vec<Option<Done>>,
-) -> Result<Vec<Option<u32>>, AllocError>
+    goal: &A,
+    table: Vec<Option<Done<A::Kept>>>,
+) -> Result<Vec<A::Kept>, AllocError>
     requires cut { IsCutOf job.now cut.now.parts cut.now.size cut.now.classes.items }
     requires count { vec_len table ≡ cut.now.parts }
-    requires found { AreAllFound job.now cut.now.size cut.now.classes.items table.items }
-    ensures { IfOk result (λ found. AreClassFirsts job.now.list.model job.now.circuit
-        job.now.tests.tests cut.now.classes.items found.items) }
+    requires kept { AreAllKept (task_of job.now (A.wants goal.now) (A.means goal.now))
+        cut.now.size cut.now.classes.items table.items }
+    ensures { IfOk result (λ kept. AreKept (task_of job.now (A.wants goal.now) (A.means goal.now))
+        cut.now.classes.items kept.items) }
 {
-    let mut firsts = Vec::with_capacity(alloc, cut.classes.len())?;
+    let (_job, _goal) = (job, goal);
+    let mut kept = Vec::with_capacity(alloc, cut.classes.len())?;
     for place in table {
         match place {
-            Some(done) => firsts.extend_from_slice(done.firsts.as_slice())?,
+            Some(done) => kept = appended(kept, done.kept)?,
             None => {}
         }
     }
-    Ok(firsts)
+    Ok(kept)
+}
+
+/// Appends values to others.
+fn appended<K: Drop>(values: Vec<K>, more: Vec<K>) -> Result<Vec<K>, AllocError>
+    ensures { IfOk result (λ all. all.items ≡ values.items ++ more.items) }
+{
+    let mut values = values;
+    for value in more {
+        values.push(value)?;
+    }
+    Ok(values)
 }
 
 /// Returns the lowest unsettled class of a stretch, from its entry in the table. An empty entry is
 /// a stretch that no worker began.
-fn waiting_in(
+fn waiting_in<A: Goal>(
     alloc: Global,
     job: &Job,
     cut: &Cut,
     part: u32,
-    place: Option<Done>,
+    goal: &A,
+    place: Option<Done<A::Kept>>,
 ) -> Result<Option<Waiting>, AllocError>
-    requires { IsLowestAt job.now (stretch cut.now.size cut.now.classes.items part) place }
-    ensures { IfOk result (IsLowestIn job.now
+    requires cut { IsCutOf job.now cut.now.parts cut.now.size cut.now.classes.items }
+    requires lowest { IsLowestAt (task_of job.now (A.wants goal.now) (A.means goal.now))
+        (stretch cut.now.size cut.now.classes.items part) place }
+    ensures { IfOk result (IsLowestIn (task_of job.now (A.wants goal.now) (A.means goal.now))
         (run_at (stretch cut.now.size cut.now.classes.items part) place)) }
 {
     match place {
         Some(done) => Ok(done.waiting),
-        None => not_begun(alloc, job, cut, part),
+        None => not_begun(alloc, job, cut, part, goal),
     }
 }
 
 /// Returns the lowest unsettled class of all stretches.
-fn lowest_waiting(
+fn lowest_waiting<A: Goal>(
     alloc: Global,
     job: &Job,
     cut: &Cut,
-    table: Vec<Option<Done>>,
+    goal: &A,
+    table: Vec<Option<Done<A::Kept>>>,
 ) -> Result<Option<Waiting>, AllocError>
+    requires cut { IsCutOf job.now cut.now.parts cut.now.size cut.now.classes.items }
     requires count { vec_len table ≡ cut.now.parts }
-    requires lowest { AreAllLowest job.now cut.now.size cut.now.classes.items table.items }
-    ensures { IfOk result (IsLowest (WaitsIn job.now
+    requires lowest { AreAllLowest (task_of job.now (A.wants goal.now) (A.means goal.now))
+        cut.now.size cut.now.classes.items table.items }
+    ensures { IfOk result (IsLowest (WaitsIn (task_of job.now (A.wants goal.now) (A.means goal.now))
         (runs_from cut.now.size cut.now.classes.items 0 table.items))) }
 {
     let mut lowest = None;
     let mut part = 0;
     for place in table {
-        let waiting = waiting_in(alloc, job, cut, part, place)?;
+        let waiting = waiting_in(alloc, job, cut, part, goal, place)?;
         lowest = lower_of(lowest, waiting);
         part += 1;
     }
@@ -396,13 +420,16 @@ fn lowest_waiting(
 
 /// The seats of workers and the results of each.
 #[derive(Drop)]
-struct Returned {
+struct Returned<K> {
     seats: Vec<Seat>,
-    dones: Vec<Vec<Done>>,
+    dones: Vec<Vec<Done<K>>>,
 }
 
 /// Separates the seats that came back from the results of their workers.
-fn set_apart(alloc: Global, back: Vec<Result<Served, AllocError>>) -> Result<Returned, AllocError>
+fn set_apart<K: Drop>(
+    alloc: Global,
+    back: Vec<Result<Served<K>, AllocError>>,
+) -> Result<Returned<K>, AllocError>
     ensures { IfOk result (λ returned.
         AreApart back.items returned.seats.items returned.dones.items) }
 {
@@ -418,17 +445,17 @@ fn set_apart(alloc: Global, back: Vec<Result<Served, AllocError>>) -> Result<Ret
 
 /// A closed ledger of stretches, and the results of each of its workers.
 #[derive(Drop)]
-struct Handed {
+struct Handed<K> {
     ledger: Closed,
-    dones: Vec<Vec<Done>>,
+    dones: Vec<Vec<Done<K>>>,
 }
 
 /// Closes a ledger with the results of its workers.
-fn close_over(
+fn close_over<K: Drop>(
     alloc: Global,
     ledger: SharedLedger,
-    back: Vec<Result<Served, AllocError>>,
-) -> Result<Handed, RunFault>
+    back: Vec<Result<Served<K>, AllocError>>,
+) -> Result<Handed<K>, RunFault>
     requires some { 0 < length back.items }
     requires places { All (λ one. IfOk one (λ served. served.seat.place ≡ ledger)) back.items }
     ensures closed { IfOk result (λ handed. (seats : List Sitter)
@@ -468,70 +495,78 @@ fn ledger_of(
 
 /// Lets workers claim stretches at a shared ledger and simulate them, in threads of their own.
 /// Returns the closed ledger and the results of each worker.
-fn hand_out<G: Gate + Sync, R: Threads + Wait>(
+fn hand_out<A: Goal + Sync, G: Gate + Sync, R: Threads + Wait>(
     rt: &R,
     alloc: Global,
     job: &Job,
     cut: &Cut,
     workers: u32,
+    goal: &A,
     gate: &G,
-) -> Result<Handed, RunFault>
+) -> Result<Handed<A::Kept>, RunFault>
+where
+    A::Kept: Send,
     requires cut { IsCutOf job.now cut.now.parts cut.now.size cut.now.classes.items }
     requires workers { (0 < workers) × (workers ≤ 64) }
     ensures shared { IfOk result (λ handed.
         let stretches = stretch_count cut.now.size cut.now.classes.items in
-        AreShared job.now cut.now.size cut.now.classes.items
-        (shape_of_stretches stretches (crew_of workers stretches)) (G.passing gate.now)
-        (G.stops gate.now) handed.dones.items handed.ledger) }
+        AreShared (task_of job.now (A.wants goal.now) (A.means goal.now)) cut.now.size
+        cut.now.classes.items (shape_of_stretches stretches (crew_of workers stretches))
+        (G.passing gate.now) (G.stops gate.now) handed.dones.items handed.ledger) }
     ensures refused { IfErr result (λ fault.
         (fault ≡ RunFault.Memory) ⊎ (fault ≡ RunFault.Threads)) }
 {
     let stretches = filled(job, cut);
     let crew = workers.min(stretches).max(1);
     let (ledger, seats) = ledger_of(alloc, stretches, crew)?;
-    let back = take_parts(rt, alloc, job, cut, &ledger, gate, seats)?;
+    let back = take_parts(rt, alloc, job, cut, &ledger, goal, gate, seats)?;
     let handed = close_over(alloc, ledger, back)?;
     Ok(handed)
 }
 
-/// The first tests of classes that ran in stretches, and the closed ledger of these.
+/// What is kept of classes that ran in stretches, and the closed ledger of these.
 #[derive(Drop)]
-pub(crate) struct Gathered {
-    pub(crate) firsts: Vec<Option<u32>>,
+pub(crate) struct Gathered<K> {
+    pub(crate) kept: Vec<K>,
     pub(crate) ledger: Closed,
 }
 
 /// Runs all stretches, each by one worker. The closed ledger shows whether all classes are settled.
-pub(crate) fn gather<G: Gate + Sync, R: Threads + Wait>(
+pub(crate) fn gather<A: Goal + Sync, G: Gate + Sync, R: Threads + Wait>(
     rt: &R,
     alloc: Global,
     job: &Job,
     cut: &Cut,
     workers: u32,
+    goal: &A,
     gate: &G,
-) -> Result<Gathered, RunFault>
+) -> Result<Gathered<A::Kept>, RunFault>
+where
+    A::Kept: Send,
     requires cut { IsCutOf job.now cut.now.parts cut.now.size cut.now.classes.items }
     requires workers { (0 < workers) × (workers ≤ 64) }
-    ensures gathered { IfOk result (λ gathered. AreClassFirsts job.now.list.model job.now.circuit
-        job.now.tests.tests cut.now.classes.items gathered.firsts.items) }
-    ensures stretches { IfOk result (λ gathered. AreOfStretches job.now cut.now.size
-        cut.now.classes.items workers gathered.firsts.items gathered.ledger) }
-    ensures refused { IfErr result (IsStretchesFault job.now cut.now.size cut.now.classes.items
-        cut.now.parts workers (G.passing gate.now) (G.stops gate.now)) }
+    requires wanted { IsOpenAtFirst (task_of job.now (A.wants goal.now) (A.means goal.now)) }
+    ensures kept { IfOk result (λ gathered. AreKept (task_of job.now (A.wants goal.now) (A.means goal.now))
+        cut.now.classes.items gathered.kept.items) }
+    ensures stretches { IfOk result (λ gathered. AreByStretches (task_of job.now (A.wants goal.now) (A.means goal.now))
+        cut.now.size cut.now.classes.items workers gathered.kept.items gathered.ledger) }
+    ensures refused { IfErr result (IsStretchesFault (task_of job.now (A.wants goal.now) (A.means goal.now))
+        cut.now.size cut.now.classes.items cut.now.parts workers (G.passing gate.now)
+        (G.stops gate.now)) }
 {
     let _tests = job.tests();
-    let handed = hand_out(rt, alloc, job, cut, workers, gate)?;
+    let handed = hand_out(rt, alloc, job, cut, workers, goal, gate)?;
     let Handed { ledger, dones } = handed;
     let table = table_of(alloc, cut.parts, dones)?;
     match ledger.finished() {
         Finish::Finished => {
-            let firsts = joined(alloc, job, cut, table)?;
-            Ok(Gathered { firsts, ledger })
+            let kept = joined(alloc, job, cut, goal, table)?;
+            Ok(Gathered { kept, ledger })
         }
         Finish::Waiting {
             class: _stretch,
             block: _block,
-        } => match lowest_waiting(alloc, job, cut, table)? {
+        } => match lowest_waiting(alloc, job, cut, goal, table)? {
             Some(Waiting { class, block }) => Err(RunFault::Unfinished { class, block }),
             None => unreachable!(),
         },

@@ -1,24 +1,24 @@
 //! The run of one worker by itself over a list of classes, without a ledger.
 
-ghost use Rattle.std.specs.Prelude.{◌≡◌, ◌⊎◌, ◌<◌, ◌≤◌, ◌+◌, ℕ, All, IfNone, IfOk, IfSome, None};
-ghost use Rattle.std.specs.Prelude.{Some};
-ghost use Rattle.std.specs.Prelude.{false, length, slice_get, true};
+ghost use Rattle.std.specs.Prelude.{◌≡◌, ◌⊎◌, ◌<◌, ◌≤◌, ◌+◌, ℕ, All, None, Some, false};
+ghost use Rattle.std.specs.Prelude.{length, slice_get};
 ghost use Rattle.patterns.specs.Tests.{blocks};
 ghost use Rattle.block_sim.specs.Listed.{IsListed};
 ghost use Rattle.flat_circuit.specs.BlockSpans.{one_block};
 ghost use Rattle.region_sim.specs.ClassOrder.{classes_of};
-ghost use Rattle.region_sim.specs.Goals.{HasTakenAt, IsFirstHit, IsSweep, is_unknown};
-ghost use Rattle.region_sim.specs.OpenPlaces.{AreNextOpen};
+ghost use Rattle.region_sim.specs.Goals.{HasTakenAt, IsSweep};
+ghost use Rattle.region_sim.specs.OpenPlaces.{AreNextOpen, AreSuccessors};
 ghost use Rattle.region_sim.specs.RegionHits.{ServesRegions};
 ghost use Rattle.region_runs.specs.BlockSweeps.{AreAllNotStopped, AreDeadFrom, AreNotStopped};
 ghost use Rattle.region_runs.specs.BlockSweeps.{IsStoppedAt};
-ghost use Rattle.region_runs.specs.StretchRuns.{AreEarlier, AreFoundUpTo, ArePassed, HasEnded};
-ghost use Rattle.region_runs.specs.StretchRuns.{IsLowerOf, IsLowest, IsOpenIn, IsStopAt};
+ghost use Rattle.region_runs.specs.StretchRuns.{AreEarlier, AreKeptUpTo, HasEnded, IsLowerOf};
+ghost use Rattle.region_runs.specs.StretchRuns.{IsLowest, IsOpenIn};
+ghost use Rattle.region_runs.specs.Tasks.{task_of};
 
 use crate::open_classes::{follow_all, leave_out, next_open};
 use block_sim::block_span::BlockSpan;
 use block_sim::{Job, ListedClass};
-use region_sim::{FirstTest, RegionSimulation, sweep_from};
+use region_sim::{Goal, RegionSimulation, sweep_from};
 use workers::Gate;
 
 /// The point at which its gate stopped a worker that goes over a list: before the class at this
@@ -37,34 +37,36 @@ pub(crate) struct Waiting {
 }
 
 /// Simulates the classes of a list on every block, one block after another, until the gate stops
-/// the worker. It skips a class that an earlier block detects. If the gate lets every piece pass,
-/// it leaves out the dead classes at the end of the list.
-pub(crate) fn run_list<G: Gate>(
+/// the worker. It skips a class that more tests can't change. If the gate lets every piece pass, it
+/// leaves out the dead classes at the end of the list.
+pub(crate) fn run_list<A: Goal, G: Gate>(
     job: &Job,
     rows: &[ListedClass],
     worker: u32,
     simulation: &mut RegionSimulation,
+    goal: &A,
     gate: &G,
     next: &mut [usize],
-    firsts: &mut [Option<u32>],
+    kept: &mut [A::Kept],
 ) -> Option<Stop>
     requires rows { All (IsListed job.now) rows.now }
     requires serves { ServesRegions simulation.old job.now (length rows.now) }
-    requires none { AreFoundUpTo job.now (classes_of rows.now) 0 0 firsts.old }
-    requires next { AreNextOpen is_unknown firsts.old next.old }
-    ensures ended { HasEnded job.now (classes_of rows.now) worker (G.stops gate.now) result
-        firsts.new }
+    requires none { AreKeptUpTo (task_of job.now (A.wants goal.now) (A.means goal.now)) (classes_of rows.now) 0 0 kept.old }
+    requires next { AreSuccessors next.old }
+    requires places { length next.old ≡ length rows.now }
+    ensures ended { HasEnded (task_of job.now (A.wants goal.now) (A.means goal.now)) (classes_of rows.now) worker
+        (G.stops gate.now) result kept.new }
     ensures passing { G.passing gate.now → result ≡ None }
     ensures serves { ServesRegions simulation.new job.now 0 }
 {
     if !gate.lets_all_pass() {
-        return run_rows(job, rows, worker, simulation, gate, next, firsts);
+        return run_rows(job, rows, worker, simulation, goal, gate, next, kept);
     }
     let blocks = job.tests().blocks();
     let (live, dead) = rows.split_at(live_end(job, rows));
     let (open, _dead) = next.split_at_mut(live.len());
-    let (found, _dead) = firsts.split_at_mut(live.len());
-    let stop = run_rows(job, live, worker, simulation, gate, open, found);
+    let (found, _dead) = kept.split_at_mut(live.len());
+    let stop = run_rows(job, live, worker, simulation, goal, gate, open, found);
     ask_dead(dead, worker, blocks, gate);
     stop
 }
@@ -108,34 +110,36 @@ fn ask_rows<G: Gate>(rows: &[ListedClass], worker: u32, block: u32, gate: &G)
 /// Simulates the classes of a list on every block, as [`run_list`] does, but leaves out no dead
 /// class. The gate is asked for all open classes on the blocks that are simulated at once, and then
 /// these are simulated. A gate that may stop the worker gets one block at a time.
-fn run_rows<G: Gate>(
+fn run_rows<A: Goal, G: Gate>(
     job: &Job,
     rows: &[ListedClass],
     worker: u32,
     simulation: &mut RegionSimulation,
+    goal: &A,
     gate: &G,
     next: &mut [usize],
-    firsts: &mut [Option<u32>],
+    kept: &mut [A::Kept],
 ) -> Option<Stop>
     requires rows { All (IsListed job.now) rows.now }
     requires serves { ServesRegions simulation.old job.now (length rows.now) }
-    requires none { AreFoundUpTo job.now (classes_of rows.now) 0 0 firsts.old }
-    requires next { AreNextOpen is_unknown firsts.old next.old }
-    ensures ended { HasEnded job.now (classes_of rows.now) worker (G.stops gate.now) result
-        firsts.new }
+    requires none { AreKeptUpTo (task_of job.now (A.wants goal.now) (A.means goal.now)) (classes_of rows.now) 0 0 kept.old }
+    requires next { AreSuccessors next.old }
+    requires places { length next.old ≡ length rows.now }
+    ensures ended { HasEnded (task_of job.now (A.wants goal.now) (A.means goal.now)) (classes_of rows.now) worker
+        (G.stops gate.now) result kept.new }
     ensures passing { G.passing gate.now → result ≡ None }
     ensures serves { ServesRegions simulation.new job.now 0 }
 {
     let mut block = 0;
     while block < job.tests().blocks() {
         let span = span_from(job, block, gate);
-        let place = ask_open(rows, worker, block, gate, next, firsts);
+        let place = ask_open(rows, worker, block, goal, gate, next, kept);
         if place < rows.len() {
-            simulate_before(job, block, rows, place, simulation, next, firsts);
+            simulate_before(job, block, rows, place, simulation, goal, next, kept);
             return Some(Stop { place, block });
         }
-        ask_rest(rows, worker, span, gate, next, firsts);
-        simulation.simulate(job, span, rows, next, &FirstTest, firsts);
+        ask_rest(rows, worker, span, goal, gate, next, kept);
+        simulation.simulate(job, span, rows, next, goal, kept);
         block = span.last + 1;
     }
     None
@@ -160,34 +164,34 @@ fn span_from<G: Gate>(job: &Job, block: u32, gate: &G) -> BlockSpan
     }
 }
 
-/// Takes the classes whose first test is known out of a list, and asks the gate for all others on a
-/// block. Returns the place at which the gate stopped the worker, or the end of the list.
-fn ask_open<G: Gate>(
+/// Takes the classes that more tests can't change out of a list, and asks the gate for all others
+/// on a block. Returns the place at which the gate stopped the worker, or the end of the list.
+fn ask_open<A: Goal, G: Gate>(
     rows: &[ListedClass],
     worker: u32,
     block: u32,
+    goal: &A,
     gate: &G,
     next: &mut [usize],
-    firsts: &[Option<u32>],
+    kept: &[A::Kept],
 ) -> usize
-    requires firsts { length firsts.now ≡ length rows.now }
-    requires next { AreNextOpen is_unknown firsts.now next.old }
+    requires kept { length kept.now ≡ length rows.now }
+    requires next { AreNextOpen (A.wants goal.now) kept.now next.old }
     ensures within { result ≤ length rows.now }
-    ensures next { AreNextOpen is_unknown firsts.now next.new }
-    ensures asked { AreNotStopped rows.now firsts.now worker (G.stops gate.now) block result }
+    ensures next { AreNextOpen (A.wants goal.now) kept.now next.new }
+    ensures asked { AreNotStopped (A.wants goal.now) rows.now kept.now worker (G.stops gate.now)
+        block result }
     ensures stopped { result < length rows.now
-        → IsStoppedAt rows.now firsts.now worker (G.stops gate.now) block result }
+        → IsStoppedAt (A.wants goal.now) rows.now kept.now worker (G.stops gate.now) block
+        result }
     ensures passing { G.passing gate.now → result ≡ length rows.now }
 {
     let mut before = 0;
     let mut place = 0;
     while place < rows.len() {
-        match first_at(firsts, place) {
-            Some(_test) => {
-                place = leave_out(next, before, place);
-                continue;
-            }
-            None => {}
+        if !goal.is_open(&kept[place]) {
+            place = leave_out(next, before, place);
+            continue;
         }
         if !gate.pass(worker, row_at(rows, place).class, block) {
             return place;
@@ -199,78 +203,83 @@ fn ask_open<G: Gate>(
 }
 
 /// Simulates the classes of a list before a place on a block alone.
-fn simulate_before(
+fn simulate_before<A: Goal>(
     job: &Job,
     block: u32,
     rows: &[ListedClass],
     place: usize,
     simulation: &mut RegionSimulation,
+    goal: &A,
     next: &mut [usize],
-    firsts: &mut [Option<u32>],
+    kept: &mut [A::Kept],
 )
     requires rows { All (IsListed job.now) rows.now }
     requires block { block < blocks (length job.now.tests.tests) }
     requires place { place ≤ length rows.now }
     requires serves { ServesRegions simulation.old job.now (length rows.now) }
-    requires firsts { length firsts.old ≡ length rows.now }
+    requires kept { length kept.old ≡ length rows.now }
     requires next { length next.old ≡ length rows.now }
     ensures taken { (k : ℕ) (row : ListedClass) → k < place → slice_get rows.now k ≡ Some row
-        → HasTakenAt IsFirstHit job.now (one_block block) row firsts.old firsts.new k }
-    ensures others { (k : ℕ) → place ≤ k → slice_get firsts.new k ≡ slice_get firsts.old k }
-    ensures places { length firsts.new ≡ length firsts.old }
+        → HasTakenAt (A.means goal.now) job.now (one_block block) row kept.old kept.new k }
+    ensures others { (k : ℕ) → place ≤ k → slice_get kept.new k ≡ slice_get kept.old k }
+    ensures places { length kept.new ≡ length kept.old }
     ensures serves { ServesRegions simulation.new job.now 0 }
 {
     let (asked, _rest) = rows.split_at(place);
     let (own, _rest) = next.split_at_mut(place);
     follow_all(own);
-    let (found, _rest) = firsts.split_at_mut(place);
+    let (found, _rest) = kept.split_at_mut(place);
     let span = BlockSpan {
         first: block,
         last: block,
     };
-    simulation.simulate(job, span, asked, own, &FirstTest, found);
+    simulation.simulate(job, span, asked, own, goal, found);
 }
 
 /// Asks the gate, which lets every piece pass if there are more blocks than one, for the open
 /// classes of a list on the later blocks of a span. It asks block after block, as a gate that draws
 /// the progress expects.
-fn ask_rest<G: Gate>(
+fn ask_rest<A: Goal, G: Gate>(
     rows: &[ListedClass],
     worker: u32,
     span: BlockSpan,
+    goal: &A,
     gate: &G,
     next: &[usize],
-    firsts: &[Option<u32>],
+    kept: &[A::Kept],
 )
     requires passing { span.first < span.last → G.passing gate.now }
     requires ordered { span.first ≤ span.last }
     requires last { span.last < 1024 }
-    requires firsts { length firsts.now ≡ length rows.now }
-    requires next { AreNextOpen is_unknown firsts.now next.now }
+    requires kept { length kept.now ≡ length rows.now }
+    requires next { AreNextOpen (A.wants goal.now) kept.now next.now }
     ensures { (block : ℕ) → span.first < block → block ≤ span.last
-        → AreNotStopped rows.now firsts.now worker (G.stops gate.now) block (length rows.now) }
+        → AreNotStopped (A.wants goal.now) rows.now kept.now worker (G.stops gate.now) block
+        (length rows.now) }
 {
     for block in span.first + 1..span.last + 1 {
-        ask_block(rows, worker, block, gate, next, firsts);
+        ask_block(rows, worker, block, goal, gate, next, kept);
     }
 }
 
 /// Asks the gate, which lets every piece pass, for the open classes of a list on a block.
 #[inline(always)]
-fn ask_block<G: Gate>(
+fn ask_block<A: Goal, G: Gate>(
     rows: &[ListedClass],
     worker: u32,
     block: u32,
+    goal: &A,
     gate: &G,
     next: &[usize],
-    firsts: &[Option<u32>],
+    kept: &[A::Kept],
 )
     requires passing { G.passing gate.now }
-    requires firsts { length firsts.now ≡ length rows.now }
-    requires next { AreNextOpen is_unknown firsts.now next.now }
-    ensures { AreNotStopped rows.now firsts.now worker (G.stops gate.now) block (length rows.now) }
+    requires kept { length kept.now ≡ length rows.now }
+    requires next { AreNextOpen (A.wants goal.now) kept.now next.now }
+    ensures { AreNotStopped (A.wants goal.now) rows.now kept.now worker (G.stops gate.now) block
+        (length rows.now) }
 {
-    let _firsts = firsts;
+    let (_goal, _kept) = (goal, kept);
     let mut place = 0;
     while place < rows.len() {
         gate.pass(worker, row_at(rows, place).class, block);
@@ -288,24 +297,26 @@ fn row_at(rows: &[ListedClass], place: usize) -> ListedClass
 
 /// Returns the lowest class of a list that wasn't settled when the worker was stopped, and the
 /// block that it waits for.
-pub(crate) fn lowest_open(
+pub(crate) fn lowest_open<A: Goal>(
     job: &Job,
     classes: &[u32],
     stop: Stop,
-    firsts: &[Option<u32>],
+    goal: &A,
+    kept: &[A::Kept],
 ) -> Option<Waiting>
-    requires found { AreFoundUpTo job.now classes.now stop.place stop.block firsts.now }
+    requires classes { All (λ class. class < length job.now.classes.representative) classes.now }
+    requires found { AreKeptUpTo (task_of job.now (A.wants goal.now) (A.means goal.now))
+        classes.now stop.place stop.block kept.now }
     requires block { stop.block < blocks (length job.now.tests.tests) }
-    ensures { IsLowest (IsOpenIn job.now classes.now (Some stop)) result }
+    ensures { IsLowest (IsOpenIn (task_of job.now (A.wants goal.now) (A.means goal.now)) classes.now (Some stop)) result }
 {
     let blocks = job.tests().blocks();
     let mut lowest = None;
     for place in 0..classes.len() {
         let class = class_at(classes, place);
         let block = done_before(stop, place);
-        match first_at(firsts, place) {
-            Some(_test) => continue,
-            None => {}
+        if !goal.is_open(&kept[place]) {
+            continue;
         }
         if block >= blocks {
             continue;
@@ -321,14 +332,6 @@ fn class_at(classes: &[u32], place: usize) -> u32
     ensures { slice_get classes.now place ≡ Some result }
 {
     classes[place]
-}
-
-/// Returns the first test that is known for the class at a place.
-fn first_at(firsts: &[Option<u32>], place: usize) -> Option<u32>
-    requires { place < length firsts.now }
-    ensures { slice_get firsts.now place ≡ Some result }
-{
-    firsts[place]
 }
 
 /// Returns the number of first blocks of the class at a place that were done when the worker was

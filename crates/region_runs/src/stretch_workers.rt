@@ -1,6 +1,6 @@
 //! Parts that workers claim, each of which one worker simulates by itself.
 
-ghost use Rattle.std.specs.Prelude.{◌≡◌, ◌⊎◌, ◌<◌, ℕ, All, IfErr, IfNone, IfOk, IfSome, None, Some};
+ghost use Rattle.std.specs.Prelude.{◌≡◌, ◌⊎◌, ◌<◌, ℕ, All, Bool, IfErr, IfNone, IfOk, IfSome, None, Some};
 ghost use Rattle.std.specs.Prelude.{length, vec_len};
 ghost use Rattle.patterns.specs.Tests.{blocks};
 ghost use Rattle.region_sim.specs.RegionHits.{ServesRegions};
@@ -9,6 +9,7 @@ ghost use Rattle.fault_ledger.specs.declared.Reply.TheVariants as reply;
 ghost use Rattle.fault_ledger.specs.History.{held_by};
 ghost use Rattle.fault_ledger.specs.Seats.{Makes, newcomer, newcomers};
 ghost use Rattle.region_runs.specs.StretchRuns.{IsDone, IsLowestIn, unbegun_run};
+ghost use Rattle.region_runs.specs.Tasks.{task_of};
 ghost use Rattle.region_runs.specs.Part.{stretch};
 ghost use Rattle.region_runs.specs.Cut.{IsCutOf};
 ghost use Rattle.region_runs.specs.Stretches.{AfterRun, AreServed, ClaimsStretch, HasServed};
@@ -20,8 +21,8 @@ use crate::stretches::Cut;
 use block_sim::Job;
 use fault_ledger::{Claim, Seat, SharedLedger};
 use patterns::Outcome;
-use region_sim::RegionSimulation;
 use region_sim::class_order::rows_of;
+use region_sim::{Goal, RegionSimulation};
 use std::alloc::{AllocError, Global};
 use std::snapshot::Snapshot;
 use std::sync::Wait;
@@ -31,13 +32,13 @@ use workers::{Gate, RunFault};
 
 /// The result of a worker for a part.
 #[derive(Drop)]
-pub(crate) struct Done {
+pub(crate) struct Done<K> {
     /// The part, counted from 0.
     pub(crate) part: u32,
     /// The worker that ran it, counted from 0.
     pub(crate) worker: u32,
-    /// The first test of each class of the part, or none, as far as the worker got.
-    pub(crate) firsts: Vec<Option<u32>>,
+    /// What the goal keeps of each class of the part, as far as the worker got.
+    pub(crate) kept: Vec<K>,
     /// The point at which the gate stopped the worker, if it did.
     pub(crate) stop: Option<Stop>,
     /// The lowest unsettled class, if the gate stopped the worker.
@@ -63,18 +64,20 @@ impl Member {
 }
 
 /// Lets a worker simulate a part by itself.
-pub(crate) fn run_alone<G: Gate>(
+pub(crate) fn run_alone<A: Goal, G: Gate>(
     alloc: Global,
     job: &Job,
     cut: &Cut,
     part: u32,
     member: &mut Member,
+    goal: &A,
     gate: &G,
-) -> Result<Done, AllocError>
+) -> Result<Done<A::Kept>, AllocError>
     requires cut { IsCutOf job.now cut.now.parts cut.now.size cut.now.classes.items }
     requires serves { ServesRegions member.old.simulation job.now 0 }
-    ensures done { IfOk result (IsDone job.now cut.now.size cut.now.classes.items
-        member.old.number (G.passing gate.now) (G.stops gate.now)) }
+    ensures done { IfOk result (IsDone (task_of job.now (A.wants goal.now) (A.means goal.now))
+        cut.now.size cut.now.classes.items member.old.number (G.passing gate.now)
+        (G.stops gate.now)) }
     ensures part { IfOk result (λ done. done.part ≡ part) }
     ensures member { member.new.number ≡ member.old.number }
     ensures serves { ServesRegions member.new.simulation job.now 0 }
@@ -82,66 +85,73 @@ pub(crate) fn run_alone<G: Gate>(
     let own = cut.stretch(part);
     member.simulation.make_room(own.len())?;
     let rows = rows_of(alloc, job, own)?;
-    let mut firsts = no_firsts(alloc, own.len())?;
-    let mut open = all_open(alloc, firsts.as_slice())?;
+    let mut kept = starts(alloc, goal, own.len())?;
+    let mut open = all_open(alloc, own.len())?;
     let worker = member.number;
     let simulation = &mut member.simulation;
     let listed = rows.as_slice();
     let next = open.as_mut_slice();
-    let found = firsts.as_mut_slice();
-    let stop = run_list(job, listed, worker, simulation, gate, next, found);
+    let found = kept.as_mut_slice();
+    let stop = run_list(job, listed, worker, simulation, goal, gate, next, found);
     let waiting = match stop {
-        Some(stop) => lowest_open(job, own, stop, firsts.as_slice()),
+        Some(stop) => lowest_open(job, own, stop, goal, kept.as_slice()),
         None => None,
     };
     Ok(Done {
         part,
         worker,
-        firsts,
+        kept,
         stop,
         waiting,
     })
 }
 
-/// Returns no first test for each of this number of classes.
-pub(crate) fn no_firsts(alloc: Global, count: usize) -> Result<Vec<Option<u32>>, AllocError>
-    ensures count { IfOk result (λ firsts. vec_len firsts ≡ count) }
-    ensures none { IfOk result (λ firsts. All (λ first. first ≡ None) firsts.items) }
+/// Returns what a goal keeps of no test, for each of this number of classes.
+pub(crate) fn starts<A: Goal>(
+    alloc: Global,
+    goal: &A,
+    count: usize,
+) -> Result<Vec<A::Kept>, AllocError>
+    ensures count { IfOk result (λ kept. vec_len kept ≡ count) }
+    ensures first { IfOk result (λ kept. All (λ one. (hits : ℕ → Bool)
+        → A.means goal.now hits 0 0 one) kept.items) }
 {
-    let mut firsts = Vec::with_capacity(alloc, count)?;
+    let mut kept = Vec::with_capacity(alloc, count)?;
     for _place in 0..count {
-        firsts.push(None)?;
+        kept.push(goal.start(alloc)?)?;
     }
-    Ok(firsts)
+    Ok(kept)
 }
 
 /// Returns the lowest class of a stretch that no worker began, which waits for block 0; none if the
 /// stretch has no class.
-pub(crate) fn not_begun(
+pub(crate) fn not_begun<A: Goal>(
     alloc: Global,
     job: &Job,
     cut: &Cut,
     part: u32,
+    goal: &A,
 ) -> Result<Option<Waiting>, AllocError>
+    requires cut { IsCutOf job.now cut.now.parts cut.now.size cut.now.classes.items }
     requires block { 0 < length (stretch cut.now.size cut.now.classes.items part)
         → 0 < blocks (length job.now.tests.tests) }
-    ensures { IfOk result (IsLowestIn job.now (unbegun_run
-        (stretch cut.now.size cut.now.classes.items part))) }
+    ensures { IfOk result (IsLowestIn (task_of job.now (A.wants goal.now) (A.means goal.now))
+        (unbegun_run (stretch cut.now.size cut.now.classes.items part))) }
 {
     let own = cut.stretch(part);
     if own.is_empty() {
         return Ok(None);
     }
-    let firsts = no_firsts(alloc, own.len())?;
+    let kept = starts(alloc, goal, own.len())?;
     let stop = Stop { place: 0, block: 0 };
-    Ok(lowest_open(job, own, stop, firsts.as_slice()))
+    Ok(lowest_open(job, own, stop, goal, kept.as_slice()))
 }
 
 /// The result of a worker: its seat, and its results for the stretches that it claimed.
 #[derive(Drop)]
-pub(crate) struct Served {
+pub(crate) struct Served<K> {
     pub(crate) seat: Seat,
-    pub(crate) dones: Vec<Done>,
+    pub(crate) dones: Vec<Done<K>>,
 }
 
 /// Claims the next stretch for a seat that holds none; none if all are claimed.
@@ -182,7 +192,7 @@ fn report_done(ledger: &SharedLedger, seat: &mut Seat)
 
 /// Lets a worker simulate the stretch that its seat holds, and report it unless the gate stopped
 /// it.
-fn run_held<G: Gate>(
+fn run_held<A: Goal, G: Gate>(
     alloc: Global,
     job: &Job,
     cut: &Cut,
@@ -190,20 +200,22 @@ fn run_held<G: Gate>(
     part: u32,
     member: &mut Member,
     seat: &mut Seat,
+    goal: &A,
     gate: &G,
-) -> Result<Done, AllocError>
+) -> Result<Done<A::Kept>, AllocError>
     requires cut { IsCutOf job.now cut.now.parts cut.now.size cut.now.classes.items }
     requires place { seat.old.place ≡ ledger.now }
     requires holding { held_by seat.old.worker seat.old.seen ≡ Some part }
     requires serves { ServesRegions member.old.simulation job.now 0 }
-    ensures done { IfOk result (IsDone job.now cut.now.size cut.now.classes.items
-        member.old.number (G.passing gate.now) (G.stops gate.now)) }
+    ensures done { IfOk result (IsDone (task_of job.now (A.wants goal.now) (A.means goal.now))
+        cut.now.size cut.now.classes.items member.old.number (G.passing gate.now)
+        (G.stops gate.now)) }
     ensures part { IfOk result (λ done. done.part ≡ part) }
     ensures after { IfOk result (λ done. AfterRun seat.old done.waiting seat.new) }
     ensures member { member.new.number ≡ member.old.number }
     ensures serves { ServesRegions member.new.simulation job.now 0 }
 {
-    let done = run_alone(alloc, job, cut, part, member, gate)?;
+    let done = run_alone(alloc, job, cut, part, member, goal, gate)?;
     if done.waiting.is_none() {
         report_done(ledger, seat);
     }
@@ -211,19 +223,21 @@ fn run_held<G: Gate>(
 }
 
 /// Lets a worker claim and simulate stretches, until all are claimed or the gate stops it.
-fn serve_seat<G: Gate>(
+fn serve_seat<A: Goal, G: Gate>(
     alloc: Global,
     job: &Job,
     cut: &Cut,
     ledger: &SharedLedger,
+    goal: &A,
     gate: &G,
     seat: &mut Seat,
-) -> Result<Vec<Done>, AllocError>
+) -> Result<Vec<Done<A::Kept>>, AllocError>
     requires cut { IsCutOf job.now cut.now.parts cut.now.size cut.now.classes.items }
     requires stretches { ledger.now.shape.tests ≡ 64 }
     requires new { seat.old ≡ newcomer ledger.now seat.old.worker }
-    ensures { IfOk result (λ dones. HasServed job.now cut.now.size cut.now.classes.items
-        ledger.now seat.old.worker (G.passing gate.now) (G.stops gate.now) seat.new dones.items) }
+    ensures { IfOk result (λ dones. HasServed (task_of job.now (A.wants goal.now) (A.means goal.now))
+        cut.now.size cut.now.classes.items ledger.now seat.old.worker (G.passing gate.now)
+        (G.stops gate.now) seat.new dones.items) }
 {
     let mut member = Member::new(alloc, job, seat.worker())?;
     let mut dones = Vec::new(alloc);
@@ -232,7 +246,7 @@ fn serve_seat<G: Gate>(
             Some(part) => part,
             None => return Ok(dones),
         };
-        let done = run_held(alloc, job, cut, ledger, part, &mut member, seat, gate)?;
+        let done = run_held(alloc, job, cut, ledger, part, &mut member, seat, goal, gate)?;
         let stopped = done.waiting.is_some();
         dones.push(done)?;
         if stopped {
@@ -242,75 +256,86 @@ fn serve_seat<G: Gate>(
 }
 
 /// Does the work of one thread.
-fn serve<G: Gate>(
+fn serve<A: Goal, G: Gate>(
     alloc: Global,
     job: &Job,
     cut: &Cut,
     ledger: &SharedLedger,
+    goal: &A,
     gate: &G,
     seat: Seat,
-) -> Result<Served, AllocError>
+) -> Result<Served<A::Kept>, AllocError>
     requires cut { IsCutOf job.now cut.now.parts cut.now.size cut.now.classes.items }
     requires stretches { ledger.now.shape.tests ≡ 64 }
     requires new { seat ≡ newcomer ledger.now seat.worker }
-    ensures { IfOk result (λ served. HasServed job.now cut.now.size cut.now.classes.items
-        ledger.now seat.worker (G.passing gate.now) (G.stops gate.now) served.seat
-        served.dones.items) }
+    ensures { IfOk result (λ served. HasServed (task_of job.now (A.wants goal.now) (A.means goal.now))
+        cut.now.size cut.now.classes.items ledger.now seat.worker (G.passing gate.now)
+        (G.stops gate.now) served.seat served.dones.items) }
 {
     let mut seat = seat;
-    let dones = serve_seat(alloc, job, cut, ledger, gate, &mut seat)?;
+    let dones = serve_seat(alloc, job, cut, ledger, goal, gate, &mut seat)?;
     Ok(Served { seat, dones })
 }
 
 /// The data that the thread of a worker borrows. It returns its worker's seat, and its results for
 /// each stretch that it claimed.
 #[derive(Drop)]
-struct Taker<G> {
+struct Taker<A, G> {
     job: Snapshot<Job>,
     cut: Snapshot<Cut>,
     ledger: Snapshot<SharedLedger>,
+    goal: Snapshot<A>,
     gate: Snapshot<G>,
     worker: u32,
 }
 
-impl<G: Gate> Promise<Result<Served, AllocError>> for Taker<G> {
+impl<A: Goal, G: Gate> Promise<Result<Served<A::Kept>, AllocError>> for Taker<A, G>
+where
+    A::Kept: Send,
+{
     ghost use Rattle.std.specs.Prelude.{IfOk};
     ghost use Rattle.region_runs.specs.Stretches.{HasServed};
+    ghost use Rattle.region_runs.specs.Tasks.{task_of};
 
     ghost kept_by = { λ p r. IfOk r (λ served.
-        HasServed p.job.value p.cut.value.size p.cut.value.classes.items p.ledger.value p.worker
+        HasServed (task_of p.job.value (A.wants p.goal.value) (A.means p.goal.value))
+        p.cut.value.size p.cut.value.classes.items p.ledger.value p.worker
         (G.passing p.gate.value) (G.stops p.gate.value) served.seat served.dones.items) };
 }
 
 /// Lets each seat's worker claim stretches in a thread of its own.
-pub(crate) fn take_parts<G: Gate + Sync, R: Threads + Wait>(
+pub(crate) fn take_parts<A: Goal + Sync, G: Gate + Sync, R: Threads + Wait>(
     rt: &R,
     alloc: Global,
     job: &Job,
     cut: &Cut,
     ledger: &SharedLedger,
+    goal: &A,
     gate: &G,
     seats: Vec<Seat>,
-) -> Result<Vec<Result<Served, AllocError>>, RunFault>
+) -> Result<Vec<Result<Served<A::Kept>, AllocError>>, RunFault>
+where
+    A::Kept: Send,
     requires cut { IsCutOf job.now cut.now.parts cut.now.size cut.now.classes.items }
     requires stretches { ledger.now.shape.tests ≡ 64 }
     requires new { seats.items ≡ newcomers ledger.now }
     ensures served { IfOk result (λ back.
-        AreServed job.now cut.now.size cut.now.classes.items ledger.now (G.passing gate.now)
-        (G.stops gate.now) back.items) }
+        AreServed (task_of job.now (A.wants goal.now) (A.means goal.now)) cut.now.size
+        cut.now.classes.items ledger.now (G.passing gate.now) (G.stops gate.now) back.items) }
     ensures refused { IfErr result (λ fault.
         (fault ≡ RunFault.Memory) ⊎ (fault ≡ RunFault.Threads)) }
 {
     thread::scope(
         thread::scope_env(),
         rt,
-        |scope| -> Result<Vec<Result<Served, AllocError>>, RunFault>
+        |scope| -> Result<Vec<Result<Served<A::Kept>, AllocError>>, RunFault>
             requires cut { IsCutOf job.now cut.now.parts cut.now.size cut.now.classes.items }
             requires stretches { ledger.now.shape.tests ≡ 64 }
             requires new { seats.items ≡ newcomers ledger.now }
             ensures served { IfOk result (λ back.
-                AreServed job.entry.now cut.entry.now.size cut.entry.now.classes.items
-                ledger.entry.now (G.passing gate.entry.now) (G.stops gate.entry.now) back.items) }
+                AreServed (task_of job.entry.now (A.wants goal.entry.now) (A.means goal.entry.now))
+                cut.entry.now.size cut.entry.now.classes.items ledger.entry.now
+                (G.passing gate.entry.now) (G.stops gate.entry.now) back.items) }
             ensures refused { IfErr result (λ fault.
                 (fault ≡ RunFault.Memory) ⊎ (fault ≡ RunFault.Threads)) }
         {
@@ -321,12 +346,13 @@ pub(crate) fn take_parts<G: Gate + Sync, R: Threads + Wait>(
                     job: Snapshot::of(job),
                     cut: Snapshot::of(cut),
                     ledger: Snapshot::of(ledger),
+                    goal: Snapshot::of(goal),
                     gate: Snapshot::of(gate),
                     worker: seat.worker(),
                 };
                 let Ok(handle) = scope.spawn_with(
                     kept,
-                    move || serve(alloc, job, cut, ledger, gate, seat),
+                    move || serve(alloc, job, cut, ledger, goal, gate, seat),
                 ) else {
                     break;
                 };
@@ -343,7 +369,10 @@ pub(crate) fn take_parts<G: Gate + Sync, R: Threads + Wait>(
 }
 
 /// Returns an empty place for each part.
-pub(crate) fn empty_table(alloc: Global, parts: u32) -> Result<Vec<Option<Done>>, AllocError>
+pub(crate) fn empty_table<K: Drop>(
+    alloc: Global,
+    parts: u32,
+) -> Result<Vec<Option<Done<K>>>, AllocError>
     ensures count { IfOk result (λ table. vec_len table ≡ parts) }
     ensures none { IfOk result (λ table. All (λ at. IfSome at (λ _. ⊥)) table.items) }
 {

@@ -5,7 +5,7 @@
 //! then those that no test detects yet on the next, and so on.
 
 ghost use Rattle.std.specs.Prelude.{◌-◌, ◌≡◌, ◌⊎◌, ◌<◌, ◌≤◌, ◌+◌, ◌*◌, ◌^◌, All, IfErr, IfOk};
-ghost use Rattle.std.specs.Prelude.{[], IsTrue, List, OnOk, Option};
+ghost use Rattle.std.specs.Prelude.{[], IsTrue, List, None, OnOk, Option, vec_len};
 ghost use Rattle.std.specs.Prelude.{⊤, ℕ, length, map, min, slice_index_or, zip};
 ghost use Rattle.bench_net.specs.Scan.{sources};
 ghost use Rattle.patterns.specs.Tests.{IsTestList, TestList, blocks};
@@ -27,11 +27,11 @@ use crate::class_order::{all_classes, count_in, part_classes};
 use crate::parts::{
     PartVerdict, by_class, first_in, firsts_of_faults, gather, of_faults, skipped_after, verdict_on,
 };
-use crate::stretch_workers::no_firsts;
 use crate::stretches::{Cut, stretches_for};
 use block_sim::Job;
 use counting_sort::{SortedPlaces, sorted_places};
 use patterns::{BLOCK_SIZE, MAX_TESTS, Tests, WordsFault};
+use region_sim::FirstTest;
 use region_sim::class_order::visits_of;
 use std::alloc::{AllocError, Global};
 use std::sync::Wait;
@@ -246,8 +246,8 @@ fn run_classes_left<G: Gate + Sync, R: Threads + Wait>(
 {
     let stretches = stretches_for(count_in(job, classes.as_slice()), workers);
     let cut = Cut::new(job, classes, stretches);
-    let gathered = gather(rt, alloc, job, &cut, workers, gate)?;
-    let firsts = gathered.firsts.as_slice();
+    let gathered = gather(rt, alloc, job, &cut, workers, &FirstTest, gate)?;
+    let firsts = gathered.kept.as_slice();
     let count = job.classes().count();
     let table = by_class(alloc, count, cut.classes.as_slice(), firsts)?;
     Ok(table)
@@ -646,4 +646,16 @@ pub fn run_part_in_windows<G: Gate + Sync, R: Threads + Wait>(
     let table = by_class(alloc, count, own.as_slice(), firsts.as_slice())?;
     let verdicts = of_faults(alloc, job, table.as_slice())?;
     Ok(verdicts)
+}
+
+/// Returns no first test for each of this number of classes.
+fn no_firsts(alloc: Global, count: usize) -> Result<Vec<Option<u32>>, AllocError>
+    ensures count { IfOk result (λ firsts. vec_len firsts ≡ count) }
+    ensures none { IfOk result (λ firsts. All (λ first. first ≡ None) firsts.items) }
+{
+    let mut firsts = Vec::with_capacity(alloc, count)?;
+    for _place in 0..count {
+        firsts.push(None)?;
+    }
+    Ok(firsts)
 }

@@ -1,12 +1,14 @@
 //! What a simulation keeps of each class, by its goal.
 
-ghost use Rattle.std.specs.Prelude.{◌≡◌, ◌≤◌, ◌^◌, ◌<◌, ℕ, Bool, Option, false};
+ghost use Rattle.std.specs.Prelude.{◌≡◌, ◌≤◌, ◌^◌, ◌<◌, ℕ, Bool, IfOk, Option, false};
 ghost use Rattle.region_sim.specs.Goals.{HasTaken, IsFirstHit, is_unknown};
-ghost use Rattle.region_sim.specs.GoalLaws.{first_stays};
+ghost use Rattle.region_sim.specs.GoalLaws.{first_agrees, first_stays, first_unchanged};
+
+use std::alloc::{AllocError, Global};
 
 /// What is kept of each class, of the tests that detect it: the first one, say.
 pub trait Goal {
-    ghost use Rattle.std.specs.Prelude.{◌≡◌, ◌≤◌, ◌^◌, ◌<◌, ℕ, Bool, false};
+    ghost use Rattle.std.specs.Prelude.{◌≡◌, ◌≤◌, ◌^◌, ◌<◌, ℕ, Bool, IfOk, false};
     ghost use Rattle.region_sim.specs.Goals.{HasTaken};
 
     /// What is kept of one class.
@@ -30,6 +32,21 @@ pub trait Goal {
         → wants goal kept ≡ false → high ≤ more → means goal hits low high kept
         → means goal hits low more kept };
 
+    /// What is kept of some tests decides whether more of them can change it.
+    ghost agrees: { (goal : Self) (one other : Self.Kept) (hits : ℕ → Bool) (low high : ℕ)
+        → means goal hits low high one → means goal hits low high other
+        → wants goal one ≡ wants goal other };
+
+    /// Tests that don't detect a class change nothing.
+    ghost unchanged: { (goal : Self) (kept : Self.Kept) (hits : ℕ → Bool) (low high more : ℕ)
+        → high ≤ more → ((t : ℕ) → high ≤ t → t < more → hits t ≡ false)
+        → means goal hits low high kept → means goal hits low more kept };
+
+    /// Returns what is kept of no test.
+    fn start(&self, alloc: Global) -> Result<Self::Kept, AllocError>
+        ensures { IfOk result (λ kept. (hits : ℕ → Bool) (at : ℕ)
+            → means self.now hits at at kept) };
+
     /// Returns whether more tests can change what is kept of a class.
     fn is_open(&self, kept: &Self::Kept) -> bool
         ensures { result ≡ wants self.now kept.now };
@@ -48,7 +65,7 @@ pub struct FirstTest;
 impl Goal for FirstTest {
     ghost use Rattle.std.specs.Prelude.{Option, false};
     ghost use Rattle.region_sim.specs.Goals.{IsFirstHit, is_unknown};
-    ghost use Rattle.region_sim.specs.GoalLaws.{first_stays};
+    ghost use Rattle.region_sim.specs.GoalLaws.{first_agrees, first_stays, first_unchanged};
 
     type Kept = Option<u32>;
 
@@ -61,6 +78,14 @@ impl Goal for FirstTest {
     ghost means = { λ _ hits low high kept. IsFirstHit hits low high kept };
 
     ghost stays = { λ _ kept hits low high more. first_stays kept hits low high more };
+
+    ghost agrees = { λ _ one other hits low high. first_agrees one other hits low high };
+
+    ghost unchanged = { λ _ kept hits low high more. first_unchanged kept hits low high more };
+
+    fn start(&self, _alloc: Global) -> Result<Option<u32>, AllocError> {
+        Ok(None)
+    }
 
     #[inline(always)]
     fn is_open(&self, kept: &Option<u32>) -> bool {

@@ -4,7 +4,8 @@
 ghost use Rattle.std.specs.Prelude.{◌≡◌, ◌<◌, ◌≤◌, ◌^◌, ◌++◌, IfErr, IfOk, OnOk, length};
 ghost use Rattle.block_sim.specs.Parts.{BelongTogether};
 ghost use Rattle.job_loading.specs.Splits.{HasSomePart};
-ghost use Rattle.analysis_reports.specs.Detected.{IsCountFault, reached_count};
+ghost use Rattle.analysis_reports.specs.Detected.{reached_count};
+ghost use Rattle.region_runs.specs.Refused.{IsOpenFault};
 ghost use Rattle.report.specs.EndToEnd.{IsJobReportFault, WritesOneOf};
 ghost use Rattle.analysis_reports.specs.Histogram.{IsCountedFault, histogram};
 ghost use Rattle.tables.specs.HistogramTables.{IsHistogramTableOf, IsHistogramTableOfJob};
@@ -14,11 +15,12 @@ ghost use Rattle.tables.specs.HistogramTables.{csv_count, histogram_table, json_
 use crate::curve_table::add_sums;
 use crate::json_table::{add_pieces, without_first};
 use crate::table::{Format, put_text};
-use analysis_reports::{counts_of, histogram_of};
+use analysis_reports::histogram_of;
 use block_sim::Job;
 use fault_model::Model;
 use itoa::Buffer;
 use job_loading::split_job_of;
+use n_detect::detections;
 use report::{Out, RunFault, SimFault, Split};
 use std::alloc::{AllocError, Global};
 use std::sync::Wait;
@@ -79,10 +81,10 @@ fn write_histogram<R: Threads + Wait, W: Out>(
     requires job { BelongTogether job.now }
     ensures written { WritesOneOf (IsHistogramTableOfJob job.now most format) result
         (W.seen out.old) (W.seen out.new) }
-    ensures refused { IfErr result (IsJobReportFault workers (IsCountFault workers)) }
+    ensures refused { IfErr result (IsJobReportFault workers (IsOpenFault workers)) }
     ensures workers { OnOk result ((0 < workers) × (workers ≤ 64)) }
 {
-    let counts = counts_of(rt, alloc, job, most, workers)?;
+    let counts = detections(rt, alloc, job, most, workers)?;
     let signals = job.circuit().signals();
     prove!(signals > 0);
     let total = job.faults().count();

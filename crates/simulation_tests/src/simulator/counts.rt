@@ -1,16 +1,15 @@
 //! Counts of the tests that detect each fault, on a worked circuit. Further counts are cases of the
 //! command line.
 
-ghost use Rattle.std.specs.Prelude.{◌<◌};
-
 use crate::worker::fixtures::{Case, JobText, Question, check_cases};
 use block_sim::Job;
 use fault_model::Model;
-use n_detect::{CountFault, detections};
+use n_detect::detections;
 use std::alloc::Global;
 use std::sync::Wait;
 use std::thread::Threads;
 use std::time::Clock;
+use workers::RunFault;
 
 /// For each limit on the counts, the counts of the faults of an AND gate under all four tests.
 static COUNTS: [(u32, &[u32]); 3] = [
@@ -27,15 +26,13 @@ fn has_counts<R: Threads + Wait>(
     workers: u32,
     most: u32,
     counts: &[u32],
-) -> Result<bool, CountFault>
-    requires { 0 < workers }
-{
+) -> Result<bool, RunFault> {
     let found = detections(rt, alloc, job, most, workers)?;
     Ok(found.as_slice() == counts)
 }
 
 /// Returns whether one worker, and more workers than classes, find the counts of an AND gate.
-fn are_counts<R: Threads + Wait>(rt: &R, alloc: Global, job: &Job) -> Result<bool, CountFault> {
+fn are_counts<R: Threads + Wait>(rt: &R, alloc: Global, job: &Job) -> Result<bool, RunFault> {
     for (most, counts) in &COUNTS {
         if !has_counts(rt, alloc, job, 1, *most, counts)?
             || !has_counts(rt, alloc, job, 7, *most, counts)?

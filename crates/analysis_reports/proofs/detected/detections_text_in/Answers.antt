@@ -1,4 +1,5 @@
-use Rattle.analysis_reports.specs.Detected.{IsCountFault, IsDetectionReportOf}
+use Rattle.analysis_reports.specs.Detected.{IsDetectionReportOf}
+use Rattle.region_runs.specs.Refused.{IsOpenFault}
 use Rattle.analysis_reports.specs.Detected.{IsDetectionReportOfJob}
 use Rattle.report.specs.EndToEnd.{IsJobReportFault, IsReportFault}
 use Rattle.analysis_reports.proofs.CountedTexts.{counts_of_texts, job_count_fault}
@@ -19,7 +20,7 @@ returns-clause-written g c =
 pub returns-clause-refused : goal.returns-clause-refused
 returns-clause-refused g c =
     let job = c.in_ok-job.job in
-    refused_as (IsJobReportFault c.args.workers (IsCountFault c.args.workers))
+    refused_as (IsJobReportFault c.args.workers (IsOpenFault c.args.workers))
     (IsReportFault c.args.model c.args.bench.now c.args.tests.now c.args.workers)
     c.report_counts.result (job_count_fault c.args.model c.args.bench.now c.args.tests.now
     c.args.workers job (c.in_ok-job.ensures.job, c.in_ok-job.ensures.few))

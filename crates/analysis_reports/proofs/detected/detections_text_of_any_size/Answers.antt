@@ -1,6 +1,7 @@
 use Rattle.block_sim.specs.Parts.{Parts}
 use Rattle.workers.specs.declared.RunFault.{RunFault}
-use Rattle.analysis_reports.specs.Detected.{IsCountFault, IsDetectionReportOf}
+use Rattle.analysis_reports.specs.Detected.{IsDetectionReportOf}
+use Rattle.region_runs.specs.Refused.{IsOpenFault}
 use Rattle.analysis_reports.specs.Detected.{IsDetectionReportOfJob}
 use Rattle.report.specs.EndToEnd.{IsJobReportFault, IsTextFault}
 use Rattle.analysis_reports.proofs.CountedTexts.{counts_of_texts}
@@ -20,8 +21,8 @@ returns-clause-written g c =
 
 pub returns-clause-refused : goal.returns-clause-refused
 returns-clause-refused g c =
-    let is_fault : Parts → RunFault → Type 0 = λ job. IsCountFault c.args.workers in
-    refused_as (IsJobReportFault c.args.workers (IsCountFault c.args.workers))
+    let is_fault : Parts → RunFault → Type 0 = λ job. IsOpenFault c.args.workers in
+    refused_as (IsJobReportFault c.args.workers (IsOpenFault c.args.workers))
     (IsTextFault c.args.model c.args.bench.now c.args.tests.now c.args.workers is_fault)
     c.report_counts.result (text_fault c.args.model c.args.bench.now c.args.tests.now c.args.workers
     is_fault c.in_ok-job.job c.in_ok-job.ensures.job)

@@ -7,8 +7,8 @@ use Rattle.n_detect.proofs.ClassCounts.{class_within, counts_of_faults}
 use Rattle.n_detect.proofs.EachPushed.{push_each}
 use Rattle.n_detect.proofs.faults.by_fault.Goals as goal
 
-pub count_in-requires-clause-class : goal.count_in-requires-clause-class
-count_in-requires-clause-class c =
+pub count_of-requires-clause-class : goal.count_of-requires-clause-class
+count_of-requires-clause-class c =
     let at =
     ap (λ (x : Collapsed). slice_get x.class_of c.loop-fault.fault) (sym c.classes.ensures.part)
     ∙ c.class_of-class.ensures in
@@ -31,12 +31,12 @@ loop-fault-preserved c =
       count = c.in_ok-push.ensures.len ∙ ap (λ n. n + 1) before.count;
       each = λ i n class is of.
           push_each (λ k m. (class : ℕ) → slice_get job.classes.class_of k ≡ Some class
-          → IsClassCount job c.args.most class m) c.loop-fault.counts.items c.count_in.result
+          → IsClassCount job c.args.most class m) c.loop-fault.counts.items c.count_of.result
           (λ k m found other own. before.each k m other found own)
           (λ other own.
           let same : c.class_of-class.result ≡ other =
           ap (λ o. unwrap_or o other) (sym there ∙ own) in
-          subst (λ k. IsClassCount job c.args.most k c.count_in.result) same c.count_in.ensures)
+          subst (λ k. IsClassCount job c.args.most k c.count_of.result) same c.count_of.ensures)
           i n (subst (λ xs. slice_get xs i ≡ Some n) c.in_ok-push.ensures.items is) class of;
     }
 

@@ -2,30 +2,32 @@ use Rattle.std.proofs.Common.{◌≡◌, ◌+◌, ◌*◌, ◌∙◌, ◌++◌, 
 use Rattle.std.proofs.Common.{length-append, subst, sym, refl}
 use Rattle.std.proofs.Math.Nat.{zero-mul}
 use Rattle.std.specs.Vec.Iter.{into_iter_items}
-use Rattle.region_runs.specs.StretchRuns.{IsFoundAt}
+use Rattle.region_runs.specs.StretchRuns.{IsKeptAt}
 use Rattle.region_runs.specs.Part.{stretch}
-use Rattle.region_runs.proofs.PartsOfClasses.{FirstsUpTo, firsts_all, firsts_none}
+use Rattle.region_runs.specs.Tasks.{task_of}
+use Rattle.region_runs.proofs.PartsOfClasses.{AreKeptBelow, kept_all, kept_none}
 use Rattle.region_runs.proofs.ReturnsByPart.{next_place}
-use Rattle.region_runs.proofs.RunsOfParts.{firsts_joined, firsts_skipped}
+use Rattle.region_runs.proofs.RunsOfParts.{kept_joined, kept_skipped}
 use Rattle.region_runs.proofs.parts.joined.Goals as goal
 
 pub loop-place-init : goal.loop-place-init
-loop-place-init c =
+loop-place-init g c =
     let began = c.into_iter-place-iterator.ensures.into_iter_gives in
     record {
       order = began.0;
       left = omega (arith, began.1, c.requires.count);
-      found = subst (λ n. FirstsUpTo c.args.job.now c.args.cut.now.classes.items n
-          c.in_ok-firsts.firsts.items) (sym (zero-mul c.args.cut.now.size))
-          (subst (FirstsUpTo c.args.job.now c.args.cut.now.classes.items 0)
-          (sym c.in_ok-firsts.ensures.items)
-          (firsts_none c.args.job.now c.args.cut.now.classes.items));
+      found = subst (λ n. AreKeptBelow (task_of c.args.job.now (g.A.Goal.wants c.args.goal.now) (g.A.Goal.means c.args.goal.now)) c.args.cut.now.classes.items n
+          c.in_ok-kept.kept.items) (sym (zero-mul c.args.cut.now.size))
+          (subst (AreKeptBelow (task_of c.args.job.now (g.A.Goal.wants c.args.goal.now) (g.A.Goal.means c.args.goal.now)) c.args.cut.now.classes.items 0)
+          (sym c.in_ok-kept.ensures.items)
+          (kept_none (task_of c.args.job.now (g.A.Goal.wants c.args.goal.now) (g.A.Goal.means c.args.goal.now)) c.args.cut.now.classes.items));
     }
 
 pub loop-place-preserved-in-Some-place : goal.loop-place-preserved-in-Some-place
-loop-place-preserved-in-Some-place c =
+loop-place-preserved-in-Some-place g c =
     let was = c.loop-place.invariant in
-    let job = c.args.job.now in
+    let goal = c.args.goal.now in
+    let task = task_of c.args.job.now (g.A.Goal.wants goal) (g.A.Goal.means goal) in
     let size = c.args.cut.now.size in
     let classes = c.args.cut.now.classes.items in
     let yielded = c.loop-place.yielded in
@@ -34,27 +36,27 @@ loop-place-preserved-in-Some-place c =
     let rest = into_iter_items c.next.new.self in
     let count : length yielded + 1 ≡ length (yielded ++ place ∷ []) =
     omega (arith, length-append yielded (place ∷ [])) in
-    let own = subst (IsFoundAt job (stretch size classes (length yielded))) c.in-Some-place.is
-    (c.requires.found (length yielded) place
+    let own = subst (IsKeptAt task (stretch size classes (length yielded))) c.in-Some-place.is
+    (c.requires.kept (length yielded) place
     (next_place yielded rest c.args.table.items (into_iter_items c.loop-place.place-iterator) place
     (length yielded) refl was.order step.0)) in
     record {
       order = append_assoc yielded (place ∷ []) rest
           ∙ ap (λ l. yielded ++ l) (sym step.0) ∙ was.order;
       left = omega (arith, count, was.left, step.1);
-      found = subst (λ n. FirstsUpTo job classes (n * size) c.extend_from_slice.new.self.items)
+      found = subst (λ n. AreKeptBelow task classes (n * size) c.in_ok-kept-in-Some-place.kept.items)
           count
-          (subst (FirstsUpTo job classes ((length yielded + 1) * size))
-          (sym (c.in_ok-extend_from_slice-in-Some-place.ensures.items
-          ∙ ap (λ l. c.loop-place.firsts.items ++ l) c.as_slice.ensures.value))
-          (firsts_joined job size classes (length yielded) c.loop-place.firsts.items
+          (subst (AreKeptBelow task classes ((length yielded + 1) * size))
+          (sym c.in_ok-kept-in-Some-place.ensures)
+          (kept_joined task size classes (length yielded) c.loop-place.kept.items
           c.in-Some-place.done own was.found));
     }
 
 pub loop-place-preserved : goal.loop-place-preserved
-loop-place-preserved c =
+loop-place-preserved g c =
     let was = c.loop-place.invariant in
-    let job = c.args.job.now in
+    let goal = c.args.goal.now in
+    let task = task_of c.args.job.now (g.A.Goal.wants goal) (g.A.Goal.means goal) in
     let size = c.args.cut.now.size in
     let classes = c.args.cut.now.classes.items in
     let yielded = c.loop-place.yielded in
@@ -63,28 +65,28 @@ loop-place-preserved c =
     let rest = into_iter_items c.next.new.self in
     let count : length yielded + 1 ≡ length (yielded ++ place ∷ []) =
     omega (arith, length-append yielded (place ∷ [])) in
-    let own = subst (IsFoundAt job (stretch size classes (length yielded))) c.in-None-place.is
-    (c.requires.found (length yielded) place
+    let own = subst (IsKeptAt task (stretch size classes (length yielded))) c.in-None-place.is
+    (c.requires.kept (length yielded) place
     (next_place yielded rest c.args.table.items (into_iter_items c.loop-place.place-iterator) place
     (length yielded) refl was.order step.0)) in
     record {
       order = append_assoc yielded (place ∷ []) rest
           ∙ ap (λ l. yielded ++ l) (sym step.0) ∙ was.order;
       left = omega (arith, count, was.left, step.1);
-      found = subst (λ n. FirstsUpTo job classes (n * size) c.loop-place.firsts.items) count
-          (firsts_skipped job size classes (length yielded) c.loop-place.firsts.items own
+      found = subst (λ n. AreKeptBelow task classes (n * size) c.loop-place.kept.items) count
+          (kept_skipped task size classes (length yielded) c.loop-place.kept.items own
           was.found);
     }
 
 pub returns : goal.returns
-returns c =
+returns g c =
     let was = c.loop-place.invariant in
     let full : length c.loop-place.yielded ≡ c.args.cut.now.parts = omega (
       arith,
       was.left,
       c.in-None.ensures.steps.0,
     ) in
-    firsts_all c.args.job.now c.args.cut.now.parts c.args.cut.now.size
-    c.args.cut.now.classes.items c.loop-place.firsts.items c.requires.cut
-    (subst (λ n. FirstsUpTo c.args.job.now c.args.cut.now.classes.items (n * c.args.cut.now.size)
-    c.loop-place.firsts.items) full was.found)
+    kept_all (task_of c.args.job.now (g.A.Goal.wants c.args.goal.now) (g.A.Goal.means c.args.goal.now)) c.args.cut.now.parts c.args.cut.now.size
+    c.args.cut.now.classes.items c.loop-place.kept.items c.requires.cut
+    (subst (λ n. AreKeptBelow (task_of c.args.job.now (g.A.Goal.wants c.args.goal.now) (g.A.Goal.means c.args.goal.now)) c.args.cut.now.classes.items (n * c.args.cut.now.size)
+    c.loop-place.kept.items) full was.found)

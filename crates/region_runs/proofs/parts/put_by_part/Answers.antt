@@ -4,13 +4,13 @@ use Rattle.region_runs.proofs.ReturnsByPart.{put_more, put_none, put_past}
 use Rattle.region_runs.proofs.parts.put_by_part.Goals as goal
 
 pub loop-done-init : goal.loop-done-init
-loop-done-init c = record {
+loop-done-init g c = record {
   order = c.into_iter-done-iterator.ensures.into_iter_gives.0;
   put = put_none c.args.table.items;
 }
 
 pub loop-done-preserved-then-part-len : goal.loop-done-preserved-then-part-len
-loop-done-preserved-then-part-len c = record {
+loop-done-preserved-then-part-len g c = record {
   order = append_assoc c.loop-done.yielded (c.in-Some.done ∷ []) (into_iter_items c.next.new.self)
       ∙ ap (λ l. c.loop-done.yielded ++ l) (sym c.in-Some.ensures.steps.0)
       ∙ c.loop-done.invariant.order;
@@ -19,7 +19,7 @@ loop-done-preserved-then-part-len c = record {
 }
 
 pub loop-done-preserved-then-part-len-2 : goal.loop-done-preserved-then-part-len-2
-loop-done-preserved-then-part-len-2 c = record {
+loop-done-preserved-then-part-len-2 g c = record {
   order = append_assoc c.loop-done.yielded (c.in-Some.done ∷ []) (into_iter_items c.next.new.self)
       ∙ ap (λ l. c.loop-done.yielded ++ l) (sym c.in-Some.ensures.steps.0)
       ∙ c.loop-done.invariant.order;
@@ -28,7 +28,7 @@ loop-done-preserved-then-part-len-2 c = record {
 }
 
 pub loop-done-preserved : goal.loop-done-preserved
-loop-done-preserved c = record {
+loop-done-preserved g c = record {
   order = append_assoc c.loop-done.yielded (c.in-Some.done ∷ []) (into_iter_items c.next.new.self)
       ∙ ap (λ l. c.loop-done.yielded ++ l) (sym c.in-Some.ensures.steps.0)
       ∙ c.loop-done.invariant.order;

@@ -4,7 +4,7 @@ use Rattle.region_runs.specs.StretchRuns.{ArePut}
 use Rattle.region_runs.proofs.parts.put_by_part.Given as goal
 
 abbrev pub invariant-loop-done : goal.invariant-loop-done
-invariant-loop-done l = record {
+invariant-loop-done g l = record {
   order : l.yielded ++ into_iter_items l.done-iterator ≡ l.fn.dones.items;
   put : ArePut l.fn.table.items l.yielded l.table.items;
 }

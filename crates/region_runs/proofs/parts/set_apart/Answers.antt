@@ -6,14 +6,14 @@ use Rattle.region_runs.proofs.ReturnsByPart.{apart_more, apart_none}
 use Rattle.region_runs.proofs.parts.set_apart.Goals as goal
 
 pub loop-one-init : goal.loop-one-init
-loop-one-init c = record {
+loop-one-init g c = record {
   order = c.into_iter-one-iterator.ensures.into_iter_gives.0;
   apart = subst (λ l. AreApart [] l c.in_ok-dones.dones.items) (sym c.in_ok-seats.ensures.items)
       (subst (AreApart [] []) (sym c.in_ok-dones.ensures.items) apart_none);
 }
 
 pub loop-one-preserved : goal.loop-one-preserved
-loop-one-preserved c = record {
+loop-one-preserved g c = record {
   order = append_assoc c.loop-one.yielded (c.in-Some.one ∷ []) (into_iter_items c.next.new.self)
       ∙ ap (λ l. c.loop-one.yielded ++ l) (sym c.in-Some.ensures.steps.0)
       ∙ c.loop-one.invariant.order;

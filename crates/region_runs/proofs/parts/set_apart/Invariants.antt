@@ -4,7 +4,7 @@ use Rattle.region_runs.specs.Stretches.{AreApart}
 use Rattle.region_runs.proofs.parts.set_apart.Given as goal
 
 abbrev pub invariant-loop-one : goal.invariant-loop-one
-invariant-loop-one l = record {
+invariant-loop-one g l = record {
   order : l.yielded ++ into_iter_items l.one-iterator ≡ l.fn.back.items;
   apart : AreApart l.yielded l.seats.items l.dones.items;
 }

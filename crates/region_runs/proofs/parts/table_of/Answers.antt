@@ -4,7 +4,7 @@ use Rattle.region_runs.proofs.ReturnsByPart.{given_more, given_none}
 use Rattle.region_runs.proofs.parts.table_of.Goals as goal
 
 pub loop-dones-init : goal.loop-dones-init
-loop-dones-init c = record {
+loop-dones-init g c = record {
   order = c.into_iter-dones-iterator.ensures.into_iter_gives.0;
   given = given_none c.args.parts c.in_ok-table.table.items (omega (
     arith,
@@ -14,7 +14,7 @@ loop-dones-init c = record {
 }
 
 pub loop-dones-preserved : goal.loop-dones-preserved
-loop-dones-preserved c = record {
+loop-dones-preserved g c = record {
   order = append_assoc c.loop-dones.yielded (c.in-Some.dones ∷ []) (into_iter_items c.next.new.self)
       ∙ ap (λ l. c.loop-dones.yielded ++ l) (sym c.in-Some.ensures.steps.0)
       ∙ c.loop-dones.invariant.order;

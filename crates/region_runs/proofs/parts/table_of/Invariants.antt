@@ -4,7 +4,7 @@ use Rattle.region_runs.specs.StretchRuns.{AreGivenBack}
 use Rattle.region_runs.proofs.parts.table_of.Given as goal
 
 abbrev pub invariant-loop-dones : goal.invariant-loop-dones
-invariant-loop-dones l = record {
+invariant-loop-dones g l = record {
   order : l.yielded ++ into_iter_items l.dones-iterator ≡ l.fn.back.items;
   given : AreGivenBack l.parts l.yielded l.table.items;
 }

@@ -2,7 +2,6 @@ use Rattle.std.proofs.Common.{◌≡◌, ◌+◌, ◌∙◌, ap, arith, inl, inr
 use Rattle.std.specs.Prelude.{Some, slice_get}
 use Rattle.std.proofs.lemmas.Bool.{cases_eq, cases_lt, false≢true}
 use Rattle.flat_circuit.specs.declared.origin.ListedClass.{ListedClass}
-use Rattle.region_sim.specs.Goals.{is_unknown}
 use Rattle.region_runs.proofs.OpenClasses.{not_settled}
 use Rattle.region_runs.proofs.stretch_run.ask_block.Goals as goal
 
@@ -15,8 +14,8 @@ loop-place-init g c = record {
 pub next_open-place-requires : goal.next_open-place-requires
 next_open-place-requires g c =
     let next = c.requires.next.count in
-    let firsts = c.requires.firsts in
-    omega (arith, next, firsts, c.loop-place-test.true)
+    let kept = c.requires.kept in
+    omega (arith, next, kept, c.loop-place-test.true)
 
 pub loop-place-smaller : goal.loop-place-smaller
 loop-place-smaller g c =
@@ -30,10 +29,10 @@ loop-place-preserved g c =
     let to = c.next_open-place.result in
     let step = c.next_open-place.ensures in
     let end = c.requires.next.within place to step in
-    let firsts = c.requires.firsts in
+    let kept = c.requires.kept in
     let one = c.row_at.result in
     record {
-      within = omega (arith, end, firsts);
+      within = omega (arith, end, kept);
       asked = λ k row lt idle must. (elim (cases_lt k place) [
         | inl x ↦ c.loop-place.invariant.asked k row x idle must
         | inr x ↦ elim (cases_eq k place) [
@@ -44,7 +43,7 @@ loop-place-preserved g c =
               (g.G.Gate.stops c.args.gate.now).must c.args.worker r.class c.args.block) rows
               must) in
               false≢true (sym off ∙ c.pass.ensures.passing c.requires.passing))
-          | inr ne ↦ not_settled is_unknown c.args.rows.now c.args.firsts.now (place + 1) to k row
+          | inr ne ↦ not_settled (g.A.Goal.wants c.args.goal.now) c.args.rows.now c.args.kept.now (place + 1) to k row
               (c.requires.next.between place to step) (omega (arith, x, ne)) lt idle
         ]
       ]);

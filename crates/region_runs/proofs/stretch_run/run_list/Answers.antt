@@ -1,63 +1,52 @@
 use Rattle.std.proofs.Common.{◌≡◌, ◌++◌, ◌∙◌, All, ap, arith, length, subst, sym}
 use Rattle.patterns.specs.Tests.{TestList, blocks}
-use Rattle.region_sim.specs.Goals.{is_unknown}
-use Rattle.region_sim.specs.OpenPlaces.{AreNextOpen}
 use Rattle.block_sim.specs.Listed.{IsListed}
 use Rattle.region_sim.specs.ClassOrder.{classes_of}
 use Rattle.region_runs.specs.BlockSweeps.{AreDeadFrom}
-use Rattle.region_runs.specs.StretchRuns.{AreFoundUpTo, HasEnded}
-use Rattle.region_runs.proofs.DeadClasses.{has_ended, live_next, live_none}
+use Rattle.region_runs.specs.StretchRuns.{AreKeptUpTo, HasEnded}
+use Rattle.region_runs.specs.Tasks.{IsSound, task_of}
+use Rattle.region_runs.proofs.DeadClasses.{get_left, has_ended, live_none}
 use Rattle.region_runs.proofs.stretch_run.run_list.Goals as goal
 
 pub run_rows-stop-requires-clause-none : goal.run_rows-stop-requires-clause-none
 run_rows-stop-requires-clause-none g c =
-    let job = c.args.job.now in
+    let goal = c.args.goal.now in
+    let task = task_of c.args.job.now (g.A.Goal.wants goal) (g.A.Goal.means goal) in
     let live = c.split_at.result.0.now in
     let dead = c.split_at.result.1.now in
-    live_none job c.tests.ensures.together live dead c.split_at_mut-found.result.0.now
+    live_none task live dead c.split_at_mut-found.result.0.now
     c.split_at_mut-found.result.1.now c.split_at_mut-found.ensures.front_len
-    (subst (AreFoundUpTo job (classes_of (live ++ dead)) 0 0) c.split_at_mut-found.ensures.value
-    (subst (λ l. AreFoundUpTo job (classes_of l) 0 0 c.args.firsts.now)
+    (subst (AreKeptUpTo task (classes_of (live ++ dead)) 0 0) c.split_at_mut-found.ensures.value
+    (subst (λ l. AreKeptUpTo task (classes_of l) 0 0 c.args.kept.now)
     c.split_at.ensures.by_index.0 c.requires.none))
-
-pub run_rows-stop-requires-clause-next : goal.run_rows-stop-requires-clause-next
-run_rows-stop-requires-clause-next g c =
-    let job = c.args.job.now in
-    let live = c.split_at.result.0.now in
-    let dead = c.split_at.result.1.now in
-    live_next job c.tests.ensures.together live dead c.split_at_mut-found.result.0.now
-    c.split_at_mut-found.result.1.now c.split_at_mut-found.ensures.front_len
-    (subst (AreFoundUpTo job (classes_of (live ++ dead)) 0 0) c.split_at_mut-found.ensures.value
-    (subst (λ l. AreFoundUpTo job (classes_of l) 0 0 c.args.firsts.now)
-    c.split_at.ensures.by_index.0 c.requires.none))
-    c.split_at_mut-open.result.0.now c.split_at_mut-open.result.1.now
-    c.split_at_mut-open.ensures.front_len
-    (subst (AreNextOpen is_unknown (c.split_at_mut-found.result.0.now ++
-    c.split_at_mut-found.result.1.now))
-    c.split_at_mut-open.ensures.value
-    (subst (λ l. AreNextOpen is_unknown l c.args.next.now) c.split_at_mut-found.ensures.value
-    c.requires.next))
 
 pub returns-clause-ended : goal.returns-clause-ended
 returns-clause-ended g c =
+    let goal = c.args.goal.now in
     let job = c.args.job.now in
+    let task = task_of job (g.A.Goal.wants goal) (g.A.Goal.means goal) in
+    let sound : IsSound task = record {
+      agrees = g.A.Goal.agrees goal;
+      stays = g.A.Goal.stays goal;
+      unchanged = g.A.Goal.unchanged goal;
+    } in
     let rows = c.args.rows.now in
     let live = c.split_at.result.0.now in
     let dead = c.split_at.result.1.now in
     let is : rows ≡ live ++ dead = c.split_at.ensures.by_index.0 in
-    let found = c.run_rows-stop.new.firsts in
+    let found = c.run_rows-stop.new.kept in
     let rest = c.split_at_mut-found.result.1.now in
     let count = c.blocks-blocks.ensures
     ∙ ap (λ (t : TestList). blocks (length t.tests)) c.tests.ensures.part in
-    subst (λ l. HasEnded job (classes_of l) c.args.worker (g.G.Gate.stops c.args.gate.now)
+    subst (λ l. HasEnded task (classes_of l) c.args.worker (g.G.Gate.stops c.args.gate.now)
     c.run_rows-stop.result (found ++ rest)) (sym is)
-    (has_ended job c.tests.ensures.together live dead
+    (has_ended task c.tests.ensures.together live dead
     (subst (All (IsListed job)) is c.requires.rows)
     (subst (λ l. AreDeadFrom job l (length live)) is
     (subst (AreDeadFrom job rows) (sym c.split_at.ensures.front_len) c.live_end.ensures.dead))
-    c.split_at_mut-found.result.0.now rest c.split_at_mut-found.ensures.front_len
-    (subst (AreFoundUpTo job (classes_of (live ++ dead)) 0 0) c.split_at_mut-found.ensures.value
-    (subst (λ l. AreFoundUpTo job (classes_of l) 0 0 c.args.firsts.now) is c.requires.none))
+    sound c.split_at_mut-found.result.0.now rest c.split_at_mut-found.ensures.front_len
+    (subst (AreKeptUpTo task (classes_of (live ++ dead)) 0 0) c.split_at_mut-found.ensures.value
+    (subst (λ l. AreKeptUpTo task (classes_of l) 0 0 c.args.kept.now) is c.requires.none))
     c.args.worker (g.G.Gate.stops c.args.gate.now) c.run_rows-stop.result found
     (c.run_rows-stop.ensures.passing (c.lets_all_pass.ensures c.if-not-lets_all_pass.false))
     c.run_rows-stop.ensures.ended

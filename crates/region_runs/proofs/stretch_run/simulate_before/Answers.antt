@@ -4,7 +4,7 @@ use Rattle.region_runs.proofs.DeadClasses.{get_behind, get_left}
 use Rattle.region_runs.proofs.stretch_run.simulate_before.Goals as goal
 
 pub returns-clause-taken : goal.returns-clause-taken
-returns-clause-taken c = λ k row lt at.
+returns-clause-taken g c = λ k row lt at.
     let front = c.split_at.result.0.now in
     let back = c.split_at.result.1.now in
     let own = c.split_at_mut-found.result.0.now in
@@ -25,7 +25,7 @@ returns-clause-taken c = λ k row lt at.
     )
 
 pub returns-clause-others : goal.returns-clause-others
-returns-clause-others c = λ k le.
+returns-clause-others g c = λ k le.
     let own = c.split_at_mut-found.result.0.now in
     let rest = c.split_at_mut-found.result.1.now in
     let now = c.simulate.new.kept in

@@ -1,14 +1,11 @@
 use Rattle.std.proofs.Common.{◌+◌, ◌∙◌, ap, IfSome, None}
 use Rattle.std.proofs.lemmas.List.Elements.{All-push, All-same}
-use Rattle.std.specs.Prelude.{Option}
-use Rattle.region_runs.specs.declared.stretch_workers.Done.{Done}
 use Rattle.region_runs.proofs.stretch_workers.empty_table.Goals as goal
 
 pub loop-part-preserved : goal.loop-part-preserved
-loop-part-preserved c = record {
+loop-part-preserved g c = record {
   count = c.in_ok-push.ensures.len ∙ ap (λ n. n + 1) c.loop-part.invariant.count;
-  none = All-same (λ (at : Option Done). IfSome at (λ _. ⊥)) c.push.new.self.items _
-      c.in_ok-push.ensures.items
-      (All-push (λ (at : Option Done). IfSome at (λ _. ⊥)) c.loop-part.table.items None
+  none = All-same (λ at. IfSome at (λ _. ⊥)) c.push.new.self.items _ c.in_ok-push.ensures.items
+      (All-push (λ at. IfSome at (λ _. ⊥)) c.loop-part.table.items None
       c.loop-part.invariant.none tt);
 }

@@ -2,7 +2,7 @@ use Rattle.std.proofs.Common.{◌≡◌, All, IfSome, vec_len}
 use Rattle.region_runs.proofs.stretch_workers.empty_table.Given as goal
 
 abbrev pub invariant-loop-part : goal.invariant-loop-part
-invariant-loop-part l = record {
+invariant-loop-part g l = record {
   count : vec_len l.table ≡ l._part;
   none : All (λ at. IfSome at (λ _. ⊥)) l.table.items;
 }

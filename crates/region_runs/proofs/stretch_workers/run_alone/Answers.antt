@@ -1,11 +1,11 @@
-use Rattle.std.proofs.Common.{◌≡◌, ◌∙◌, ◌<◌, All, ap, arith, length, subst, sym}
+use Rattle.std.proofs.Common.{◌<◌, ◌≡◌, ◌∙◌, All, ap, arith, length, subst, sym}
 use Rattle.block_sim.specs.Listed.{IsListed}
-use Rattle.region_runs.specs.StretchRuns.{AreFoundUpTo}
-use Rattle.region_sim.specs.Goals.{is_unknown}
-use Rattle.region_sim.specs.OpenPlaces.{AreNextOpen}
 use Rattle.region_sim.specs.ClassOrder.{classes_of}
+use Rattle.region_sim.specs.OpenPlaces.{AreSuccessors}
+use Rattle.region_runs.specs.StretchRuns.{AreKeptUpTo}
+use Rattle.region_runs.specs.Tasks.{task_of}
+use Rattle.region_runs.proofs.ClaimedStretches.{starts_kept}
 use Rattle.region_runs.proofs.PartsOfClasses.{stretch_within}
-use Rattle.region_runs.proofs.ClaimedStretches.{none_found}
 use Rattle.region_runs.proofs.stretch_workers.run_alone.Goals as goal
 
 pub rows_of-requires : goal.rows_of-requires
@@ -22,23 +22,17 @@ run_list-stop-requires-clause-rows g c =
 
 pub run_list-stop-requires-clause-none : goal.run_list-stop-requires-clause-none
 run_list-stop-requires-clause-none g c =
-    let sized = c.in_ok-firsts.firsts.ok.0 in
+    let goal = c.args.goal.now in
+    let task = task_of c.args.job.now (g.A.Goal.wants goal) (g.A.Goal.means goal) in
+    let sized = c.in_ok-kept.kept.ok.0 in
     let own = c.stretch-own.result.now in
     let same : classes_of c.as_slice-listed.result.now ≡ own =
     ap classes_of c.as_slice-listed.ensures.value ∙ c.in_ok-rows.ensures.same in
-    subst (λ l. AreFoundUpTo c.args.job.now l 0 0 c.as_mut_slice-found.result.now) (sym same)
-    (subst (AreFoundUpTo c.args.job.now own 0 0) (sym c.as_mut_slice-found.ensures.value)
-    (none_found c.args.job.now own c.in_ok-firsts.firsts.items (omega (
-      arith,
-      sized,
-      c.in_ok-firsts.ensures.count,
-    )) c.in_ok-firsts.ensures.none))
+    subst (λ l. AreKeptUpTo task l 0 0 c.as_mut_slice-found.result.now) (sym same)
+    (subst (AreKeptUpTo task own 0 0) (sym c.as_mut_slice-found.ensures.value)
+    (starts_kept task own c.in_ok-kept.kept.items
+    (omega (arith, sized, c.in_ok-kept.ensures.count)) c.in_ok-kept.ensures.first))
 
 pub run_list-stop-requires-clause-next : goal.run_list-stop-requires-clause-next
 run_list-stop-requires-clause-next g c =
-    subst (λ l. AreNextOpen is_unknown l c.as_mut_slice-next.result.now)
-    (sym c.as_mut_slice-found.ensures.value)
-    (subst (AreNextOpen is_unknown c.in_ok-firsts.firsts.items)
-    (sym c.as_mut_slice-next.ensures.value)
-    (subst (λ l. AreNextOpen is_unknown l c.in_ok-open.open.items) c.as_slice.ensures.value
-    c.in_ok-open.ensures))
+    subst AreSuccessors (sym c.as_mut_slice-next.ensures.value) c.in_ok-open.ensures.next

@@ -1,5 +1,5 @@
 use Rattle.std.proofs.lemmas.Result.{err_from_is_err_and}
-use Rattle.analysis_reports.specs.Detected.{IsCountFault}
+use Rattle.region_runs.specs.Refused.{IsOpenFault}
 use Rattle.report.specs.EndToEnd.{IsJobReportFault}
 use Rattle.analysis_reports.specs.Histogram.{IsCountedFault}
 use Rattle.report.proofs.Public.{refused_as}
@@ -28,7 +28,7 @@ returns-clause-written g c =
 
 pub returns-clause-refused : goal.returns-clause-refused
 returns-clause-refused g c =
-    refused_as (IsJobReportFault c.args.workers (IsCountFault c.args.workers))
+    refused_as (IsJobReportFault c.args.workers (IsOpenFault c.args.workers))
     (IsCountedFault c.args.model c.args.bench.now c.args.tests.now c.args.split c.args.workers)
     c.write_histogram.result (counted_fault c.args.model c.args.bench.now c.args.tests.now
     c.args.split c.in_ok-job._parts c.args.workers c.in_ok-job.job c.in_ok-job.ensures.job

@@ -5,6 +5,7 @@ use Rattle.std.proofs.lemmas.Option.{get_or_from_slice_get, slice_get_within}
 use Rattle.std.proofs.iter.Serving.{serving}
 use Rattle.fault_ledger.specs.Seats.{newcomer}
 use Rattle.workers.proofs.Public.{own_newcomer}
+use Rattle.region_runs.specs.Tasks.{task_of}
 use Rattle.region_runs.proofs.ClaimedStretches.{newcomer_at, seats_count, served_along}
 use Rattle.region_runs.proofs.stretch_workers.fn.take_parts.scope.Goals as goal
 
@@ -40,6 +41,7 @@ loop-seat-preserved g c =
     let promised = c.in-Ok.ensures.ok in
     let job = c.captures.job.now in let ledger = c.captures.ledger.now in
     let gate = c.captures.gate.now in let cut = c.captures.cut.now in
+    let aim = c.captures.goal.now in
     record {
       sum = omega (arith, grown, was.sum, step.1);
       left = λ k d lt.
@@ -50,20 +52,22 @@ loop-seat-preserved g c =
       each = λ k d lt.
           below_more (λ i. let p = (get_or (vec_items c.push.new.self) i d).promise in
           (p.job.value ≡ job) × (p.ledger.value ≡ ledger) × (p.gate.value ≡ gate)
-          × (p.worker ≡ i) × (p.cut.value ≡ cut)) done
+          × (p.worker ≡ i) × (p.cut.value ≡ cut) × (p.goal.value ≡ aim)) done
           (λ i low. subst (λ x. (x.promise.job.value ≡ job) × (x.promise.ledger.value ≡ ledger)
           × (x.promise.gate.value ≡ gate) × (x.promise.worker ≡ i)
-          × (x.promise.cut.value ≡ cut)) (sym (by.0 i d low)) (was.each i d low))
+          × (x.promise.cut.value ≡ cut) × (x.promise.goal.value ≡ aim)) (sym (by.0 i d low)) (was.each i d low))
           (let at = by.1 d (search rules) in (
             ap (λ x. x.promise.job.value) at ∙ ap (λ p. p.job.value) promised ∙ c.of.ensures,
             ap (λ x. x.promise.ledger.value) at ∙ ap (λ p. p.ledger.value) promised
                 ∙ c.of-in-loop-seat-2.ensures,
             ap (λ x. x.promise.gate.value) at ∙ ap (λ p. p.gate.value) promised
-                ∙ c.of-in-loop-seat-3.ensures,
+                ∙ c.of-in-loop-seat-4.ensures,
             ap (λ x. x.promise.worker) at ∙ ap (λ p. p.worker) promised ∙ c.worker.ensures.worker
                 ∙ ap (λ s. s.worker) seat ∙ omega arith,
             ap (λ x. x.promise.cut.value) at ∙ ap (λ p. p.cut.value) promised
                 ∙ c.of-in-loop-seat.ensures,
+            ap (λ x. x.promise.goal.value) at ∙ ap (λ p. p.goal.value) promised
+                ∙ c.of-in-loop-seat-3.ensures,
           ))
           k (omega (arith, lt, grown));
     }
@@ -108,14 +112,17 @@ returns g c =
             let low : w < vec_len c.loop-seat.handles = omega (arith, lt, sized, len) in
             let k = (c.in_ok-back.ensures.each w one low).1 in
             let i = was.each w k.handle low in
-            served_along (get_or c.in_ok-back.back.items w one) one
+            served_along (λ j v. task_of j (g.A.Goal.wants v) (g.A.Goal.means v))
+            (get_or c.in_ok-back.back.items w one) one
             k.handle.promise.job.value c.captures.job.now
+            k.handle.promise.goal.value c.captures.goal.now
             k.handle.promise.cut.value c.captures.cut.now
             k.handle.promise.ledger.value c.captures.ledger.now k.handle.promise.worker w
             (g.G.Gate.passing k.handle.promise.gate.value) (g.G.Gate.passing c.captures.gate.now)
             (g.G.Gate.stops k.handle.promise.gate.value) (g.G.Gate.stops c.captures.gate.now)
             (get_or_from_slice_get c.in_ok-back.back.items w one one e)
             (ap (λ x. x.promise.job.value) k.handle_is ∙ i.0)
+            (ap (λ x. x.promise.goal.value) k.handle_is ∙ i.5)
             (ap (λ x. x.promise.cut.value) k.handle_is ∙ i.4)
             (ap (λ x. x.promise.ledger.value) k.handle_is ∙ i.1)
             (ap (λ x. x.promise.worker) k.handle_is ∙ i.3)

@@ -17,5 +17,6 @@ invariant-loop-seat g l =
           × ((get_or (vec_items l.handles) k d).promise.ledger.value ≡ l.ledger.now)
           × ((get_or (vec_items l.handles) k d).promise.gate.value ≡ l.gate.now)
           × ((get_or (vec_items l.handles) k d).promise.worker ≡ k)
-          × ((get_or (vec_items l.handles) k d).promise.cut.value ≡ l.cut.now);
+          × ((get_or (vec_items l.handles) k d).promise.cut.value ≡ l.cut.now)
+          × ((get_or (vec_items l.handles) k d).promise.goal.value ≡ l.goal.now);
     }

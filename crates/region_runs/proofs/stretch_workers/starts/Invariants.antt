@@ -1,0 +1,8 @@
+use Rattle.std.proofs.Common.{◌≡◌, ℕ, All, Bool, vec_len}
+use Rattle.region_runs.proofs.stretch_workers.starts.Given as goal
+
+abbrev pub invariant-loop-place : goal.invariant-loop-place
+invariant-loop-place g l = record {
+  count : vec_len l.kept ≡ l._place;
+  first : All (λ one. (hits : ℕ → Bool) → g.A.Goal.means l.goal hits 0 0 one) l.kept.items;
+}
