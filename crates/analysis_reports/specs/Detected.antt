@@ -1,5 +1,5 @@
 -- The text of the detection counts of faults.
-use Rattle.std.specs.Prelude.{◌≡◌, ℕ, ◌<◌, ◌≤◌, Bool, List, [], ◌++◌, count_by, codes, decimal}
+use Rattle.std.specs.Prelude.{◌≡◌, ℕ, Bool, List, [], ◌++◌, count_by, codes, decimal}
 use Rattle.std.specs.Prelude.{flat_map, if◌then◌else◌, length, nat_le, zip}
 use Rattle.bench_net.specs.Statement.{Statement}
 use Rattle.bench_net.specs.Refusal.{IsAccepted}
@@ -9,7 +9,6 @@ use Rattle.fault_model.specs.Fault.{Fault, faults}
 use Rattle.patterns.specs.Tests.{TestList, HasTests}
 use Rattle.block_sim.specs.Parts.{Parts}
 use Rattle.n_detect.specs.Detections.{AreCounts}
-use Rattle.region_runs.specs.Refused.{IsOpenFault}
 use Rattle.report.specs.Report.{coverage_line, fault_text}
 
 -- a line: `FAULT COUNT`

@@ -1,27 +1,40 @@
 -- The last tests of the classes of a job.
-use Rattle.std.proofs.Common.{◌≡◌, ◌<◌, ◌≤◌, ◌+◌, ◌-◌, ◌*◌, ◌/◌, ◌∙◌, ◌⊎◌, ℕ, Bool, true, false}
-use Rattle.std.proofs.Common.{List, ap, arith, get_or, inl, inr, length, replicate, refl}
+use Rattle.std.proofs.Common.{◌≡◌, ◌<◌, ◌≤◌, ◌+◌, ◌-◌, ◌*◌, ◌^◌, ◌==◌, ◌∙◌, ◌⊎◌, ℕ, suc, Bool, true}
+use Rattle.std.proofs.Common.{false, List, ap, arith, get_or, inl, inr, length, replicate, refl}
 use Rattle.std.proofs.Common.{subst, sym}
-use Rattle.std.specs.Prelude.{◌||◌, Contains, None, Option, Some, slice_get, slice_index_or}
-use Rattle.std.specs.Prelude.{unwrap_or}
-use Rattle.std.proofs.lemmas.Bool.{cases_lt}
+use Rattle.std.specs.Int.{bit_at}
+use Rattle.std.specs.Prelude.{◌||◌, Contains, None, Option, Some, slice_get, slice_index}
+use Rattle.std.specs.Prelude.{slice_index_or, unwrap_or}
+use Rattle.std.proofs.lemmas.Bool.{cases_lt, false≢true}
 use Rattle.std.proofs.lemmas.List.{get_or-replicate, length-replicate}
+use Rattle.std.proofs.Math.Nat.{pow-succ'}
+use Rattle.std.proofs.lemmas.Nat.Bits.{bit_at_above, bit_at_cat_high}
 use Rattle.std.proofs.lemmas.Option.{get_or_from_slice_get, slice_get-get_or, slice_get_within}
 use Rattle.list_lemmas.proofs.Places.{place_within, within_place}
-use Rattle.fault_model.specs.Collapse.{IsClassOf, representatives}
+use Rattle.counting_sort.specs.SortedPlaces.{ArePositions}
+use Rattle.fault_model.specs.Collapse.{IsClassOf}
 use Rattle.fault_model.specs.Detection.{DetectsAt}
+use Rattle.fault_model.specs.Collapse.{representatives}
 use Rattle.fault_model.specs.Fault.{Fault, faults}
 use Rattle.fault_model.proofs.Public.{own_class}
 use Rattle.patterns.specs.Tests.{blocks}
-use Rattle.block_sim.specs.First.{AreDetecting}
 use Rattle.block_sim.specs.Parts.{BelongTogether, Parts}
+use Rattle.block_sim.proofs.Public.{which_detect}
 use Rattle.flat_circuit.specs.Words.{lane}
-use Rattle.flat_circuit.proofs.Public.{representative_at}
+use Rattle.flat_circuit.proofs.Public.{lane_zero, representative_at}
+use Rattle.region_sim.specs.Goals.{AreHits, TellHits}
+use Rattle.region_runs.specs.Tasks.{AreKept, task_of}
 use Rattle.compaction.specs.Compaction.{IsLastForSome, is_first}
-use Rattle.compaction.specs.Marks.{AreLasting, IsLast, IsLastLane, IsLastOfClass}
+use Rattle.compaction.specs.LastHits.{IsLastHit}
+use Rattle.compaction.specs.LastHitLaws.{last_unchanged}
+use Rattle.compaction.specs.Marks.{AreLastAt, AreLasting, IsLast, IsLastOfClass}
 use Rattle.compaction.proofs.DetectedClasses.{class_count}
 use Rattle.compaction.proofs.KeptTests.{first_own, or_cases, or_left, or_right, own_first}
 use Rattle.compaction.proofs.OrderedTests.{as_class, as_fault, class_of}
+
+bit_cases : (b : Bool) → (b ≡ true) ⊎ (b ≡ false)
+bit_cases true = inl refl
+bit_cases false = inr refl
 
 -- the last tests of the first classes of a job are marked
 pub record AreLastMarks (job : Parts) (classes : ℕ) (marks : List Bool) : Type 0 where
@@ -33,104 +46,115 @@ pub record AreLastMarks (job : Parts) (classes : ℕ) (marks : List Bool) : Type
 
 -- ---- lanes of a word
 
-pub lane_none : (word : ℕ) → IsLastLane word 0 None
-lane_none word j lt = absurd (omega (arith, lt))
+-- the lane of the highest bit is 1
+pub top_lane : (word k : ℕ) → 2 ^ k ≤ word → word < 2 * 2 ^ k → lane word k ≡ true
+top_lane word k low high =
+    let whole : 1 * 2 ^ k + (word - 2 ^ k) ≡ word = omega (arith, low) in
+    let one : bit_at word k ≡ 1 =
+    subst (λ w. bit_at w k ≡ 1) whole (bit_at_cat_high 1 k (word - 2 ^ k) k (omega
+    (arith, high, low))
+    (omega arith) ∙ ap (bit_at 1) (let none : k - k ≡ 0 = omega arith in none)) in
+    ap (λ b. b == 1) one
 
-pub lane_new : (word n : ℕ) → lane word n ≡ true → IsLastLane word (n + 1) (Some n)
-lane_new word n on = (omega arith, on, λ j lt low. absurd (omega (arith, lt, low)))
+-- and no lane above it is
+pub no_lane_above : (word k j : ℕ) → word < 2 * 2 ^ k → k < j → lane word j ≡ false
+no_lane_above word k j high above =
+    let past : word < 2 ^ suc k = subst (λ n. word < n) (sym (pow-succ' 2 k)) high in
+    ap (λ b. b == 1) (bit_at_above word (suc k) j past (omega (arith, above)))
 
-pub lane_kept : (word n : ℕ) (last : Option ℕ) → lane word n ≡ false → IsLastLane word n last
-    → IsLastLane word (n + 1) last
-lane_kept word n None off is = λ j lt. go j lt (cases_lt j n)
-  where
-    go : (j : ℕ) → j < n + 1 → (j < n) ⊎ (n ≤ j) → lane word j ≡ false
-    go j lt (inl low) = is j low
-    go j lt (inr past) = let same : j ≡ n = omega (arith, lt, past) in
-        ap (lane word) same ∙ off
-lane_kept word n (Some k) off is =
-    (let low = is.0 in omega (arith, low), is.1, λ j after lt. go j after lt (cases_lt j n))
-  where
-    go : (j : ℕ) → k < j → j < n + 1 → (j < n) ⊎ (n ≤ j) → lane word j ≡ false
-    go j after lt (inl low) = is.2 j after low
-    go j after lt (inr past) = let same : j ≡ n = omega (arith, lt, past) in
-        ap (lane word) same ∙ off
+module _ (hits : ℕ → Bool) (first low from to word : ℕ) (le : low ≤ from)
+    (tells : TellHits true hits first from to word) where
+  -- the highest lane is the last hit
+  pub last_taken : (k : ℕ) → k < 128 → 2 ^ k ≤ word → word < 2 * 2 ^ k
+      → IsLastHit hits low to (Some (first + k))
+  last_taken k small under over =
+      let r = tells.right k small (top_lane word k under over) in
+      let above = r.0 in (
+        omega (arith, le, above),
+        r.1,
+        r.2,
+        λ later after below. go later after below (bit_cases (hits later)),
+      )
+    where
+      go : (later : ℕ) → first + k < later → later < to
+          → (hits later ≡ true) ⊎ (hits later ≡ false) → hits later ≡ false
+      go later after below (inr off) = off
+      go later after below (inl on) =
+          let r = tells.right k small (top_lane word k under over) in
+          let from_first = r.0 in
+          let j = later - first in
+          let same : first + j ≡ later = omega (arith, after) in
+          let lit = tells.whole j (omega (arith, same, after, from_first))
+          (omega (arith, same, below)) (ap hits same ∙ on) (inl refl) in
+          absurd (false≢true (sym (no_lane_above word k j over (omega (arith, same, after))) ∙ lit))
+
+  -- without a lane the last hit stays
+  pub none_taken : (kept : Option ℕ) → word ≡ 0 → IsLastHit hits low from kept
+      → IsLastHit hits low to kept
+  none_taken kept none was =
+      let ordered = tells.ordered in
+      last_unchanged kept hits low from to ordered
+      (λ t above below. go t above below (bit_cases (hits t))) was
+    where
+      go : (t : ℕ) → from ≤ t → t < to → (hits t ≡ true) ⊎ (hits t ≡ false) → hits t ≡ false
+      go t above below (inr off) = off
+      go t above below (inl on) =
+          let start = tells.low in
+          let j = t - first in
+          let same : first + j ≡ t = omega (arith, above, start) in
+          let lit = tells.whole j (omega (arith, same, above)) (omega (arith, same, below))
+          (ap hits same ∙ on) (inl refl) in
+          absurd (false≢true (sym (ap (λ w. lane w j) none ∙ lane_zero j) ∙ lit))
 
 -- ---- the last test of a class
 
--- no test from this one on detects the representative of the class
-abbrev pub NoneFrom : Parts → ℕ → ℕ → Type 0
-NoneFrom job class first = (r : Fault) (t : ℕ)
-    → slice_get (representatives job.list.model job.circuit) class ≡ Some r → first ≤ t
-    → ¬ DetectsAt job.circuit job.tests.tests r t
-
-pub none_past : (job : Parts) (class n : ℕ) → blocks (length job.tests.tests) ≤ n
-    → NoneFrom job class (64 * n)
-none_past job class n all = λ r t at le d.
-    let lt = slice_get_within job.tests.tests t d.0 d.1 in
-    let long : (length job.tests.tests + 63) / 64 ≤ n = all in
-    omega (arith, long, le, lt)
-
-module _ (job : Parts) (class block word : ℕ)
-    (lanes : AreDetecting job.list.model job.circuit job.tests.tests class block word) where
-  same_fault : (r : Fault)
-      → slice_get (representatives job.list.model job.circuit) class ≡ Some r → lanes.0 ≡ r
-  same_fault r at = ap (λ o. unwrap_or o r) (sym lanes.1 ∙ at)
-
-  -- a test of the block that detects the class has a lane that is 1
-  lane_on : (r : Fault) (t : ℕ)
-      → slice_get (representatives job.list.model job.circuit) class ≡ Some r
-      → 64 * block ≤ t → t < 64 * (block + 1) → DetectsAt job.circuit job.tests.tests r t
-      → lane word (t - 64 * block) ≡ true
-  lane_on r t at le lt d =
-      let k = t - 64 * block in
-      let low : t - 64 * block < 64 = omega (arith, le, lt) in
-      let number : t ≡ 64 * block + (t - 64 * block) = omega (arith, le) in
-      (lanes.2 k low).1
-      (subst (λ n. DetectsAt job.circuit job.tests.tests lanes.0 n) number
-      (subst (λ f. DetectsAt job.circuit job.tests.tests f t) (sym (same_fault r at)) d))
-
-  pub none_more : NoneFrom job class (64 * (block + 1)) → IsLastLane word 64 None
-      → NoneFrom job class (64 * block)
-  none_more none is = λ r t at le d. go r t at le d (cases_lt t (64 * (block + 1)))
-    where
-      go : (r : Fault) (t : ℕ)
-          → slice_get (representatives job.list.model job.circuit) class ≡ Some r
-          → 64 * block ≤ t → DetectsAt job.circuit job.tests.tests r t
-          → (t < 64 * (block + 1)) ⊎ (64 * (block + 1) ≤ t) → ⊥
-      go r t at le d (inl low) =
-          let small : t - 64 * block < 64 = omega (arith, le, low) in
-          let bad : false ≡ true = sym (is (t - 64 * block) small) ∙ lane_on r t at le low d in cc
-      go r t at le d (inr past) = none r t at past d
-
-  pub last_here : (k : ℕ) → NoneFrom job class (64 * (block + 1)) → IsLastLane word 64 (Some k)
-      → IsLastOfClass job class (Some (64 * block + k))
-  last_here k none is = (
-    lanes.0,
-    lanes.1,
-    (
-      (lanes.2 k is.0).0 is.1,
-      λ later after d. go later after d (cases_lt later (64 * (block + 1))),
-    ),
-  )
-    where
-      go : (later : ℕ) → 64 * block + k < later
-          → DetectsAt job.circuit job.tests.tests lanes.0 later
-          → (later < 64 * (block + 1)) ⊎ (64 * (block + 1) ≤ later) → ⊥
-      go later after d (inl low) =
-          let le : 64 * block ≤ later = omega (arith, after) in
-          let behind : k < later - 64 * block = omega (arith, after) in
-          let small : later - 64 * block < 64 = omega (arith, le, low) in
-          let bad : false ≡ true = sym (is.2 (later - 64 * block) behind small)
-          ∙ lane_on lanes.0 later lanes.1 le low d in cc
-      go later after d (inr past) = none lanes.0 later lanes.1 past d
-
-pub none_last : (job : Parts) (class : ℕ) → BelongTogether job
-    → class < length job.classes.representative → NoneFrom job class 0
-    → IsLastOfClass job class None
-none_last job class b lt none =
+-- a class has hits
+class_hits : (job : Parts) → BelongTogether job → (class : ℕ)
+    → class < length job.classes.representative → (hits : ℕ → Bool) × AreHits job class hits
+class_hits job b class lt =
     let k = within_place job.classes.representative class lt in
     let r = representative_at job.list.model job.circuit job.classes class k.0 b.classes k.1 in
-    (r.0, r.2, λ t d. none r.0 t r.2 (omega arith) d)
+    let w = which_detect job.list.model job.circuit job.tests.tests class r.0
+    b.circuit.well_formed r.2 in
+    (w.0, (r.0, r.2, w.1))
+
+-- the last hit of all tests is the last test
+last_is : (job : Parts) (class : ℕ) (hits : ℕ → Bool) (h : AreHits job class hits)
+    (last : Option ℕ) → IsLastHit hits 0 (64 * blocks (length job.tests.tests)) last
+    → IsLast job.circuit job.tests.tests h.0 last
+last_is job class hits h None is = λ t d.
+    let lt = slice_get_within job.tests.tests t d.0 d.1 in
+    false≢true (sym (is t (omega arith) (omega (arith, lt))) ∙ (h.2 t).1 d)
+last_is job class hits h (Some s) is = (
+  (h.2 s).0 is.2,
+  λ later after d.
+      let lt = slice_get_within job.tests.tests later d.0 d.1 in
+      false≢true (sym (is.3 later after (omega (arith, lt))) ∙ (h.2 later).1 d),
+)
+
+-- what a run keeps of all classes is the last test of each at its position
+pub lasts_at : (job : Parts) (classes positions : List ℕ) (lasts : List (Option ℕ))
+    → BelongTogether job → ArePositions classes positions
+    → length positions ≡ length job.classes.representative
+    → AreKept (task_of job (λ _. true) IsLastHit) classes lasts → AreLastAt job positions lasts
+lasts_at job classes positions lasts b placed long are = record {
+  count = long;
+  within = λ class lt.
+      let low = slice_get_within classes (slice_index positions class) class (there class lt) in
+      let same = are.count in
+      omega (arith, low, same);
+  each = λ class last lt at.
+      let h = class_hits job b class lt in (
+        h.1.0,
+        h.1.1,
+        last_is job class h.0 h.1 last
+            (are.each h.0 (slice_index positions class) class last (there class lt) at h.1),
+      );
+}
+  where
+    there : (class : ℕ) → class < length job.classes.representative
+        → slice_get classes (slice_index positions class) ≡ Some class
+    there class lt = placed.each class (omega (arith, lt, long))
 
 -- ---- the marks of the last tests
 

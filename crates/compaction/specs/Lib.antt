@@ -3,3 +3,5 @@ pub mod Detections
 pub mod Marks
 pub mod News
 pub mod Steepest
+pub mod LastHits
+pub mod LastHitLaws

@@ -1,6 +1,6 @@
 -- The invariants of the marks and of the rows between the two passes.
 use Rattle.std.specs.Prelude.{◌≡◌, ◌+◌, ◌<◌, ◌||◌, ℕ, Bool, true, false, List, length, Contains}
-use Rattle.std.specs.Prelude.{None, Option, Some, slice_get, slice_index_or}
+use Rattle.std.specs.Prelude.{None, Option, Some, slice_get, slice_index, slice_index_or}
 use Rattle.bench_net.specs.Statement.{Statement}
 use Rattle.fault_model.specs.declared.Model.{Model}
 use Rattle.fault_model.specs.declared.Model.TheVariants.{StuckAt}
@@ -10,7 +10,6 @@ use Rattle.fault_model.specs.Detection.{DetectsAt}
 use Rattle.fault_model.specs.Collapse.{representatives}
 use Rattle.block_sim.specs.First.{IsFirst}
 use Rattle.block_sim.specs.Parts.{Parts}
-use Rattle.flat_circuit.specs.Words.{lane}
 use Rattle.compaction.specs.Compaction.{Covers, IsFirstForSome, IsLastForSome, IsSublist}
 use Rattle.compaction.specs.Compaction.{at_marks}
 
@@ -45,12 +44,6 @@ AreLastPairsOf m c tests kept given numbers = (last inner : List Bool)
     × AreLasting m c tests last × AreWithBefore last inner × (kept ≡ at_marks inner tests)
     × (numbers ≡ at_marks inner given)
 
--- the last lane of the first ones of a word that is 1, if there is one
-abbrev pub IsLastLane : ℕ → ℕ → Option ℕ → Type 0
-IsLastLane word lanes None = (j : ℕ) → j < lanes → lane word j ≡ false
-IsLastLane word lanes (Some k) = (k < lanes) × (lane word k ≡ true)
-    × ((j : ℕ) → k < j → j < lanes → lane word j ≡ false)
-
 -- the last test that detects a fault, or none if no test does
 abbrev pub IsLast : List Statement → List Test → Fault → Option ℕ → Type 0
 IsLast c tests f None = (t : ℕ) → ¬ DetectsAt c tests f t
@@ -62,6 +55,14 @@ abbrev pub IsLastOfClass : Parts → ℕ → Option ℕ → Type 0
 IsLastOfClass job class last = (r : Fault)
     × (slice_get (representatives job.list.model job.circuit) class ≡ Some r)
     × IsLast job.circuit job.tests.tests r last
+
+-- each class has a position, and there stands the last test that detects it
+pub record AreLastAt (job : Parts) (positions : List ℕ) (lasts : List (Option ℕ)) : Type 0 where
+  pub count : length positions ≡ length job.classes.representative
+  pub within : (class : ℕ) → class < length job.classes.representative
+      → slice_index positions class < length lasts
+  pub each : (class : ℕ) (last : Option ℕ) → class < length job.classes.representative
+      → slice_get lasts (slice_index positions class) ≡ Some last → IsLastOfClass job class last
 
 -- the rows are some of the tests, detect the same stuck-at faults, and each is the last of them for
 -- some fault

@@ -1,59 +1,85 @@
 //! The tests of a job that detect each class.
 
-ghost use Rattle.std.specs.Prelude.{◌≡◌, ◌<◌, ◌/◌, ◌%◌, IfOk, length, slice_index_or};
-ghost use Rattle.block_sim.specs.Parts.{HasRoom};
+ghost use Rattle.std.specs.Prelude.{◌≡◌, ◌<◌, ◌≤◌, ◌/◌, ◌%◌, [], IfErr, IfOk, OnOk, length, map};
+ghost use Rattle.std.specs.Prelude.{slice_index, slice_index_or};
 ghost use Rattle.flat_circuit.specs.Words.{lane};
-ghost use Rattle.compaction.specs.Detections.{AreRows, IsRow, detects_by};
+ghost use Rattle.region_runs.specs.Refused.{IsOpenFault};
+ghost use Rattle.compaction.specs.Detections.{detects_by};
 ghost use Rattle.compaction.specs.Steepest.{DetectsClasses};
 
-use block_sim::{Job, Workspace, detecting};
-use patterns::BLOCK_SIZE;
-use std::alloc::{AllocError, Global};
+use block_sim::Job;
+use n_detect::{ClassTests, class_tests};
+use std::alloc::Global;
 use std::marker::Model;
+use std::sync::Wait;
+use std::thread::Threads;
+use workers::RunFault;
 
-/// The tests of a job that detect each class: for each class a word for each block of tests.
+/// The number of tests of which a word has the lanes.
+const GROUP_SIZE: u32 = 128;
+
+/// The tests of a job that detect each class: for each class a word for each group of 128 tests.
 #[derive(Drop)]
 pub struct Detections {
-    rows: Vec<Vec<u64>>,
+    /// For each class, by its number, its position.
+    positions: Vec<u32>,
+    /// At each position the words of the class there.
+    rows: Vec<Vec<u128>>,
     tests: u32,
 }
 
 impl Model for Detections {
-    ghost use Rattle.std.specs.Prelude.{map};
-    ghost use Rattle.compaction.specs.Detections.{DetectionTable, HasBlocks};
+    ghost use Rattle.compaction.specs.Detections.{DetectionTable, HasGroups, words_of};
 
     ghost Value = { DetectionTable };
 
     ghost view = { λ d. record {
-      words = map (λ row. row.items) d.rows.items;
+      words = words_of d.positions.items d.rows.items;
       tests = d.tests;
     } };
 
-    ghost invariant = { λ d. HasBlocks (record {
-      words = map (λ row. row.items) d.rows.items;
+    ghost invariant = { λ d. HasGroups (record {
+      words = words_of d.positions.items d.rows.items;
       tests = d.tests;
     }) };
 }
 
 impl Detections {
-    /// Simulates each class of a job under all of its tests.
-    pub fn new(alloc: Global, job: &Job) -> Result<Detections, AllocError>
+    /// Simulates each class of a job under all of its tests. The run is one in `parts` parts.
+    pub fn new<R: Threads + Wait>(
+        rt: &R,
+        alloc: Global,
+        job: &Job,
+        parts: u32,
+        workers: u32,
+    ) -> Result<Detections, RunFault>
+        requires { 0 < parts }
         ensures classes { IfOk result (λ d. length d.words
             ≡ length job.now.classes.representative) }
         ensures tests { IfOk result (λ d. d.tests ≡ length job.now.tests.tests) }
         ensures detects { IfOk result (λ d. DetectsClasses job.now.list.model job.now.circuit
             job.now.tests.tests (detects_by d)) }
+        ensures workers { OnOk result ((0 < workers) × (workers ≤ 64)) }
+        ensures refused { IfErr result (IsOpenFault workers) }
     {
-        let rows = detection_rows(alloc, job)?;
+        let found = class_tests(rt, alloc, job, parts, workers)?;
         let tests = job.tests().count();
-        Ok(Detections { rows, tests })
+        let ClassTests {
+            positions,
+            words: rows,
+        } = found;
+        Ok(Detections {
+            positions,
+            rows,
+            tests,
+        })
     }
 
     /// Returns the number of classes.
     pub fn classes(&self) -> usize
         ensures { result ≡ length self.now.words }
     {
-        self.rows.len()
+        self.positions.len()
     }
 
     /// Returns the number of tests.
@@ -69,55 +95,33 @@ impl Detections {
         requires test { test < self.now.tests }
         ensures { result ≡ detects_by self.now class test }
     {
-        bit_of(&self.rows[class], test)
+        let row = row_of(self.positions.as_slice(), self.rows.as_slice(), class);
+        bit_of(row, test)
     }
+}
+
+/// Returns the words at the position of a class.
+fn row_of<'r>(positions: &[u32], rows: &'r [Vec<u128>], class: usize) -> &'r [u128]
+    requires class { class < length positions.now }
+    requires position { slice_index positions.now class < length rows.now }
+    ensures { result.now ≡ slice_index_or (map (λ row. row.items) rows.now)
+        (slice_index positions.now class) [] }
+{
+    rows[positions[class] as usize].as_slice()
 }
 
 /// Returns the bit of a test in the words of a class.
-fn bit_of(row: &[u64], test: u32) -> bool
-    requires { test / 64 < length row.now }
-    ensures { result ≡ lane (slice_index_or row.now (test / 64) 0) (test % 64) }
+fn bit_of(row: &[u128], test: u32) -> bool
+    requires { test / 128 < length row.now }
+    ensures { result ≡ lane (slice_index_or row.now (test / 128) 0) (test % 128) }
 {
-    lane_bit(row[(test / BLOCK_SIZE) as usize], test % BLOCK_SIZE)
+    lane_bit(row[(test / GROUP_SIZE) as usize], test % GROUP_SIZE)
 }
 
 /// Returns the bit of a word at a lane.
-pub fn lane_bit(word: u64, place: u32) -> bool
-    requires { place < 64 }
+fn lane_bit(word: u128, place: u32) -> bool
+    requires { place < 128 }
     ensures { result ≡ lane word place }
 {
     (word >> place) & 1 == 1
-}
-
-/// Returns for each class of a job a word for each block, with the tests that detect the class.
-fn detection_rows(alloc: Global, job: &Job) -> Result<Vec<Vec<u64>>, AllocError>
-    ensures { IfOk result (λ rows. AreRows job.now rows.items) }
-{
-    let mut workspace = Workspace::new(alloc, job)?;
-    let count = job.classes().count();
-    let mut rows = Vec::with_capacity(alloc, count as usize)?;
-    for class in 0..count {
-        rows.push(row_of(alloc, job, &mut workspace, class)?)?;
-    }
-    Ok(rows)
-}
-
-/// Returns the words of a class.
-fn row_of(
-    alloc: Global,
-    job: &Job,
-    workspace: &mut Workspace,
-    class: u32,
-) -> Result<Vec<u64>, AllocError>
-    requires class { class < length job.now.classes.representative }
-    requires fits { HasRoom workspace.old job.now }
-    ensures row { IfOk result (λ row. IsRow job.now class row.items) }
-    ensures fits { HasRoom workspace.new job.now }
-{
-    let blocks = job.tests().blocks();
-    let mut row = Vec::with_capacity(alloc, blocks as usize)?;
-    for block in 0..blocks {
-        row.push(detecting(job, workspace, class, block))?;
-    }
-    Ok(row)
 }

@@ -1,58 +1,111 @@
 //! The tests of a list that are the last to detect some fault.
 
-ghost use Rattle.std.specs.Prelude.{◌<◌, IfOk, length};
-ghost use Rattle.block_sim.specs.Parts.{HasRoom};
-ghost use Rattle.compaction.specs.Marks.{AreLasting, IsLastLane, IsLastOfClass};
+ghost use Rattle.std.specs.Prelude.{◌<◌, ◌≤◌, IfErr, IfOk, OnOk, length, true};
+ghost use Rattle.region_runs.specs.Refused.{IsOpenFault};
+ghost use Rattle.compaction.specs.LastHits.{IsLastHit};
+ghost use Rattle.compaction.specs.LastHitLaws.{always_wanted, last_unchanged};
+ghost use Rattle.compaction.specs.Marks.{AreLastAt, AreLasting, IsLastOfClass};
 
-use crate::detections::lane_bit;
 use crate::finding::mark_test;
-use block_sim::{Job, Workspace, detecting};
-use patterns::BLOCK_SIZE;
+use block_sim::Job;
+use region_runs::run_goal;
+use region_sim::Goal;
 use std::alloc::{AllocError, Global};
+use std::sync::Wait;
+use std::thread::Threads;
+use workers::{OpenGate, RunFault};
 
-/// Returns for each test of a job whether it is the last to detect some fault. It simulates each
-/// class on the blocks from the last to the first, up to one with a test that detects it.
-pub fn lasting_tests(alloc: Global, job: &Job) -> Result<Vec<bool>, AllocError>
+/// Returns for each test of a job whether it is the last to detect some fault. The run is one in
+/// `parts` parts.
+pub fn lasting_tests<R: Threads + Wait>(
+    rt: &R,
+    alloc: Global,
+    job: &Job,
+    parts: u32,
+    workers: u32,
+) -> Result<Vec<bool>, RunFault>
+    requires { 0 < parts }
+    ensures marks { IfOk result (λ marks. AreLasting job.now.list.model job.now.circuit
+        job.now.tests.tests marks.items) }
+    ensures workers { OnOk result ((0 < workers) × (workers ≤ 64)) }
+    ensures refused { IfErr result (IsOpenFault workers) }
+{
+    let _tests = job.tests();
+    let done = run_goal(rt, alloc, job, parts, workers, &LastTest, &OpenGate)?;
+    let positions = done.positions.as_slice();
+    let marks = marks_of_last(alloc, job, positions, done.kept.as_slice())?;
+    Ok(marks)
+}
+
+/// Returns for each test of a job whether it is the last one of some class. Each class has its last
+/// test at its position.
+fn marks_of_last(
+    alloc: Global,
+    job: &Job,
+    positions: &[u32],
+    lasts: &[Option<u32>],
+) -> Result<Vec<bool>, AllocError>
+    requires { AreLastAt job.now positions.now lasts.now }
     ensures { IfOk result (λ marks. AreLasting job.now.list.model job.now.circuit
         job.now.tests.tests marks.items) }
 {
-    let mut workspace = Workspace::new(alloc, job)?;
     let mut marks = vec![in alloc; false; job.tests().count() as usize]?;
     for class in 0..job.classes().count() {
-        let last = last_test(job, &mut workspace, class);
+        let last = last_of(job, positions, lasts, class);
         mark_test(&mut marks, last);
     }
     Ok(marks)
 }
 
 /// Returns the last test that detects a class.
-fn last_test(job: &Job, workspace: &mut Workspace, class: u32) -> Option<u32>
+fn last_of(job: &Job, positions: &[u32], lasts: &[Option<u32>], class: u32) -> Option<u32>
     requires class { class < length job.now.classes.representative }
-    requires fits { HasRoom workspace.old job.now }
-    ensures last { IsLastOfClass job.now class result }
-    ensures fits { HasRoom workspace.new job.now }
+    requires last { AreLastAt job.now positions.now lasts.now }
+    ensures { IsLastOfClass job.now class result }
 {
-    let blocks = job.tests().blocks();
-    for behind in 0..blocks {
-        let block = blocks - 1 - behind;
-        let word = detecting(job, workspace, class, block);
-        match last_lane(word) {
-            Some(lane) => return Some(BLOCK_SIZE * block + lane),
+    let _job = job;
+    lasts[positions[class as usize] as usize]
+}
+
+/// The last test that detects a class, counted from 0, or none, as the goal of a simulation.
+#[derive(Clone, Copy)]
+struct LastTest;
+
+impl Goal for LastTest {
+    ghost use Rattle.std.specs.Prelude.{refl, true};
+    ghost use Rattle.compaction.specs.LastHits.{IsLastHit};
+    ghost use Rattle.compaction.specs.LastHitLaws.{always_wanted, last_unchanged};
+
+    type Kept = Option<u32>;
+
+    ghost ALL_LANES = { true };
+
+    const ALL_LANES: bool = true;
+
+    ghost wants = { λ _ _. true };
+
+    ghost means = { λ _ hits low high kept. IsLastHit hits low high kept };
+
+    ghost stays = { λ _ kept hits low high more wanted le was. always_wanted wanted };
+
+    ghost agrees = { λ _ one other hits low high a b. refl };
+
+    ghost unchanged = { λ _ kept hits low high more. last_unchanged kept hits low high more };
+
+    fn start(&self, _alloc: Global) -> Result<Option<u32>, AllocError> {
+        Ok(None)
+    }
+
+    #[inline(always)]
+    fn is_open(&self, _kept: &Option<u32>) -> bool {
+        true
+    }
+
+    #[inline(always)]
+    fn take(&self, kept: &mut Option<u32>, group: u32, lanes: u128) {
+        match lanes.checked_ilog2() {
+            Some(lane) => *kept = Some(128 * group + lane),
             None => {}
         }
     }
-    None
-}
-
-/// Returns the last lane of a word that is 1.
-fn last_lane(word: u64) -> Option<u32>
-    ensures { IsLastLane word 64 result }
-{
-    let mut last = None;
-    for lane in 0..BLOCK_SIZE {
-        if lane_bit(word, lane) {
-            last = Some(lane);
-        }
-    }
-    last
 }

@@ -30,7 +30,7 @@ use workers::RunFault;
 /// the pairs are in this order. Under [`Model::Transition`] a test makes a pair with the test
 /// before it, so the tests stay in the order of the list.
 ///
-/// Steepest order takes 8 bytes for each class and block of the kept tests. It fails as
+/// Steepest order takes 16 bytes for each class and 128 of the kept tests. It fails as
 /// [`compact_in_parts`] does.
 pub fn compact_in_order<R: Threads + Wait>(
     rt: &R,
@@ -83,7 +83,7 @@ fn compact_steepest<R: Threads + Wait>(
 {
     let Kept { tests, numbers } = compact_in_parts(rt, alloc, job, parts, workers)?;
     job.set_tests_of_any_size_in_threads(rt, alloc, tests, workers)?;
-    let detections = Detections::new(alloc, job)?;
+    let detections = Detections::new(rt, alloc, job, parts, workers)?;
     let order = steepest_order(alloc, &detections)?;
     let places = places_of(alloc, job.faults().model(), &order)?;
     Ok(kept_at(alloc, job.tests(), &numbers, &places)?)

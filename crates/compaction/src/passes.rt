@@ -8,7 +8,7 @@ ghost use Rattle.patterns.specs.Tests.{IsTestList};
 ghost use Rattle.fault_model.specs.declared.Model.TheVariants as model;
 ghost use Rattle.workers.specs.Refused.{IsRunFault};
 ghost use Rattle.workers.specs.Stops.{no_stop};
-ghost use Rattle.region_runs.specs.Refused.{ArePartsWithin, IsPartsFault};
+ghost use Rattle.region_runs.specs.Refused.{ArePartsWithin, IsOpenFault, IsPartsFault};
 
 use crate::Kept;
 use crate::finding::{finding_tests, mark_before};
@@ -18,7 +18,7 @@ use block_sim::Job;
 use fault_model::Model;
 use patterns::Tests;
 use region_runs::parts_for;
-use std::alloc::{AllocError, Global};
+use std::alloc::Global;
 use std::sync::Wait;
 use std::thread::Threads;
 use workers::RunFault;
@@ -93,7 +93,7 @@ pub fn compact_in_parts<R: Threads + Wait>(
         Model::Transition | Model::TransitionPairs => {
             mark_before(&mut found);
             let kept = kept_tests(alloc, job.tests(), &numbers, &found)?;
-            Ok(last_pairs(rt, alloc, job, kept, workers)?)
+            last_pairs(rt, alloc, job, kept, parts, workers)
         }
     }
 }
@@ -135,21 +135,25 @@ fn last_pairs<R: Threads + Wait>(
     alloc: Global,
     job: &mut Job,
     given: Kept,
+    parts: u32,
     workers: u32,
-) -> Result<Kept, AllocError>
+) -> Result<Kept, RunFault>
     requires job { BelongTogether job.old }
     requires list { IsTestList given.tests }
     requires width { given.tests.width ≡ job.old.tests.width }
     requires numbers { length given.numbers.items ≡ length given.tests.tests }
+    requires parts { 0 < parts }
+    requires workers { (0 < workers) × (workers ≤ 64) }
     ensures last { IfOk result (λ kept. AreLastPairsOf job.old.list.model job.old.circuit
         given.tests.tests kept.tests.tests given.numbers.items kept.numbers.items) }
     ensures list { IfOk result (λ kept. IsTestList kept.tests) }
     ensures width { IfOk result (λ kept. kept.tests.width ≡ job.old.tests.width) }
     ensures job { job.new ≡ with_tests job.old job.new.tests }
+    ensures refused { IfErr result (IsOpenFault workers) }
 {
     let Kept { tests, numbers } = given;
     job.set_tests_of_any_size_in_threads(rt, alloc, tests, workers)?;
-    let mut last = lasting_tests(alloc, job)?;
+    let mut last = lasting_tests(rt, alloc, job, parts, workers)?;
     mark_before(&mut last);
-    kept_tests(alloc, job.tests(), &numbers, &last)
+    Ok(kept_tests(alloc, job.tests(), &numbers, &last)?)
 }

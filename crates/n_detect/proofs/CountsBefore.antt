@@ -1,10 +1,11 @@
 -- Counts on the first tests of a list, and those that a run keeps.
-use Rattle.std.proofs.Common.{◌≡◌, ◌<◌, ◌≤◌, ◌+◌, ◌-◌, ◌*◌, ℕ, Bool, List, length, max, min, ap}
-use Rattle.std.proofs.Common.{◌∙◌, arith, lt-ltb, refl}
+use Rattle.std.proofs.Common.{◌≡◌, ◌<◌, ◌≤◌, ◌+◌, ◌-◌, ◌*◌, ℕ, suc, Bool, List, length, map, max}
+use Rattle.std.proofs.Common.{min, Option, None, ap, ◌∙◌, arith, cond, lt-ltb, refl, subst}
 use Rattle.std.specs.Prelude.{Some, count_by, nat_lt, slice_get, slice_index}
 use Rattle.std.specs.Bool.{Decides}
+use Rattle.std.proofs.lemmas.List.{length-map}
 use Rattle.std.proofs.lemmas.Option.{slice_get_within}
-use Rattle.list_lemmas.proofs.Places.{within_place}
+use Rattle.list_lemmas.proofs.Places.{from_mapped, within_place}
 use Rattle.counting_sort.specs.SortedPlaces.{ArePositions}
 use Rattle.fault_model.specs.Fault.{Fault}
 use Rattle.fault_model.specs.Collapse.{representatives}
@@ -14,9 +15,11 @@ use Rattle.patterns.specs.Tests.{blocks}
 use Rattle.block_sim.specs.Parts.{BelongTogether, Parts}
 use Rattle.flat_circuit.proofs.Public.{representative_at}
 use Rattle.block_sim.proofs.Public.{which_detect}
-use Rattle.region_runs.specs.Tasks.{AreKept, IsOpenAtFirst, task_of}
+use Rattle.region_sim.specs.Goals.{AreHits, IsFirstHit}
+use Rattle.region_runs.specs.Tasks.{AreKept, IsOpenAtFirst, first_tests, task_of}
+use Rattle.n_detect.specs.CountLaws.{count_more, count_none, count_parts}
 use Rattle.n_detect.specs.Detections.{AreCountsAt, IsClassCount}
-use Rattle.n_detect.specs.HitCounts.{IsHitCount}
+use Rattle.n_detect.specs.HitCounts.{IsHitCount, one_of}
 use Rattle.n_detect.proofs.RangeCounts.{all_blocks}
 
 -- of the first tests, as many as the number, this many detect the representative of a class,
@@ -61,6 +64,16 @@ module _ (job : Parts) (most class tests count : ℕ) (b : BelongTogether job)
       let all = all_blocks job.circuit job.tests.tests fault.0 which.0 which.1 tests done in
       counted_by (so_far ∙ ap (min most) all)
 
+-- a class has hits
+pub class_hits : (job : Parts) → BelongTogether job → (class : ℕ)
+    → class < length job.classes.representative → (hits : ℕ → Bool) × AreHits job class hits
+class_hits job b class lt =
+    let k = within_place job.classes.representative class lt in
+    let r = representative_at job.list.model job.circuit job.classes class k.0 b.classes k.1 in
+    let w = which_detect job.list.model job.circuit job.tests.tests class r.0
+    b.circuit.well_formed r.2 in
+    (w.0, (r.0, r.2, w.1))
+
 -- what a run for counts keeps of all classes is the count of each at its position
 pub counts_at : (job : Parts) (most : ℕ) (classes positions kept : List ℕ) → BelongTogether job
     → ArePositions classes positions → length positions ≡ length job.classes.representative
@@ -97,8 +110,46 @@ fewer job most class n is = record {
 }
 
 -- a count up to a number that isn't 0 is open at first
-pub open_at_first : (job : Parts) (most : ℕ)
-    → IsOpenAtFirst (task_of job (λ n. nat_lt n (max most 1)) (IsHitCount (max most 1)))
-open_at_first job most n hits is =
+pub open_at_first : (job : Parts) (most : ℕ) → 0 < most
+    → IsOpenAtFirst (task_of job (λ n. nat_lt n most) (IsHitCount most))
+open_at_first job most some n hits is =
     let none : count_by hits (from_up 0 (0 - 0)) ≡ 0 = refl in
-    lt-ltb n (max most 1) (omega (arith, is, none))
+    lt-ltb n most (omega (arith, is, none, some))
+
+-- no class has a first test at first
+pub first_open : (job : Parts) → IsOpenAtFirst (first_tests job)
+first_open job None hits h = refl
+first_open job (Some t) hits h = let low = h.1 in absurd (omega (arith, low))
+
+-- one hit at least, if there is a first one
+one_hit : (hits : ℕ → Bool) (low high : ℕ) (first : Option ℕ) → IsFirstHit hits low high first
+    → IsHitCount 1 hits low high (one_of first)
+one_hit hits low high None none =
+    let count = count_none hits low (high - low)
+    (λ j lt. none (low + j) (omega arith) (omega (arith, lt))) in
+    omega (arith, count)
+one_hit hits low high (Some t) h =
+    let up = h.0 in
+    let below = h.1 in
+    let parts : high - low ≡ (t - low) + suc (high - suc t) = omega (arith, up, below) in
+    let whole = ap (λ k. count_by hits (from_up low k)) parts in
+    let both = count_parts hits low (t - low) (suc (high - suc t)) in
+    let at : low + (t - low) ≡ t = omega (arith, up) in
+    let moved = ap (λ a. count_by hits (from_up a (suc (high - suc t)))) at in
+    let own = count_more hits t (high - suc t) in
+    let number : Bool → ℕ = λ b. cond b 1 0 in
+    let here : number (hits t) ≡ 1 = ap number h.2 in
+    omega (arith, whole, both, moved, own, here)
+
+-- counts up to 1 of all classes, from their first tests
+pub ones_kept : (job : Parts) (classes : List ℕ) (firsts : List (Option ℕ))
+    → AreKept (first_tests job) classes firsts
+    → AreKept (task_of job (λ n. nat_lt n 1) (IsHitCount 1)) classes (map one_of firsts)
+ones_kept job classes firsts are = record {
+  count = length-map firsts one_of ∙ are.count;
+  each = λ hits k class one ec ek h.
+      let x = from_mapped one_of firsts k one ek in
+      subst (IsHitCount 1 hits 0 (64 * blocks (length job.tests.tests))) x.2
+      (one_hit hits 0 (64 * blocks (length job.tests.tests)) x.0
+      (are.each hits k class x.0 ec x.1 h));
+}

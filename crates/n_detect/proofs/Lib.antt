@@ -6,4 +6,5 @@ mod CountsBefore
 mod RowLists
 mod GroupWords
 mod ListLanes
+mod ClassGroups
 pub mod Public

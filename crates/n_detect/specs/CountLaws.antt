@@ -1,13 +1,14 @@
 -- Laws of counts over ranges of numbers.
 use Rattle.std.proofs.Common.{◌≡◌, ◌<◌, ◌≤◌, ◌+◌, ◌-◌, ◌*◌, ℕ, zero, suc, Bool, false, cond}
 use Rattle.std.proofs.Common.{refl, sym, ap, ◌∙◌, arith}
-use Rattle.std.specs.Prelude.{count_by, nat_lt}
+use Rattle.std.specs.Prelude.{List, count_by, nat_lt}
 use Rattle.std.proofs.lemmas.Bool.{false≢true}
 use Rattle.std.proofs.lemmas.List.Sums.{sum_by-cons}
 use Rattle.std.proofs.lemmas.Bool.{cases_lt}
 use Rattle.std.proofs.Common.{◌⊎◌, inl, inr, lt-ltb, true}
 use Rattle.patterns.specs.Least.{from_up}
 use Rattle.n_detect.specs.HitCounts.{IsHitCount}
+use Rattle.n_detect.specs.ClassTests.{AreGroupsIn}
 use Rattle.n_detect.specs.ListLanes.{AreLanesIn}
 
 -- one number more at the front
@@ -117,3 +118,13 @@ lanes_unchanged group word hits low high more le none are = λ k lt. (
     | inr above ↦ absurd (false≢true (sym (none (128 * group + k) above h.1) ∙ h.2))
   ]),
 )
+
+-- nor those of several groups
+pub groups_unchanged : (count : ℕ) (words : List ℕ) (hits : ℕ → Bool) (low high more : ℕ)
+    → high ≤ more → ((t : ℕ) → high ≤ t → t < more → hits t ≡ false)
+    → AreGroupsIn count hits low high words → AreGroupsIn count hits low more words
+groups_unchanged count words hits low high more le none are = record {
+  long = are.long;
+  each = λ group word at.
+      lanes_unchanged group word hits low high more le none (are.each group word at);
+}

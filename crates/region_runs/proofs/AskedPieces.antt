@@ -1,14 +1,13 @@
 -- The gate was asked for all pieces whose class the earlier blocks leave open.
 use Rattle.std.proofs.Common.{◌≡◌, ◌<◌, ◌≤◌, ◌+◌, ◌*◌, ◌⊎◌, inl, inr, ℕ, Bool, true, false}
-use Rattle.std.proofs.Common.{List, All, length, Option, Some, None, sym, ap, ◌∙◌, subst, refl}
+use Rattle.std.proofs.Common.{List, All, length, Some, sym, ◌∙◌, subst, refl}
 use Rattle.std.proofs.Common.{arith}
 use Rattle.std.specs.Prelude.{slice_get}
-use Rattle.std.specs.Option.{option_map}
 use Rattle.std.proofs.lemmas.Bool.{cases_lt, false≢true}
-use Rattle.std.proofs.lemmas.Option.{slice_get-map, slice_get_within}
+use Rattle.std.proofs.lemmas.Option.{slice_get_within}
 use Rattle.flat_circuit.specs.declared.origin.ListedClass.{ListedClass}
 use Rattle.block_sim.specs.Listed.{IsListed}
-use Rattle.block_sim.specs.Parts.{BelongTogether, Parts}
+use Rattle.block_sim.specs.Parts.{BelongTogether}
 use Rattle.workers.specs.Stops.{Stops}
 use Rattle.region_sim.specs.ClassOrder.{classes_of}
 use Rattle.region_sim.specs.Goals.{AreHits}

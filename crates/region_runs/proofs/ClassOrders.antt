@@ -1,26 +1,13 @@
 -- The classes of a part, in the order of all classes.
 use Rattle.std.proofs.Common.{◌≡◌, ◌<◌, ◌≤◌, ◌+◌, ◌⊎◌, inl, inr, ℕ, zero, suc, true, false}
-use Rattle.std.proofs.Common.{List, [], ◌∷◌, ◌++◌, length, get_or, Some, None, refl, sym, ap}
+use Rattle.std.proofs.Common.{List, [], ◌∷◌, ◌++◌, length, Some, None, refl, sym, ap}
 use Rattle.std.proofs.Common.{◌∙◌, subst, arith, length-append}
 use Rattle.std.specs.Prelude.{Bool, slice_get, filter, cond}
-use Rattle.std.proofs.Math.Seq.{get_or-append_seam}
 use Rattle.std.proofs.lemmas.Bool.{cases_lt}
-use Rattle.std.proofs.lemmas.List.{get_or_append_left}
-use Rattle.std.proofs.lemmas.Option.{get_or_from_slice_get, slice_get-get_or, slice_get_within}
-use Rattle.list_lemmas.proofs.Places.{place_within, within_place}
-use Rattle.bench_net.specs.Circuit.{IsWellFormed}
-use Rattle.bench_net.specs.Scan.{names}
-use Rattle.bench_net.specs.Statement.{Statement}
-use Rattle.fault_model.specs.Reordered.{HasSameSignals, IsReordered, place}
-use Rattle.fault_model.proofs.Public.{in_signal_order, same_signals}
-use Rattle.flat_circuit.specs.Arranged.{ArePlaces, IsArranged}
+use Rattle.std.proofs.lemmas.Option.{slice_get_within}
 use Rattle.block_sim.specs.Parts.{Parts}
-use Rattle.flat_circuit.specs.Regions.{IsStemOfClass}
-use Rattle.flat_circuit.proofs.Public.{one_class_stem}
-use Rattle.region_sim.specs.ClassOrder.{AreVisits, AreVisitsTo}
 use Rattle.region_sim.specs.ClassOrder.{AreAllByRegion}
 use Rattle.region_runs.specs.Part.{ArePartOf, IsOfPart}
-use Rattle.counting_sort.specs.SortedPlaces.{AreSortedPlaces, GoesFirst}
 
 -- ---- lists
 

@@ -1,6 +1,6 @@
 -- The dead classes at the end of a list: no test detects them, so a run over the others does for
 -- the whole list.
-use Rattle.std.proofs.Common.{◌≡◌, ◌<◌, ◌≤◌, ◌+◌, ◌-◌, ◌*◌, ◌++◌, ◌⊎◌, inl, inr, ℕ, zero, suc}
+use Rattle.std.proofs.Common.{◌≡◌, ◌<◌, ◌≤◌, ◌-◌, ◌*◌, ◌++◌, ◌⊎◌, inl, inr, ℕ, zero, suc}
 use Rattle.std.proofs.Common.{List, [], ◌∷◌, All, Bool, Option, Some, None, false, length, refl}
 use Rattle.std.proofs.Common.{sym, ap, ◌∙◌, subst, arith}
 use Rattle.std.specs.Prelude.{slice_get}
@@ -12,7 +12,7 @@ use Rattle.list_lemmas.proofs.Places.{from_mapped}
 use Rattle.patterns.specs.Tests.{blocks}
 use Rattle.flat_circuit.specs.declared.origin.ListedClass.{ListedClass}
 use Rattle.block_sim.specs.Listed.{IsListed}
-use Rattle.block_sim.specs.Parts.{BelongTogether, Parts}
+use Rattle.block_sim.specs.Parts.{BelongTogether}
 use Rattle.workers.specs.Stops.{Stops}
 use Rattle.region_sim.specs.ClassOrder.{classes_of}
 use Rattle.region_sim.specs.Goals.{AreHits}

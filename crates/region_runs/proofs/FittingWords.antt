@@ -1,6 +1,6 @@
 -- The words of a window's blocks fit its number of tests.
 use Rattle.std.proofs.Common.{◌≡◌, ◌⊎◌, ◌<◌, ◌≤◌, ◌+◌, ◌*◌, ◌-◌, ◌/◌, ◌%◌, ◌^◌, ◌∙◌, inl, inr, ℕ}
-use Rattle.std.proofs.Common.{List, [], refl, sym, ap, subst, arith, length, get_or, min, false}
+use Rattle.std.proofs.Common.{List, [], sym, ap, subst, arith, length, get_or, min, false}
 use Rattle.std.proofs.lemmas.Bool.{cases_lt}
 use Rattle.std.proofs.lemmas.List.{get_or_past}
 use Rattle.std.proofs.lemmas.Nat.{pow_pos}

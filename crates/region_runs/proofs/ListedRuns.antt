@@ -1,6 +1,6 @@
 -- The results of a runner for any list of classes.
-use Rattle.std.proofs.Common.{◌≡◌, ◌<◌, ◌≤◌, inl, inr, ℕ, List, length, map, All}
-use Rattle.std.proofs.Common.{Option, Some, true, false, sym, ap, ◌∙◌, subst, get_or, arith}
+use Rattle.std.proofs.Common.{◌≡◌, ◌<◌, inl, inr, ℕ, List, length, map, All}
+use Rattle.std.proofs.Common.{Option, Some, true, false, sym, ap, ◌∙◌, subst, get_or}
 use Rattle.std.specs.Prelude.{Bool, filter, slice_get}
 use Rattle.std.proofs.lemmas.List.{length-map}
 use Rattle.std.proofs.lemmas.List.Elements.{All-filter}

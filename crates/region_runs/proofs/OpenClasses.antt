@@ -1,5 +1,5 @@
 -- Places that are left out of a list: those at which nothing is open.
-use Rattle.std.proofs.Common.{◌≡◌, ◌≢◌, ◌<◌, ◌≤◌, ◌+◌, ◌⊎◌, inl, inr, ℕ, Bool, true, false, sym}
+use Rattle.std.proofs.Common.{◌≡◌, ◌≢◌, ◌<◌, ◌≤◌, ◌+◌, ◌⊎◌, inl, inr, ℕ, Bool, false, sym}
 use Rattle.std.proofs.Common.{◌∙◌}
 use Rattle.std.proofs.Common.{List, Option, Some, None, ap, refl, subst, length, set, arith}
 use Rattle.std.specs.Prelude.{slice_get, unwrap_or}
@@ -7,7 +7,7 @@ use Rattle.std.proofs.lemmas.Bool.{cases_eq, cases_lt, false≢true}
 use Rattle.std.proofs.lemmas.List.{get_or-set_same, get_or-set_other, length-set}
 use Rattle.std.proofs.lemmas.Option.{get_or_from_slice_get, slice_get-get_or, slice_get_within}
 use Rattle.flat_circuit.specs.declared.origin.ListedClass.{ListedClass}
-use Rattle.region_sim.specs.OpenPlaces.{AreNextOpen, AreSettled, AreSuccessors}
+use Rattle.region_sim.specs.OpenPlaces.{AreNextOpen, AreSettled}
 use Rattle.region_sim.specs.RegionHits.{IsOpenAt}
 
 -- the element at a place of a list that was written to

@@ -36,7 +36,8 @@ parts_fault job parts workers run_fault.Threads h = h
 parts_fault job parts workers (run_fault.Unfinished class block) h = absurd (h.4 tt)
 
 -- stretches that an open gate watches fail for memory or a thread
-pub open_fault : {K : Type 0} (task : Task K) (size : ℕ) (classes : List ℕ) (parts workers : ℕ) (f : RunFault)
+pub open_fault : {K : Type 0} (task : Task K) (size : ℕ) (classes : List ℕ) (parts workers : ℕ)
+    (f : RunFault)
     → IsStretchesFault task size classes parts workers ⊤ no_stop f → IsOpenFault workers f
 open_fault {K} task size classes parts workers run_fault.NoWorkers h = absurd h
 open_fault {K} task size classes parts workers run_fault.TooManyWorkers h = absurd h
@@ -44,7 +45,8 @@ open_fault {K} task size classes parts workers (run_fault.NoSuchMove index) h = 
 open_fault {K} task size classes parts workers run_fault.TooManyPieces h = h
 open_fault {K} task size classes parts workers run_fault.Memory h = h
 open_fault {K} task size classes parts workers run_fault.Threads h = h
-open_fault {K} task size classes parts workers (run_fault.Unfinished class block) h = absurd (h.4 tt)
+open_fault {K} task size classes parts workers (run_fault.Unfinished class block) h = absurd
+    (h.4 tt)
 
 -- the class that waits, under other names of the stretches
 waits_under : {K : Type 0} (task : Task K) (count parts size : ℕ) (classes cut : List ℕ)
@@ -137,7 +139,8 @@ part_fault job parts part size count workers classes cut P S (run_fault.Unfinish
       (
         classes,
         own,
-        waits_under (first_tests job) count (stretches_for (length classes) workers) size classes cut workers S class
+        waits_under (first_tests job) count (stretches_for
+            (length classes) workers) size classes cut workers S class
             block is e same h.5,
       ),
     )

@@ -4,9 +4,6 @@ use Rattle.std.proofs.Common.{suc, List, [], ◌∷◌, ◌++◌, map, set, take
 use Rattle.std.proofs.Common.{Option, Some, None, refl, sym, ap, ◌∙◌, subst, arith, replicate}
 use Rattle.std.proofs.Common.{add-one}
 use Rattle.std.specs.Prelude.{slice_get}
-use Rattle.bench_net.specs.Statement.{Statement}
-use Rattle.fault_model.specs.declared.Model.{Model}
-use Rattle.fault_model.specs.Solution.{Test}
 use Rattle.block_sim.specs.First.{IsFirst}
 use Rattle.flat_circuit.specs.Regions.{IsStemOfClass}
 use Rattle.flat_circuit.proofs.Public.{class_has_stem, one_class_stem}

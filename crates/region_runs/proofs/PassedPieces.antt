@@ -1,5 +1,5 @@
 -- Pieces of a list that a gate let a worker pass.
-use Rattle.std.proofs.Common.{◌≡◌, ◌<◌, ◌≤◌, ◌⊎◌, inl, inr, ℕ, List, arith}
+use Rattle.std.proofs.Common.{inl, inr, ℕ, List, arith}
 use Rattle.workers.specs.Stops.{Stops}
 use Rattle.region_runs.specs.StretchRuns.{ArePassed, IsEarlier}
 use Rattle.region_runs.specs.Tasks.{Task}

@@ -12,7 +12,6 @@ use Rattle.region_runs.specs.declared.stretch_workers.Served.{Served}
 use Rattle.region_runs.specs.StretchRuns.{AreGivenBack, ArePut}
 use Rattle.region_runs.specs.Stretches.{AreApart}
 use Rattle.region_runs.proofs.ClassOrders.{pushed}
-use Rattle.region_runs.specs.Tasks.{AreKept, IsOpenAtFirst, IsSound, Task, first_tests, task_of}
 
 -- an element of a list stays at its place if more elements follow
 pub kept : {X : Type 0} (xs ys : List X) (k : ℕ) (x : X) → slice_get xs k ≡ Some x
@@ -47,14 +46,16 @@ set_place (z ∷ xs) (suc i) (suc k) x y e = go (set_place xs i k x y e)
     go (inr h) = inr h
 
 -- a place that is set is not empty
-set_full : {K : Type 0} (xs : List (Option (Done K))) (i : ℕ) (d : Done K) → slice_get (set xs i (Some d)) i
+set_full : {K : Type 0} (xs : List (Option (Done K))) (i : ℕ) (d : Done K)
+    → slice_get (set xs i (Some d)) i
     ≢ Some None
 set_full {K} [] i d e = let bad : None ≡ Some None = e in absurd (cc)
 set_full {K} (z ∷ xs) zero d e = let bad : Some (Some d) ≡ Some None = e in absurd (cc)
 set_full {K} (z ∷ xs) (suc i) d e = set_full xs i d e
 
 -- no element follows the end
-behind_end : {K : Type 0} (xs : List (Option (Done K))) (k : ℕ) → length xs ≤ k → slice_get xs k ≢ Some None
+behind_end : {K : Type 0} (xs : List (Option (Done K))) (k : ℕ) → length xs ≤ k
+    → slice_get xs k ≢ Some None
 behind_end {K} xs k le e = let lt = slice_get_within xs k None e in absurd (omega (arith, le, lt))
 
 -- the results in a table that was empty
@@ -67,7 +68,8 @@ put_none {K} was = record {
 }
 
 -- one more was given back, and has no place in the table
-pub put_past : {K : Type 0} (was : List (Option (Done K))) (given : List (Done K)) (now : List (Option (Done K)))
+pub put_past : {K : Type 0} (was : List (Option (Done K))) (given : List (Done K)) (now : List
+    (Option (Done K)))
     (done : Done K) → length now ≤ done.part → ArePut was given now
     → ArePut was (given ++ done ∷ []) now
 put_past {K} was given now done high put = record {
@@ -91,7 +93,8 @@ put_past {K} was given now done high put = record {
         (behind_end now done.part high)
 
 -- or was put at its place
-pub put_more : {K : Type 0} (was : List (Option (Done K))) (given : List (Done K)) (now : List (Option (Done K)))
+pub put_more : {K : Type 0} (was : List (Option (Done K))) (given : List (Done K)) (now : List
+    (Option (Done K)))
     (done : Done K) → ArePut was given now
     → ArePut was (given ++ done ∷ []) (set now done.part (Some done))
 put_more {K} was given now done put = record {
@@ -138,7 +141,8 @@ put_more {K} was given now done put = record {
         (sym x.1) e)
 
 -- of no thread
-pub given_none : {Z : Type 0} {K : Type 0} (parts : ℕ) (table : List (Option (Done K))) → length table ≡ parts
+pub given_none : {Z : Type 0} {K : Type 0} (parts : ℕ) (table : List (Option (Done K)))
+    → length table ≡ parts
     → All (λ at. IfSome at (λ _. ⊥)) table → AreGivenBack {Z = Z} parts [] table
 given_none {Z} {K} parts table count none = record {
   count = count;
@@ -177,7 +181,8 @@ given_more {Z} {K} parts back given was table before put =
     all thread own k done (inl x) there e =
         before.all thread own k done x there (put.stays done.part e)
     all thread own k done (inr x) there e =
-        put.all k done (subst (λ (v : Vec (Done K) Z). slice_get v.items k ≡ Some done) (sym x.1) there)
+        put.all k done (subst (λ (v : Vec (Done K) Z). slice_get v.items k ≡ Some done)
+        (sym x.1) there)
         e
 
 -- ---- seats, and their workers' results
@@ -191,7 +196,8 @@ apart_none {K} {E} {Z} = record {
 }
 
 -- of one more
-pub apart_more : {E Z : Type 0} {K : Type 0} (back : List (Result (Served K) E)) (seats : List Sitter)
+pub apart_more : {E Z : Type 0} {K : Type 0} (back : List (Result (Served K) E))
+    (seats : List Sitter)
     (dones : List (Vec (Done K) Z)) (served : Served K) (own : Vec (Done K) Z)
     → own.items ≡ served.dones.items → AreApart back seats dones
     → AreApart (back ++ Ok served ∷ []) (seats ++ served.seat ∷ []) (dones ++ own ∷ [])

@@ -5,7 +5,6 @@ use Rattle.std.proofs.Common.{◌∙◌, subst, arith, append-nil}
 use Rattle.std.specs.Prelude.{slice_get}
 use Rattle.std.proofs.lemmas.Option.{get_or_from_slice_get, slice_get_within}
 use Rattle.patterns.specs.Tests.{blocks}
-use Rattle.block_sim.specs.Parts.{Parts}
 use Rattle.list_lemmas.proofs.Places.{within_place}
 use Rattle.workers.specs.Stops.{Stops}
 use Rattle.region_runs.specs.declared.stretch_run.Stop.{Stop}
@@ -25,7 +24,7 @@ use Rattle.region_runs.proofs.PartsOfClasses.{AreKeptBelow, kept_more, stretch_w
 use Rattle.region_runs.proofs.ClassOrders.{pushed}
 use Rattle.region_runs.proofs.StretchRuns.{done_high, lowest_along, lowest_join}
 use Rattle.region_runs.proofs.StretchTables.{AreFoundByPart, AreWhole, IsWholeAt}
-use Rattle.region_runs.specs.Tasks.{AreKept, IsOpenAtFirst, IsSound, Task, first_tests, task_of}
+use Rattle.region_runs.specs.Tasks.{AreKept, IsOpenAtFirst, Task}
 
 -- if all blocks are done, all tests are taken
 pub all_kept : {K : Type 0} (task : Task K) (classes : List ℕ) (kept : List K)
@@ -39,7 +38,8 @@ all_kept {K} task classes kept found = record {
 }
 
 -- a worker that leaves no class open was not stopped
-pub not_stopped : {K : Type 0} (task : Task K) (classes : List ℕ) (worker : ℕ) (S : Stops) (stop : Option Stop)
+pub not_stopped : {K : Type 0} (task : Task K) (classes : List ℕ) (worker : ℕ) (S : Stops)
+    (stop : Option Stop)
     (kept : List K) → HasEnded task classes worker S stop kept
     → IsLowest (IsOpenIn task classes stop) None → stop ≡ None
 not_stopped {K} task classes worker S None kept e none = refl
@@ -63,7 +63,8 @@ none_open {K} task classes (Some w) is = absurd is.0
 -- ---- the runs in a table
 
 -- one more
-pub runs_push : {K : Type 0} (size : ℕ) (classes : List ℕ) (part : ℕ) (table : List (Option (Done K)))
+pub runs_push : {K : Type 0} (size : ℕ) (classes : List ℕ) (part : ℕ) (table : List (Option
+    (Done K)))
     (place : Option (Done K)) → runs_from size classes part (table ++ place ∷ [])
     ≡ runs_from size classes part table
     ++ run_at (stretch size classes (part + length table)) place ∷ []
@@ -78,13 +79,15 @@ runs_push {K} size classes part (x ∷ table) place =
     ++ run_at (stretch size classes n) place ∷ []) same)
 
 -- as many as there are places
-pub runs_count : {K : Type 0} (size : ℕ) (classes : List ℕ) (part : ℕ) (table : List (Option (Done K)))
+pub runs_count : {K : Type 0} (size : ℕ) (classes : List ℕ) (part : ℕ) (table : List (Option
+    (Done K)))
     → length (runs_from size classes part table) ≡ length table
 runs_count {K} size classes part [] = refl
 runs_count {K} size classes part (x ∷ table) = ap suc (runs_count size classes (part + 1) table)
 
 -- the run at a place
-run_from : {K : Type 0} (size : ℕ) (classes : List ℕ) (part : ℕ) (table : List (Option (Done K))) (k : ℕ)
+run_from : {K : Type 0} (size : ℕ) (classes : List ℕ) (part : ℕ) (table : List (Option (Done K)))
+    (k : ℕ)
     (place : Option (Done K)) → slice_get table k ≡ Some place
     → slice_get (runs_from size classes part table) k
     ≡ Some (run_at (stretch size classes (part + k)) place)
@@ -99,7 +102,8 @@ run_from {K} size classes part (x ∷ table) (suc k) place e =
     run_from size classes (part + 1) table k place e
     ∙ ap (λ n. Some (run_at (stretch size classes n) place)) here
 
-pub run_there : {K : Type 0} (size : ℕ) (classes : List ℕ) (table : List (Option (Done K))) (part : ℕ)
+pub run_there : {K : Type 0} (size : ℕ) (classes : List ℕ) (table : List (Option (Done K)))
+    (part : ℕ)
     (place : Option (Done K)) → slice_get table part ≡ Some place
     → slice_get (runs_from size classes 0 table) part
     ≡ Some (run_at (stretch size classes part) place)
@@ -109,7 +113,8 @@ run_there {K} size classes table part place e =
     ∙ ap (λ n. Some (run_at (stretch size classes n) place)) here
 
 -- and each is at a place
-pub run_back : {K : Type 0} (size : ℕ) (classes : List ℕ) (table : List (Option (Done K))) (part : ℕ)
+pub run_back : {K : Type 0} (size : ℕ) (classes : List ℕ) (table : List (Option (Done K)))
+    (part : ℕ)
     (run : PartRun) → slice_get (runs_from size classes 0 table) part ≡ Some run
     → (place : Option (Done K)) × (slice_get table part ≡ Some place)
     × (run ≡ run_at (stretch size classes part) place)
@@ -131,7 +136,8 @@ waits_more {K} task runs run lowest own lower was is lo =
     lowest_along (λ c b. WaitsIn task runs c b ⊎ IsOpenIn task run.classes run.stop c b)
     (WaitsIn task (runs ++ run ∷ [])) lower (λ c b x. to c b x)
     (λ c b x. from c b x (pushed runs run x.1 x.0 x.2))
-    (lowest_join (WaitsIn task runs) (IsOpenIn task run.classes run.stop) lowest own lower was is lo)
+    (lowest_join (WaitsIn task runs) (IsOpenIn task run.classes run.stop) lowest own lower was is
+    lo)
   where
     to : (c b : ℕ) → WaitsIn task runs c b ⊎ IsOpenIn task run.classes run.stop c b
         → WaitsIn task (runs ++ run ∷ []) c b
@@ -146,7 +152,8 @@ waits_more {K} task runs run lowest own lower was is lo =
         (sym h.1) x.3)
 
 -- a worker that was stopped was so at a piece where its gate may
-stopped_there : {K : Type 0} (task : Task K) (classes : List ℕ) (worker : ℕ) (S : Stops) (stop : Option Stop)
+stopped_there : {K : Type 0} (task : Task K) (classes : List ℕ) (worker : ℕ) (S : Stops)
+    (stop : Option Stop)
     (kept : List K) → HasEnded task classes worker S stop kept
     → (at : Stop) → stop ≡ Some at → IsStopAt task classes worker S at
 stopped_there {K} task classes worker S None kept e at is = absurd (cc)
@@ -154,7 +161,8 @@ stopped_there {K} task classes worker S (Some stop) kept e at is = let same : st
     subst (IsStopAt task classes worker S) same e.0
 
 -- and the gate let it pass all before
-passed_there : {K : Type 0} (task : Task K) (classes : List ℕ) (worker : ℕ) (S : Stops) (stop : Option Stop)
+passed_there : {K : Type 0} (task : Task K) (classes : List ℕ) (worker : ℕ) (S : Stops)
+    (stop : Option Stop)
     (kept : List K) → HasEnded task classes worker S stop kept
     → HasPassed task classes worker S stop
 passed_there {K} task classes worker S None kept e = e.1
@@ -178,11 +186,13 @@ kept_of_none {K} task own kept e n = record {
 }
 
 -- a class that waits in a stretch of classes of the task is one of the task's, and so is its block
-open_within : {K : Type 0} (task : Task K) (size part : ℕ) (classes own : List ℕ) (stop : Option Stop)
+open_within : {K : Type 0} (task : Task K) (size part : ℕ) (classes own : List ℕ)
+    (stop : Option Stop)
     (class block : ℕ) → All (λ class. class < length task.job.classes.representative) classes
     → own ≡ stretch size classes part
     → IsOpenIn task own stop class block
-    → (class < length task.job.classes.representative) × (block < blocks (length task.job.tests.tests))
+    → (class < length task.job.classes.representative) × (block < blocks
+    (length task.job.tests.tests))
 open_within {K} task size part classes own None class block all is x = absurd x
 open_within {K} task size part classes own (Some stop) class block all is x = (
   let at : slice_get (stretch size classes part) x.place ≡ Some class =
@@ -225,7 +235,8 @@ unbegun_lowest {K} task [] lowest is = lowest_along (IsOpenIn task [] (Some at_f
 unbegun_lowest {K} task (class ∷ own) lowest is = is
 
 -- and if it has one, it waits
-unbegun_waits : {K : Type 0} (task : Task K) → IsOpenAtFirst task → (own : List ℕ) → 0 < length own → 0 < blocks (length task.job.tests.tests)
+unbegun_waits : {K : Type 0} (task : Task K) → IsOpenAtFirst task → (own : List ℕ) → 0 < length own
+    → 0 < blocks (length task.job.tests.tests)
     → (class : ℕ) × IsOpenIn task (unbegun_run own).classes (unbegun_run own).stop class 0
 unbegun_waits {K} task first [] some block = absurd (omega (arith, some))
 unbegun_waits {K} task first (class ∷ own) some block = (
@@ -246,7 +257,8 @@ unbegun_none [] = refl
 unbegun_none (class ∷ own) = refl
 
 -- the result of a worker for a stretch that it ran is at the stretch's place
-begun : {K : Type 0} (own : List ℕ) (place : Option (Done K)) (run : PartRun) (w : ℕ) → run ≡ run_at own place
+begun : {K : Type 0} (own : List ℕ) (place : Option (Done K)) (run : PartRun) (w : ℕ)
+    → run ≡ run_at own place
     → run.worker ≡ Some w
     → (done : Done K) × (place ≡ Some done) × (done.worker ≡ w) × (run.stop ≡ done.stop)
 begun {K} own None run w e q =
@@ -257,7 +269,8 @@ begun {K} own (Some done) run w e q =
     (done, refl, cc, ap (λ (r : PartRun). r.stop) e)
 
 -- if a worker was stopped, a class waits
-stopped_waits : {K : Type 0} (task : Task K) (size : ℕ) (classes : List ℕ) (worker : ℕ) (P : Type 0) (S : Stops)
+stopped_waits : {K : Type 0} (task : Task K) (size : ℕ) (classes : List ℕ) (worker : ℕ) (P : Type 0)
+    (S : Stops)
     (done : Done K) (stop : Stop) → IsDone task size classes worker P S done → done.stop ≡ Some stop
     → (v : Waiting) × (done.waiting ≡ Some v)
 stopped_waits {K} task size classes worker P S done stop is e = pick done.waiting refl
@@ -272,160 +285,166 @@ stopped_waits {K} task size classes worker P S done stop is e = pick done.waitin
         let none = not_stopped task own worker S done.stop done.kept.items is.ended low in
         let bad : Some stop ≡ None = sym e ∙ none in absurd (cc)
 
-module _ {K : Type 0} (task : Task K) (size : ℕ) (classes : List ℕ) (workers : ℕ) (P : Type 0) (S : Stops)
-    (table : List (Option (Done K))) (found : AreFoundByPart task size classes workers P S table) where
-  abbrev pub runs : List PartRun
-  runs = runs_from size classes 0 table
+module _ {K : Type 0} (task : Task K) (size : ℕ) (classes : List ℕ) (workers : ℕ) (P : Type 0)
+    (S : Stops)
+    (table : List (Option (Done K))) (found : AreFoundByPart task size classes workers P S table)
+  where
+    abbrev pub runs : List PartRun
+    runs = runs_from size classes 0 table
 
-  -- the runs of a table are runs of the stretches
-  pub runs_are : AreRunsOf task size classes workers S (length table) runs
-  runs_are = record {
-    count = runs_count size classes 0 table;
-    each = λ part run at. let x = run_back size classes table part run at in
-        go part run x.0 x.1 x.2;
-    once = λ i k w a b s t ea eb wa wb sa sb.
-        let x = run_back size classes table i a ea in
-        let y = run_back size classes table k b eb in
-        let u = begun (stretch size classes i) x.0 a w x.2 wa in
-        let v = begun (stretch size classes k) y.0 b w y.2 wb in
-        let iu : slice_get table i ≡ Some (Some u.0) = x.1 ∙ ap Some u.1 in
-        let iv : slice_get table k ≡ Some (Some v.0) = y.1 ∙ ap Some v.1 in
-        let p = stopped_waits task size classes u.0.worker P S u.0 s (found.each i u.0 iu).2
-        (sym u.3 ∙ sa) in
-        let q = stopped_waits task size classes v.0.worker P S v.0 t (found.each k v.0 iv).2
-        (sym v.3 ∙ sb) in
-        found.once i k u.0 v.0 p.0 q.0 iu iv (u.2 ∙ sym v.2) p.1 q.1;
-  }
-    where
-      go : (part : ℕ) (run : PartRun) (place : Option (Done K)) → slice_get table part ≡ Some place
-          → run ≡ run_at (stretch size classes part) place
-          → (run.classes ≡ stretch size classes part)
-          × HasRunSo task size classes workers S runs run run.worker
-      go part run (Some done) at e =
-          let f = found.each part done at in
-          let ended : HasEnded task (stretch size classes part) done.worker S done.stop
-          done.kept.items = subst (λ n. HasEnded task (stretch size classes n) done.worker S
-          done.stop done.kept.items) f.0 f.2.ended in
-          subst (λ (r : PartRun). (r.classes ≡ stretch size classes part)
-          × HasRunSo task size classes workers S runs r r.worker) (sym e) (
-            refl,
-            (
-              f.1,
-              λ stop q. stopped_there task (stretch size classes part) done.worker S done.stop
-                  done.kept.items ended stop q,
-              passed_there task (stretch size classes part) done.worker S done.stop
-                  done.kept.items ended,
-            ),
-          )
-      go part run None at e =
-          subst (λ (r : PartRun). (r.classes ≡ stretch size classes part)
-          × HasRunSo task size classes workers S runs r r.worker) (sym e)
-          (unbegun_so task size classes workers S runs (stretch size classes part)
-          (λ some. (found.none part at some).2))
+    -- the runs of a table are runs of the stretches
+    pub runs_are : AreRunsOf task size classes workers S (length table) runs
+    runs_are = record {
+      count = runs_count size classes 0 table;
+      each = λ part run at. let x = run_back size classes table part run at in
+          go part run x.0 x.1 x.2;
+      once = λ i k w a b s t ea eb wa wb sa sb.
+          let x = run_back size classes table i a ea in
+          let y = run_back size classes table k b eb in
+          let u = begun (stretch size classes i) x.0 a w x.2 wa in
+          let v = begun (stretch size classes k) y.0 b w y.2 wb in
+          let iu : slice_get table i ≡ Some (Some u.0) = x.1 ∙ ap Some u.1 in
+          let iv : slice_get table k ≡ Some (Some v.0) = y.1 ∙ ap Some v.1 in
+          let p = stopped_waits task size classes u.0.worker P S u.0 s (found.each i u.0 iu).2
+          (sym u.3 ∙ sa) in
+          let q = stopped_waits task size classes v.0.worker P S v.0 t (found.each k v.0 iv).2
+          (sym v.3 ∙ sb) in
+          found.once i k u.0 v.0 p.0 q.0 iu iv (u.2 ∙ sym v.2) p.1 q.1;
+    }
+      where
+        go : (part : ℕ) (run : PartRun) (place : Option (Done K))
+            → slice_get table part ≡ Some place
+            → run ≡ run_at (stretch size classes part) place
+            → (run.classes ≡ stretch size classes part)
+            × HasRunSo task size classes workers S runs run run.worker
+        go part run (Some done) at e =
+            let f = found.each part done at in
+            let ended : HasEnded task (stretch size classes part) done.worker S done.stop
+            done.kept.items = subst (λ n. HasEnded task (stretch size classes n) done.worker S
+            done.stop done.kept.items) f.0 f.2.ended in
+            subst (λ (r : PartRun). (r.classes ≡ stretch size classes part)
+            × HasRunSo task size classes workers S runs r r.worker) (sym e) (
+              refl,
+              (
+                f.1,
+                λ stop q. stopped_there task (stretch size classes part) done.worker S done.stop
+                    done.kept.items ended stop q,
+                passed_there task (stretch size classes part) done.worker S done.stop
+                    done.kept.items ended,
+              ),
+            )
+        go part run None at e =
+            subst (λ (r : PartRun). (r.classes ≡ stretch size classes part)
+            × HasRunSo task size classes workers S runs r r.worker) (sym e)
+            (unbegun_so task size classes workers S runs (stretch size classes part)
+            (λ some. (found.none part at some).2))
 
-  -- a gate that lets all pass leaves no class open
-  none_waits : P → (class block : ℕ) → WaitsIn task runs class block → ⊥
-  none_waits p class block x =
-      let y = run_back size classes table x.0 x.1 x.2 in
-      go x.0 y.0 y.1 (subst (λ (r : PartRun). IsOpenIn task r.classes r.stop class block) y.2 x.3)
-    where
-      go : (part : ℕ) (place : Option (Done K)) → slice_get table part ≡ Some place
-          → IsOpenIn task (run_at (stretch size classes part) place).classes
-          (run_at (stretch size classes part) place).stop class block → ⊥
-      go part (Some done) at still_open =
-          let f = found.each part done at in
-          subst (λ s. IsOpenIn task (stretch size classes part) s class block) (f.2.passed p)
-          still_open
-      go part None at still_open =
-          (found.none part at (unbegun_open task (stretch size classes part) class block
-          still_open)).0 p
+    -- a gate that lets all pass leaves no class open
+    none_waits : P → (class block : ℕ) → WaitsIn task runs class block → ⊥
+    none_waits p class block x =
+        let y = run_back size classes table x.0 x.1 x.2 in
+        go x.0 y.0 y.1 (subst (λ (r : PartRun). IsOpenIn task r.classes r.stop class block) y.2 x.3)
+      where
+        go : (part : ℕ) (place : Option (Done K)) → slice_get table part ≡ Some place
+            → IsOpenIn task (run_at (stretch size classes part) place).classes
+            (run_at (stretch size classes part) place).stop class block → ⊥
+        go part (Some done) at still_open =
+            let f = found.each part done at in
+            subst (λ s. IsOpenIn task (stretch size classes part) s class block) (f.2.passed p)
+            still_open
+        go part None at still_open =
+            (found.none part at (unbegun_open task (stretch size classes part) class block
+            still_open)).0 p
 
-  -- the lowest class that waits
-  pub stretches_wait : (parts class block : ℕ) → IsCutOf task.job parts size classes
-      → length table ≡ parts
-      → IsLowest (WaitsIn task runs) (Some (record { class = class; block = block }))
-      → (class < length task.job.classes.representative) × (block < blocks (length task.job.tests.tests))
-      × (P → ⊥) × StretchesWaitFor task size classes parts workers S class block
-  stretches_wait parts class block cut count low =
-      let x = low.0 in
-      let own = (runs_are.each x.0 x.1 x.2).0 in
-      let within = open_within task size x.0 classes x.1.classes x.1.stop class block cut.within own
-      x.3 in (
-        within.0,
-        within.1,
-        λ p. none_waits p class block x,
-        record {
-          runs = runs;
-          are = subst (λ n. AreRunsOf task size classes workers S n runs) count runs_are;
-          lowest = low;
-        },
-      )
+    -- the lowest class that waits
+    pub stretches_wait : (parts class block : ℕ) → IsCutOf task.job parts size classes
+        → length table ≡ parts
+        → IsLowest (WaitsIn task runs) (Some (record { class = class; block = block }))
+        → (class < length task.job.classes.representative)
+        × (block < blocks (length task.job.tests.tests))
+        × (P → ⊥) × StretchesWaitFor task size classes parts workers S class block
+    stretches_wait parts class block cut count low =
+        let x = low.0 in
+        let own = (runs_are.each x.0 x.1 x.2).0 in
+        let within = open_within task size x.0 classes x.1.classes x.1.stop class block cut.within
+        own
+        x.3 in (
+          within.0,
+          within.1,
+          λ p. none_waits p class block x,
+          record {
+            runs = runs;
+            are = subst (λ n. AreRunsOf task size classes workers S n runs) count runs_are;
+            lowest = low;
+          },
+        )
 
-  -- the results at each place give its lowest class
-  pub all_lowest : AreAllLowest task size classes table
-  all_lowest part place at = go place at
-    where
-      go : (place : Option (Done K)) → slice_get table part ≡ Some place
-          → IsLowestAt task (stretch size classes part) place
-      go None at = λ some. (found.none part at some).1
-      go (Some done) at =
-          let f = found.each part done at in
-          subst (λ n. IsLowest (IsOpenIn task (stretch size classes n) done.stop) done.waiting) f.0
-          f.2.lowest
+    -- the results at each place give its lowest class
+    pub all_lowest : AreAllLowest task size classes table
+    all_lowest part place at = go place at
+      where
+        go : (place : Option (Done K)) → slice_get table part ≡ Some place
+            → IsLowestAt task (stretch size classes part) place
+        go None at = λ some. (found.none part at some).1
+        go (Some done) at =
+            let f = found.each part done at in
+            subst (λ n. IsLowest (IsOpenIn task (stretch size classes n) done.stop) done.waiting)
+            f.0
+            f.2.lowest
 
-  -- if no class waits, all places are whole
-  pub none_whole : IsOpenAtFirst task → IsLowest (WaitsIn task runs) None
-      → AreWhole size classes table
-  none_whole first none part place at = go place at
-    where
-      go : (place : Option (Done K)) → slice_get table part ≡ Some place
-          → IsWholeAt size classes part place
-      go (Some done) at = pick done.waiting refl
-        where
-          low : IsLowest (IsOpenIn task (stretch size classes part) done.stop) done.waiting
-          low = all_lowest part (Some done) at
+    -- if no class waits, all places are whole
+    pub none_whole : IsOpenAtFirst task → IsLowest (WaitsIn task runs) None
+        → AreWhole size classes table
+    none_whole first none part place at = go place at
+      where
+        go : (place : Option (Done K)) → slice_get table part ≡ Some place
+            → IsWholeAt size classes part place
+        go (Some done) at = pick done.waiting refl
+          where
+            low : IsLowest (IsOpenIn task (stretch size classes part) done.stop) done.waiting
+            low = all_lowest part (Some done) at
 
-          pick : (x : Option Waiting) → done.waiting ≡ x → done.waiting ≡ None
-          pick None e = e
-          pick (Some v) e =
-              let own = subst (IsLowest (IsOpenIn task (stretch size classes part) done.stop)) e
-              low in
-              absurd (none v.class v.block (
-                part,
-                run_at (stretch size classes part) (Some done),
-                run_there size classes table part (Some done) at,
-                own.0,
-              ))
-      go None at = pick (length (stretch size classes part)) refl
-        where
-          pick : (n : ℕ) → length (stretch size classes part) ≡ n
-              → length (stretch size classes part) ≡ 0
-          pick zero e = e
-          pick (suc n) e =
-              let some : 0 < length (stretch size classes part) = omega (arith, e) in
-              let x = unbegun_waits task first (stretch size classes part) some
-              (found.none part at some).1 in
-              absurd (none x.0 0 (
-                part,
-                run_at {K = K} (stretch size classes part) None,
-                run_there size classes table part None at,
-                x.1,
-              ))
+            pick : (x : Option Waiting) → done.waiting ≡ x → done.waiting ≡ None
+            pick None e = e
+            pick (Some v) e =
+                let own = subst (IsLowest (IsOpenIn task (stretch size classes part) done.stop)) e
+                low in
+                absurd (none v.class v.block (
+                  part,
+                  run_at (stretch size classes part) (Some done),
+                  run_there size classes table part (Some done) at,
+                  own.0,
+                ))
+        go None at = pick (length (stretch size classes part)) refl
+          where
+            pick : (n : ℕ) → length (stretch size classes part) ≡ n
+                → length (stretch size classes part) ≡ 0
+            pick zero e = e
+            pick (suc n) e =
+                let some : 0 < length (stretch size classes part) = omega (arith, e) in
+                let x = unbegun_waits task first (stretch size classes part) some
+                (found.none part at some).1 in
+                absurd (none x.0 0 (
+                  part,
+                  run_at {K = K} (stretch size classes part) None,
+                  run_there size classes table part None at,
+                  x.1,
+                ))
 
-  -- and whole places give what is kept
-  pub whole_kept : AreWhole size classes table → AreAllKept task size classes table
-  whole_kept whole part place at = go place at (whole part place at)
-    where
-      go : (place : Option (Done K)) → slice_get table part ≡ Some place
-          → IsWholeAt size classes part place → IsKeptAt task (stretch size classes part) place
-      go None at none = none
-      go (Some done) at none =
-          let f = found.each part done at in
-          let own = stretch size classes done.part in
-          let low = subst (IsLowest (IsOpenIn task own done.stop)) none f.2.lowest in
-          let stop = not_stopped task own done.worker S done.stop done.kept.items f.2.ended low in
-          subst (λ n. AreKept task (stretch size classes n) done.kept.items) f.0
-          (not_stopped_kept task own done.worker S done.stop done.kept.items f.2.ended stop)
+    -- and whole places give what is kept
+    pub whole_kept : AreWhole size classes table → AreAllKept task size classes table
+    whole_kept whole part place at = go place at (whole part place at)
+      where
+        go : (place : Option (Done K)) → slice_get table part ≡ Some place
+            → IsWholeAt size classes part place → IsKeptAt task (stretch size classes part) place
+        go None at none = none
+        go (Some done) at none =
+            let f = found.each part done at in
+            let own = stretch size classes done.part in
+            let low = subst (IsLowest (IsOpenIn task own done.stop)) none f.2.lowest in
+            let stop = not_stopped task own done.worker S done.stop done.kept.items f.2.ended low in
+            subst (λ n. AreKept task (stretch size classes n) done.kept.items) f.0
+            (not_stopped_kept task own done.worker S done.stop done.kept.items f.2.ended stop)
 
 -- ---- what is kept, one stretch after another
 

@@ -51,12 +51,13 @@ use Rattle.region_runs.proofs.StretchTables.{AreFoundByPart, AreWhole, IsWholeAt
 use Rattle.region_runs.proofs.PartRefusals.{ceil_le}
 use Rattle.region_runs.proofs.RunsOfParts.{none_open, run_there}
 use Rattle.region_runs.proofs.StretchSeats.{accounts_on}
-use Rattle.region_runs.specs.Tasks.{AreKept, IsOpenAtFirst, IsSound, Task, first_tests, task_of}
+use Rattle.region_runs.specs.Tasks.{AreKept, Task}
 
 -- ---- the ledger is closed
 
 -- each seat that came back is one of the ledger's
-pub apart_placed : {E Z : Type 0} {K : Type 0} (p : Place) (back : List (Result (Served K) E)) (seats : List Sitter)
+pub apart_placed : {E Z : Type 0} {K : Type 0} (p : Place) (back : List (Result (Served K) E))
+    (seats : List Sitter)
     (dones : List (Vec (Done K) Z)) → AreApart back seats dones
     → All (λ one. IfOk one (λ served. served.seat.place ≡ p)) back
     → All (λ (seat : Sitter). seat.place ≡ p) seats
@@ -71,7 +72,8 @@ apart_placed {E} {Z} {K} p back seats dones apart placed k d lt =
     ∙ ap (λ (x : Sitter). x.place) x.2 ∙ own
 
 -- so are the results of all workers
-pub served_placed : {E : Type 0} {K : Type 0} (task : Task K) (size : ℕ) (classes : List ℕ) (p : Place)
+pub served_placed : {E : Type 0} {K : Type 0} (task : Task K) (size : ℕ) (classes : List ℕ)
+    (p : Place)
     (P : Type 0) (S : Stops) (back : List (Result (Served K) E))
     → AreServed task size classes p P S back
     → All (λ one. IfOk one (λ served. served.seat.place ≡ p)) back
@@ -87,7 +89,8 @@ served_placed {E} {K} task size classes p P S back served k d lt =
     go (Ok x) h = h.place_is
 
 -- how a worker ended it has ended later
-ended_on : {K : Type 0} (s : Shape) (w : ℕ) (later earlier : History) (own : List (Done K)) → IsLegal s later
+ended_on : {K : Type 0} (s : Shape) (w : ℕ) (later earlier : History) (own : List (Done K))
+    → IsLegal s later
     → ContinuesWithout w later earlier → EndsServing s earlier own → EndsServing s later own
 ended_on {K} s w later earlier own l c (inl all) =
     let more : claims earlier ≤ claims later = subst (λ k. claims earlier ≤ claims k)
@@ -97,8 +100,10 @@ ended_on {K} s w later earlier own l c (inl all) =
 ended_on {K} s w later earlier own l c (inr stopped) = inr stopped
 
 -- the results of all workers, by the history of the closed ledger
-pub shared : {E Z : Type 0} {K : Type 0} (task : Task K) (size : ℕ) (classes : List ℕ) (p : Place) (P : Type 0)
-    (S : Stops) (back : List (Result (Served K) E)) (seats : List Sitter) (dones : List (Vec (Done K) Z))
+pub shared : {E Z : Type 0} {K : Type 0} (task : Task K) (size : ℕ) (classes : List ℕ) (p : Place)
+    (P : Type 0)
+    (S : Stops) (back : List (Result (Served K) E)) (seats : List Sitter) (dones : List (Vec
+    (Done K) Z))
     (closed : ClosedFace) → AreServed task size classes p P S back → AreApart back seats dones
     → Closes p.shape seats closed → AreShared task size classes p.shape P S dones closed
 shared {E} {Z} {K} task size classes p P S back seats dones closed served apart closes = record {
@@ -127,7 +132,8 @@ shared {E} {Z} {K} task size classes p P S back seats dones closed served apart 
 }
 
 -- the end of the closed ledger
-pub face_finish : {Z : Type 0} {K : Type 0} (task : Task K) (size : ℕ) (classes : List ℕ) (s : Shape) (P : Type 0)
+pub face_finish : {Z : Type 0} {K : Type 0} (task : Task K) (size : ℕ) (classes : List ℕ)
+    (s : Shape) (P : Type 0)
     (S : Stops) (dones : List (Vec (Done K) Z)) (face : ClosedFace) (end : Finish)
     → (all : AreShared task size classes s P S dones face)
     → ((h : History) → IsLegal face.shape h → face ≡ closed_face face.shape h
@@ -141,7 +147,8 @@ face_finish {Z} {K} task size classes s P S dones face end all tells =
 
 -- the shared results, under another name of the shape
 pub shared_at : {Z : Type 0} {K : Type 0} (task : Task K) (size : ℕ) (classes : List ℕ) (s : Shape)
-    (n crew workers : ℕ) (P : Type 0) (S : Stops) (dones : List (Vec (Done K) Z)) (closed : ClosedFace)
+    (n crew workers : ℕ) (P : Type 0) (S : Stops) (dones : List (Vec (Done K) Z))
+    (closed : ClosedFace)
     → s ≡ shape_of_stretches n crew → n ≡ stretch_count size classes → crew ≡ crew_of workers n
     → AreShared task size classes s P S dones closed
     → AreShared task size classes (shape_of_stretches (stretch_count size classes)
@@ -244,7 +251,8 @@ claimed_by s H p (Event.Report u o ∷ h) l lt each = claimed_by s H p h l.1 lt 
 claimed_by s H p (Event.Drop u ∷ h) l lt each = claimed_by s H p h l.1 lt each
 
 -- if a class of a stretch waits, the gate stopped the worker in it
-stopped_in : {K : Type 0} (task : Task K) (size : ℕ) (classes : List ℕ) (w : ℕ) (P : Type 0) (S : Stops)
+stopped_in : {K : Type 0} (task : Task K) (size : ℕ) (classes : List ℕ) (w : ℕ) (P : Type 0)
+    (S : Stops)
     (done : Done K) (v : Waiting) → done.waiting ≡ Some v → IsDone task size classes w P S done
     → (P → ⊥) × (stop : Stop) × (done.stop ≡ Some stop)
     × IsStopAt task (stretch size classes done.part) w S stop

@@ -1,6 +1,6 @@
 -- The results of a worker that runs a list by itself, piece by piece.
-use Rattle.std.proofs.Common.{◌≡◌, ◌≢◌, ◌<◌, ◌≤◌, ◌+◌, ◌*◌, ◌⊎◌, inl, inr, ℕ, zero, suc, Bool}
-use Rattle.std.proofs.Common.{List, [], ◌∷◌, map, length, set, All, Option, Some, None, refl}
+use Rattle.std.proofs.Common.{◌≡◌, ◌<◌, ◌≤◌, ◌+◌, ◌*◌, ◌⊎◌, inl, inr, ℕ, zero, suc, Bool}
+use Rattle.std.proofs.Common.{List, [], ◌∷◌, map, length, All, Option, Some, None, refl}
 use Rattle.std.proofs.Common.{sym, ap, ◌∙◌, subst, arith, true, false}
 use Rattle.std.specs.Prelude.{slice_get}
 use Rattle.std.proofs.lemmas.Bool.{cases_lt, false≢true}
@@ -196,7 +196,8 @@ pub open_none : {K : Type 0} (task : Task K) (classes : List ℕ) (stop : Stop)
 open_none {K} task classes stop = λ c b x. omega (arith, x.low)
 
 -- that at one place more doesn't
-pub open_same : {K : Type 0} (task : Task K) (classes : List ℕ) (stop : Stop) (place : ℕ) (lowest : Option Waiting)
+pub open_same : {K : Type 0} (task : Task K) (classes : List ℕ) (stop : Stop) (place : ℕ)
+    (lowest : Option Waiting)
     → ((c b : ℕ) (x : IsOpenBelow task classes stop (place + 1) c b) → x.place ≡ place → ⊥)
     → IsLowest (IsOpenBelow task classes stop place) lowest
     → IsLowest (IsOpenBelow task classes stop (place + 1)) lowest
@@ -262,7 +263,8 @@ pub open_more : {K : Type 0} (task : Task K) → IsSound task → (classes : Lis
     → w.class ≡ class → w.block ≡ block → IsLowerOf lowest (Some w) lower
     → IsLowest (IsOpenBelow task classes stop place) lowest
     → IsLowest (IsOpenBelow task classes stop (place + 1)) lower
-open_more {K} task sound classes stop place class block kept one w lowest lower found ec ek wanted is
+open_more {K} task sound classes stop place class block kept one w lowest lower found ec ek wanted
+    is
     low wc wb lo was =
     lowest_along (λ c b. IsOpenBelow task classes stop place c b ⊎ Here c b)
     (IsOpenBelow task classes stop (place + 1)) lower (λ c b x. to c b x)

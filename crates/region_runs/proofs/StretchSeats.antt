@@ -8,7 +8,6 @@ use Rattle.std.proofs.Math.Nat.{mul-zero}
 use Rattle.std.proofs.lemmas.List.Elements.{All-nil, All-push, All-weaker}
 use Rattle.patterns.specs.Tests.{blocks}
 use Rattle.patterns.specs.declared.Outcome.TheVariants as outcome
-use Rattle.block_sim.specs.Parts.{Parts}
 use Rattle.fault_ledger.specs.declared.Event.{Event}
 use Rattle.fault_ledger.specs.declared.Claim.TheVariants as claim_is
 use Rattle.fault_ledger.specs.declared.PieceState.TheVariants as state
@@ -30,7 +29,7 @@ use Rattle.region_runs.specs.StretchRuns.{IsDone}
 use Rattle.region_runs.specs.Stretches.{Accounts, AfterRun, ClaimsStretch, EachClaim}
 use Rattle.region_runs.specs.Stretches.{HasServed, IsAmong, SeesAllClaimed, Stands}
 use Rattle.region_runs.proofs.ReturnsByPart.{kept, last_of}
-use Rattle.region_runs.specs.Tasks.{AreKept, IsOpenAtFirst, IsSound, Task, first_tests, task_of}
+use Rattle.region_runs.specs.Tasks.{Task}
 
 -- ---- calls
 
@@ -209,7 +208,8 @@ among_more : {K : Type 0} (dones : List (Done K)) (done : Done K) (p : ℕ) → 
     → IsAmong (dones ++ done ∷ []) p
 among_more {K} dones done p x = (x.0, x.1, kept dones (done ∷ []) x.0 x.1 x.2, x.3)
 
-module _ {K : Type 0} (task : Task K) (size : ℕ) (classes : List ℕ) (place : Place) (w : ℕ) (P : Type 0)
+module _ {K : Type 0} (task : Task K) (size : ℕ) (classes : List ℕ) (place : Place) (w : ℕ)
+    (P : Type 0)
     (S : Stops) where
   -- a seat between two claims
   pub record Serving (seat : Sitter) (dones : List (Done K)) : Type 0 where

@@ -1,13 +1,12 @@
 -- Tables of the stretches of a run, with the results of workers.
 use Rattle.std.specs.Prelude.{◌≡◌, ◌<◌, ℕ, List, length, slice_get, Option, Some, None}
 use Rattle.patterns.specs.Tests.{blocks}
-use Rattle.block_sim.specs.Parts.{Parts}
 use Rattle.workers.specs.Stops.{Stops}
 use Rattle.region_runs.specs.declared.stretch_run.Waiting.{Waiting}
 use Rattle.region_runs.specs.declared.stretch_workers.Done.{Done}
 use Rattle.region_runs.specs.Part.{stretch}
 use Rattle.region_runs.specs.StretchRuns.{AreAllStopped, IsDone, runs_from}
-use Rattle.region_runs.specs.Tasks.{AreKept, IsOpenAtFirst, IsSound, Task, first_tests, task_of}
+use Rattle.region_runs.specs.Tasks.{Task}
 
 -- A place of a table of stretches has a worker's result for the stretch of this number, and if it
 -- is empty no worker began the stretch. Then the stretch has no class, or the gate stopped each

@@ -6,7 +6,7 @@ use Rattle.std.proofs.lemmas.List.{length-map}
 use Rattle.std.proofs.lemmas.Option.{get_or_from_slice_get, slice_get-get_or, slice_get_within}
 use Rattle.std.proofs.lemmas.Slice.Zip.{length-zip}
 use Rattle.std.proofs.Math.Nat.{min-eq_left}
-use Rattle.std.specs.Prelude.{filter, is_none, slice_get, zip}
+use Rattle.std.specs.Prelude.{slice_get, zip}
 use Rattle.list_lemmas.proofs.Places.{from_mapped}
 use Rattle.bench_net.specs.Statement.{Statement}
 use Rattle.fault_model.specs.declared.Model.{Model}

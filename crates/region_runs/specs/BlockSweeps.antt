@@ -8,12 +8,14 @@ use Rattle.block_sim.specs.First.{IsFirstOn}
 use Rattle.workers.specs.Stops.{Stops}
 
 -- the gate surely stops the worker on a block at none of the open classes before a place
-abbrev pub AreNotStopped : {K : Type 0} → (K → Bool) → List ListedClass → List K → ℕ → Stops → ℕ → ℕ → Type 0
+abbrev pub AreNotStopped : {K : Type 0} → (K → Bool) → List ListedClass → List K → ℕ → Stops → ℕ → ℕ
+    → Type 0
 AreNotStopped wants rows kept worker stops block place = (k : ℕ) (row : ListedClass) → k < place
     → IsOpenAt wants rows kept k row → stops.must worker row.class block → ⊥
 
 -- the gate may stop the worker on a block at the open class at a place
-abbrev pub IsStoppedAt : {K : Type 0} → (K → Bool) → List ListedClass → List K → ℕ → Stops → ℕ → ℕ → Type 0
+abbrev pub IsStoppedAt : {K : Type 0} → (K → Bool) → List ListedClass → List K → ℕ → Stops → ℕ → ℕ
+    → Type 0
 IsStoppedAt wants rows kept worker stops block place = (row : ListedClass)
     × IsOpenAt wants rows kept place row × stops.may worker row.class block
 

@@ -1,7 +1,7 @@
 -- The parts of the classes, and the verdicts of a run over a part on each fault.
-use Rattle.std.specs.Prelude.{◌≡◌, ◌≢◌, ◌⊎◌, ◌<◌, ◌≤◌, ⊤, ℕ, ◌%◌, ◌*◌, max, List, length, take}
+use Rattle.std.specs.Prelude.{◌≡◌, ◌≢◌, ◌⊎◌, ◌<◌, ℕ, ◌%◌, ◌*◌, max, List, length, take}
 use Rattle.std.specs.Prelude.{drop}
-use Rattle.std.specs.Prelude.{slice_get, Option, Some, None, slice_index_or, min, nat_lt}
+use Rattle.std.specs.Prelude.{slice_get, Option, Some, None, min, nat_lt}
 use Rattle.std.specs.Prelude.{if◌then◌else◌}
 use Rattle.std.specs.Int.{div_ceil}
 use Rattle.fault_model.specs.Fault.{Fault, faults}

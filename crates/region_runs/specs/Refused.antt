@@ -36,14 +36,16 @@ HasLargePart job parts = max_pieces < pieces_of_stretch job parts
 
 -- the error if classes are run in this number of stretches of this size, each by one worker by
 -- itself: the class is the lowest of all that aren't settled
-abbrev pub IsStretchesFault : {K : Type 0} → Task K → ℕ → List ℕ → ℕ → ℕ → Type 0 → Stops → RunFault → Type 0
+abbrev pub IsStretchesFault : {K : Type 0} → Task K → ℕ → List ℕ → ℕ → ℕ → Type 0 → Stops → RunFault
+    → Type 0
 IsStretchesFault task size classes parts workers passing stops Memory =
     (0 < workers) × (workers ≤ 64)
 IsStretchesFault task size classes parts workers passing stops Threads =
     (0 < workers) × (workers ≤ 64)
 IsStretchesFault task size classes parts workers passing stops (Unfinished class block) =
     (0 < workers) × (workers ≤ 64)
-    × (class < length task.job.classes.representative) × (block < blocks (length task.job.tests.tests))
+    × (class < length task.job.classes.representative) × (block < blocks
+    (length task.job.tests.tests))
     × (¬ passing) × StretchesWaitFor task size classes parts workers stops class block
 IsStretchesFault task size classes parts workers passing stops fault = ⊥
 

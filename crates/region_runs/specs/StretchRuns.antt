@@ -113,7 +113,8 @@ pub record IsDone {K : Type 0} (task : Task K) (size : ℕ) (classes : List ℕ)
   pub passed : passing → done.stop ≡ None
 
 -- the results for each of several parts
-abbrev pub AreDone : {K : Type 0} → Task K → ℕ → List ℕ → ℕ → Type 0 → Stops → List (Done K) → Type 0
+abbrev pub AreDone : {K : Type 0} → Task K → ℕ → List ℕ → ℕ → Type 0 → Stops → List (Done K)
+    → Type 0
 AreDone task size classes worker passing stops all =
     All (λ done. IsDone task size classes worker passing stops done) all
 
@@ -187,7 +188,8 @@ AreAllStopped task size classes workers stops runs = (w : ℕ) → w < workers
 -- How a run of a stretch ended. Either one of the workers ran it: it was stopped only at a piece
 -- where the gate may stop the worker, and it passed no piece where the gate surely does. Or no
 -- worker began it: then it has no class, or the gate stopped each worker in one of the runs.
-abbrev pub HasRunSo : {K : Type 0} → Task K → ℕ → List ℕ → ℕ → Stops → List PartRun → PartRun → Option ℕ → Type 0
+abbrev pub HasRunSo : {K : Type 0} → Task K → ℕ → List ℕ → ℕ → Stops → List PartRun → PartRun
+    → Option ℕ → Type 0
 HasRunSo task size classes workers stops runs run (Some w) = (w < workers)
     × ((stop : Stop) → run.stop ≡ Some stop → IsStopAt task run.classes w stops stop)
     × HasPassed task run.classes w stops run.stop
@@ -195,7 +197,8 @@ HasRunSo task size classes workers stops runs run None = (run ≡ unbegun_run ru
     × (0 < length run.classes → AreAllStopped task size classes workers stops runs)
 
 -- the runs of n stretches of classes; a worker is stopped in at most one of them
-pub record AreRunsOf {K : Type 0} (task : Task K) (size : ℕ) (classes : List ℕ) (workers : ℕ) (stops : Stops)
+pub record AreRunsOf {K : Type 0} (task : Task K) (size : ℕ) (classes : List ℕ) (workers : ℕ)
+    (stops : Stops)
     (n : ℕ) (runs : List PartRun) : Type 0 where
   pub count : length runs ≡ n
   pub each : (part : ℕ) (run : PartRun) → slice_get runs part ≡ Some run
@@ -238,7 +241,8 @@ AreAllLowest {K} task size classes table = (part : ℕ) (place : Option (Done K)
 
 -- A run of classes in a number of stretches of this size that its gate stopped waits for this class
 -- and block: the class is the lowest unsettled class of all stretches.
-pub record StretchesWaitFor {K : Type 0} (task : Task K) (size : ℕ) (classes : List ℕ) (parts workers : ℕ)
+pub record StretchesWaitFor {K : Type 0} (task : Task K) (size : ℕ) (classes : List ℕ)
+    (parts workers : ℕ)
     (stops : Stops) (class block : ℕ) : Type 0 where
   pub runs : List PartRun
   pub are : AreRunsOf task size classes workers stops parts runs

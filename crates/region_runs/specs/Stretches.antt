@@ -81,7 +81,8 @@ EachClaim Holds w (_ ∷ h) = EachClaim Holds w h
 
 -- The results of a worker account for its events in a history: each stretch that it claimed has a
 -- result, and its state follows from that.
-pub record Accounts {K : Type 0} (task : Task K) (size : ℕ) (classes : List ℕ) (w : ℕ) (passing : Type 0)
+pub record Accounts {K : Type 0} (task : Task K) (size : ℕ) (classes : List ℕ) (w : ℕ)
+    (passing : Type 0)
     (stops : Stops) (h : History) (dones : List (Done K)) : Type 0 where
   pub done : AreDone task size classes w passing stops dones
   pub stand : All (λ d. Stands w h d.part d.waiting) dones
@@ -98,7 +99,8 @@ EndsServing shape h dones = (claims h ≡ piece_count shape) ⊎ IsStoppedIn don
 
 -- The seat of a worker of a new ledger of stretches at the end: it came back, its history is legal,
 -- and the worker's results account for it.
-pub record HasServed {K : Type 0} (task : Task K) (size : ℕ) (classes : List ℕ) (place : Place) (w : ℕ)
+pub record HasServed {K : Type 0} (task : Task K) (size : ℕ) (classes : List ℕ) (place : Place)
+    (w : ℕ)
     (passing : Type 0) (stops : Stops) (seat : Sitter) (dones : List (Done K)) : Type 0 where
   pub place_is : seat.place ≡ place
   pub worker_is : seat.worker ≡ w

@@ -7,9 +7,10 @@
 //! of the workers.
 //!
 //! [`run_in_parts`] runs all classes in some number of stretches, and [`run_open`] in a number that
-//! suits the workers. [`run_goal`] runs them for any [`region_sim::Goal`]. [`run_part`] runs the classes of one part of a run that several machines
-//! share. [`run_in_windows`] and [`run_part_in_windows`] do so on some blocks at a time. A
-//! [`ListRunner`] runs lists of classes in its caller's thread.
+//! suits the workers. [`run_goal`] runs them for any [`region_sim::Goal`]. [`run_part`] runs the
+//! classes of one part of a run that several machines share. [`run_in_windows`] and
+//! [`run_part_in_windows`] do so on some blocks at a time. A [`ListRunner`] runs lists of classes
+//! in its caller's thread.
 #![tactic(auto)]
 
 mod class_order;

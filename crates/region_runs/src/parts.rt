@@ -546,13 +546,15 @@ where
     requires cut { IsCutOf job.now cut.now.parts cut.now.size cut.now.classes.items }
     requires workers { (0 < workers) × (workers ≤ 64) }
     requires wanted { IsOpenAtFirst (task_of job.now (A.wants goal.now) (A.means goal.now)) }
-    ensures kept { IfOk result (λ gathered. AreKept (task_of job.now (A.wants goal.now) (A.means goal.now))
-        cut.now.classes.items gathered.kept.items) }
-    ensures stretches { IfOk result (λ gathered. AreByStretches (task_of job.now (A.wants goal.now) (A.means goal.now))
-        cut.now.size cut.now.classes.items workers gathered.kept.items gathered.ledger) }
-    ensures refused { IfErr result (IsStretchesFault (task_of job.now (A.wants goal.now) (A.means goal.now))
-        cut.now.size cut.now.classes.items cut.now.parts workers (G.passing gate.now)
-        (G.stops gate.now)) }
+    ensures kept { IfOk result (λ gathered. AreKept
+        (task_of job.now (A.wants goal.now) (A.means goal.now)) cut.now.classes.items
+        gathered.kept.items) }
+    ensures stretches { IfOk result (λ gathered. AreByStretches
+        (task_of job.now (A.wants goal.now) (A.means goal.now)) cut.now.size
+        cut.now.classes.items workers gathered.kept.items gathered.ledger) }
+    ensures refused { IfErr result (IsStretchesFault
+        (task_of job.now (A.wants goal.now) (A.means goal.now)) cut.now.size
+        cut.now.classes.items cut.now.parts workers (G.passing gate.now) (G.stops gate.now)) }
 {
     let _tests = job.tests();
     let handed = hand_out(rt, alloc, job, cut, workers, goal, gate)?;

@@ -51,11 +51,12 @@ pub(crate) fn run_list<A: Goal, G: Gate>(
 ) -> Option<Stop>
     requires rows { All (IsListed job.now) rows.now }
     requires serves { ServesRegions simulation.old job.now (length rows.now) }
-    requires none { AreKeptUpTo (task_of job.now (A.wants goal.now) (A.means goal.now)) (classes_of rows.now) 0 0 kept.old }
+    requires none { AreKeptUpTo (task_of job.now (A.wants goal.now) (A.means goal.now))
+        (classes_of rows.now) 0 0 kept.old }
     requires next { AreSuccessors next.old }
     requires places { length next.old ≡ length rows.now }
-    ensures ended { HasEnded (task_of job.now (A.wants goal.now) (A.means goal.now)) (classes_of rows.now) worker
-        (G.stops gate.now) result kept.new }
+    ensures ended { HasEnded (task_of job.now (A.wants goal.now) (A.means goal.now))
+        (classes_of rows.now) worker (G.stops gate.now) result kept.new }
     ensures passing { G.passing gate.now → result ≡ None }
     ensures serves { ServesRegions simulation.new job.now 0 }
 {
@@ -122,11 +123,12 @@ fn run_rows<A: Goal, G: Gate>(
 ) -> Option<Stop>
     requires rows { All (IsListed job.now) rows.now }
     requires serves { ServesRegions simulation.old job.now (length rows.now) }
-    requires none { AreKeptUpTo (task_of job.now (A.wants goal.now) (A.means goal.now)) (classes_of rows.now) 0 0 kept.old }
+    requires none { AreKeptUpTo (task_of job.now (A.wants goal.now) (A.means goal.now))
+        (classes_of rows.now) 0 0 kept.old }
     requires next { AreSuccessors next.old }
     requires places { length next.old ≡ length rows.now }
-    ensures ended { HasEnded (task_of job.now (A.wants goal.now) (A.means goal.now)) (classes_of rows.now) worker
-        (G.stops gate.now) result kept.new }
+    ensures ended { HasEnded (task_of job.now (A.wants goal.now) (A.means goal.now))
+        (classes_of rows.now) worker (G.stops gate.now) result kept.new }
     ensures passing { G.passing gate.now → result ≡ None }
     ensures serves { ServesRegions simulation.new job.now 0 }
 {
@@ -308,7 +310,8 @@ pub(crate) fn lowest_open<A: Goal>(
     requires found { AreKeptUpTo (task_of job.now (A.wants goal.now) (A.means goal.now))
         classes.now stop.place stop.block kept.now }
     requires block { stop.block < blocks (length job.now.tests.tests) }
-    ensures { IsLowest (IsOpenIn (task_of job.now (A.wants goal.now) (A.means goal.now)) classes.now (Some stop)) result }
+    ensures { IsLowest (IsOpenIn (task_of job.now (A.wants goal.now) (A.means goal.now))
+        classes.now (Some stop)) result }
 {
     let blocks = job.tests().blocks();
     let mut lowest = None;

@@ -1,6 +1,7 @@
 //! Parts that workers claim, each of which one worker simulates by itself.
 
-ghost use Rattle.std.specs.Prelude.{◌≡◌, ◌⊎◌, ◌<◌, ℕ, All, Bool, IfErr, IfNone, IfOk, IfSome, None, Some};
+ghost use Rattle.std.specs.Prelude.{◌≡◌, ◌⊎◌, ◌<◌, ℕ, All, Bool, IfErr, IfNone, IfOk, IfSome};
+ghost use Rattle.std.specs.Prelude.{None, Some};
 ghost use Rattle.std.specs.Prelude.{length, vec_len};
 ghost use Rattle.patterns.specs.Tests.{blocks};
 ghost use Rattle.region_sim.specs.RegionHits.{ServesRegions};
@@ -235,9 +236,10 @@ fn serve_seat<A: Goal, G: Gate>(
     requires cut { IsCutOf job.now cut.now.parts cut.now.size cut.now.classes.items }
     requires stretches { ledger.now.shape.tests ≡ 64 }
     requires new { seat.old ≡ newcomer ledger.now seat.old.worker }
-    ensures { IfOk result (λ dones. HasServed (task_of job.now (A.wants goal.now) (A.means goal.now))
-        cut.now.size cut.now.classes.items ledger.now seat.old.worker (G.passing gate.now)
-        (G.stops gate.now) seat.new dones.items) }
+    ensures { IfOk result (λ dones. HasServed
+        (task_of job.now (A.wants goal.now) (A.means goal.now)) cut.now.size
+        cut.now.classes.items ledger.now seat.old.worker (G.passing gate.now) (G.stops gate.now)
+        seat.new dones.items) }
 {
     let mut member = Member::new(alloc, job, seat.worker())?;
     let mut dones = Vec::new(alloc);
@@ -268,9 +270,10 @@ fn serve<A: Goal, G: Gate>(
     requires cut { IsCutOf job.now cut.now.parts cut.now.size cut.now.classes.items }
     requires stretches { ledger.now.shape.tests ≡ 64 }
     requires new { seat ≡ newcomer ledger.now seat.worker }
-    ensures { IfOk result (λ served. HasServed (task_of job.now (A.wants goal.now) (A.means goal.now))
-        cut.now.size cut.now.classes.items ledger.now seat.worker (G.passing gate.now)
-        (G.stops gate.now) served.seat served.dones.items) }
+    ensures { IfOk result (λ served. HasServed
+        (task_of job.now (A.wants goal.now) (A.means goal.now)) cut.now.size
+        cut.now.classes.items ledger.now seat.worker (G.passing gate.now) (G.stops gate.now)
+        served.seat served.dones.items) }
 {
     let mut seat = seat;
     let dones = serve_seat(alloc, job, cut, ledger, goal, gate, &mut seat)?;

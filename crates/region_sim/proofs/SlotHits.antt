@@ -1,5 +1,5 @@
 -- What is found of the classes of one slot after the other.
-use Rattle.std.proofs.Common.{◌≡◌, ◌+◌, ◌*◌, ◌-◌, ◌<◌, ◌≤◌, ◌⊎◌, inl, inr, ℕ, Bool, refl, sym, ◌∙◌}
+use Rattle.std.proofs.Common.{◌≡◌, ◌+◌, ◌-◌, ◌<◌, ◌≤◌, ◌⊎◌, inl, inr, ℕ, Bool, refl, sym, ◌∙◌}
 use Rattle.std.proofs.Common.{ap, subst, List, length, arith, Some}
 use Rattle.std.specs.Prelude.{bit_and, slice_get, slice_range}
 use Rattle.std.proofs.lemmas.Bool.{cases_lt}

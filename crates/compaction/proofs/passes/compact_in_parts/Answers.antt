@@ -4,7 +4,7 @@ use Rattle.fault_model.specs.declared.Model.TheVariants.{StuckAt, Transition, Tr
 use Rattle.patterns.specs.Least.{below}
 use Rattle.patterns.proofs.Public.{length-below}
 use Rattle.compaction.specs.Compaction.{IsNumbered, at_marks}
-use Rattle.compaction.specs.Marks.{AreLastOf, AreWithBefore}
+use Rattle.compaction.specs.Marks.{AreLastOf, AreLastPairsOf, AreWithBefore}
 use Rattle.compaction.proofs.KeptTests.{ok_as, pairs_numbered, stuck_numbered}
 use Rattle.compaction.proofs.PushedElements.{written_over}
 use Rattle.compaction.proofs.ElementsAtMarks.{as_many_marked, marked_few}
@@ -86,7 +86,6 @@ returns-clause-compacted g c =
     let found = c.in_ok-found.found.items in
     let new = c.mark_before.new.marks in
     let kept = c.in_ok-kept-in-Transition.kept in
-    let last = c.in_ok-last_pairs-in-Transition.field-0 in
     let model : job.list.model ≡ c.model.result = sym (ap (λ l. l.model) c.faults.ensures.part)
     ∙ sym c.model.ensures in
     let len : c.in_ok-found.found.len ≡ length new =
@@ -114,6 +113,10 @@ returns-clause-compacted g c =
     ∙ (ap (λ m. at_marks m c.deref-in-Transition.result.now) marks ∙ ap (at_marks new) all) in
     let either = subst (λ m. (m ≡ Transition) ⊎ (m ≡ TransitionPairs)) (sym model)
     c.in-Transition.is in
-    pairs_numbered job.list.model job.circuit job.tests.tests kept.tests.tests last.tests.tests
-    found new kept.numbers.items last.numbers.items either c.in_ok-found.ensures.marks before rows
-    numbers c.in_ok-last_pairs-in-Transition.ensures.last
+    ok_as (λ k. AreLastPairsOf job.list.model job.circuit kept.tests.tests k.tests.tests
+    kept.numbers.items k.numbers.items) (λ k. IsNumbered job.list.model job.circuit job.tests.tests
+    k.tests.tests k.numbers.items) c.last_pairs.result
+    (λ k last. pairs_numbered job.list.model job.circuit job.tests.tests kept.tests.tests
+    k.tests.tests found new kept.numbers.items k.numbers.items either c.in_ok-found.ensures.marks
+    before rows numbers last)
+    c.last_pairs.ensures.last

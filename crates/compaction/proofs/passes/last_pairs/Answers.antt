@@ -2,8 +2,7 @@ use Rattle.std.proofs.Common.{◌≡◌, ◌+◌, ◌∙◌, ap, arith, false, g
 use Rattle.std.specs.Prelude.{◌||◌}
 use Rattle.block_sim.specs.Parts.{Parts}
 use Rattle.compaction.specs.Compaction.{at_marks}
-use Rattle.compaction.specs.Marks.{AreLastPairsOf, AreLasting, AreWithBefore}
-use Rattle.compaction.proofs.KeptTests.{both_as}
+use Rattle.compaction.specs.Marks.{AreLasting, AreWithBefore}
 use Rattle.compaction.proofs.PushedElements.{written_over}
 use Rattle.compaction.proofs.passes.last_pairs.Goals as goal
 
@@ -17,7 +16,7 @@ returns-clause-last g c =
     let were = c.in_ok-set_tests_of_any_size_in_threads.ensures.job in
     let are : AreLasting job.list.model job.circuit tests last =
     subst (λ (p : Parts). AreLasting p.list.model p.circuit p.tests.tests last) were
-    c.in_ok-last.ensures in
+    c.in_ok-last.ensures.marks in
     let before : AreWithBefore last inner = record {
       count = c.mark_before.ensures.count ∙ ap length c.deref_mut.ensures.value;
       each = λ t lt.
@@ -33,10 +32,11 @@ returns-clause-last g c =
     ∙ ap (λ t. at_marks inner t.tests) (c.tests.ensures.part ∙ ap (λ (p : Parts). p.tests) were) in
     let numbers : at_marks c.deref-2.result.now c.deref.result.now
     ≡ at_marks inner given.numbers.items =
-    ap (λ m. at_marks m c.deref.result.now) marks ∙ ap (at_marks inner) c.deref.ensures.value in
-    both_as (λ k. k.tests.tests ≡ at_marks c.deref-2.result.now c.tests.result.now.tests)
-    (λ k. k.numbers.items ≡ at_marks c.deref-2.result.now c.deref.result.now)
-    (λ k. AreLastPairsOf job.list.model job.circuit tests k.tests.tests given.numbers.items
-    k.numbers.items) c.kept_tests.result
-    (λ k is nums. (last, inner, are, before, is ∙ rows, nums ∙ numbers)) c.kept_tests.ensures.rows
-    c.kept_tests.ensures.numbers
+    ap (λ m. at_marks m c.deref.result.now) marks ∙ ap (at_marks inner) c.deref.ensures.value in (
+      last,
+      inner,
+      are,
+      before,
+      c.in_ok-kept_tests.ensures.rows ∙ rows,
+      c.in_ok-kept_tests.ensures.numbers ∙ numbers,
+    )

@@ -1,7 +1,6 @@
 use Rattle.std.proofs.Common.{◌∙◌, subst}
 use Rattle.region_runs.specs.Tasks.{AreKept, first_tests}
 use Rattle.region_runs.proofs.FirstHits.{first_open, firsts_kept}
-use Rattle.region_runs.proofs.PartRefusals.{open_fault}
 use Rattle.region_runs.proofs.open_run.run_classes.Goals as goal
 
 pub gather-requires-clause-wanted : goal.gather-requires-clause-wanted

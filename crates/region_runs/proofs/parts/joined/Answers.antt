@@ -16,11 +16,14 @@ loop-place-init g c =
     record {
       order = began.0;
       left = omega (arith, began.1, c.requires.count);
-      found = subst (λ n. AreKeptBelow (task_of c.args.job.now (g.A.Goal.wants c.args.goal.now) (g.A.Goal.means c.args.goal.now)) c.args.cut.now.classes.items n
+      found = subst (λ n. AreKeptBelow (task_of c.args.job.now (g.A.Goal.wants c.args.goal.now)
+          (g.A.Goal.means c.args.goal.now)) c.args.cut.now.classes.items n
           c.in_ok-kept.kept.items) (sym (zero-mul c.args.cut.now.size))
-          (subst (AreKeptBelow (task_of c.args.job.now (g.A.Goal.wants c.args.goal.now) (g.A.Goal.means c.args.goal.now)) c.args.cut.now.classes.items 0)
+          (subst (AreKeptBelow (task_of c.args.job.now (g.A.Goal.wants c.args.goal.now)
+          (g.A.Goal.means c.args.goal.now)) c.args.cut.now.classes.items 0)
           (sym c.in_ok-kept.ensures.items)
-          (kept_none (task_of c.args.job.now (g.A.Goal.wants c.args.goal.now) (g.A.Goal.means c.args.goal.now)) c.args.cut.now.classes.items));
+          (kept_none (task_of c.args.job.now (g.A.Goal.wants c.args.goal.now)
+          (g.A.Goal.means c.args.goal.now)) c.args.cut.now.classes.items));
     }
 
 pub loop-place-preserved-in-Some-place : goal.loop-place-preserved-in-Some-place
@@ -44,7 +47,8 @@ loop-place-preserved-in-Some-place g c =
       order = append_assoc yielded (place ∷ []) rest
           ∙ ap (λ l. yielded ++ l) (sym step.0) ∙ was.order;
       left = omega (arith, count, was.left, step.1);
-      found = subst (λ n. AreKeptBelow task classes (n * size) c.in_ok-kept-in-Some-place.kept.items)
+      found = subst (λ n. AreKeptBelow task classes (n * size)
+          c.in_ok-kept-in-Some-place.kept.items)
           count
           (subst (AreKeptBelow task classes ((length yielded + 1) * size))
           (sym c.in_ok-kept-in-Some-place.ensures)
@@ -86,7 +90,9 @@ returns g c =
       was.left,
       c.in-None.ensures.steps.0,
     ) in
-    kept_all (task_of c.args.job.now (g.A.Goal.wants c.args.goal.now) (g.A.Goal.means c.args.goal.now)) c.args.cut.now.parts c.args.cut.now.size
+    kept_all (task_of c.args.job.now (g.A.Goal.wants c.args.goal.now)
+    (g.A.Goal.means c.args.goal.now)) c.args.cut.now.parts c.args.cut.now.size
     c.args.cut.now.classes.items c.loop-place.kept.items c.requires.cut
-    (subst (λ n. AreKeptBelow (task_of c.args.job.now (g.A.Goal.wants c.args.goal.now) (g.A.Goal.means c.args.goal.now)) c.args.cut.now.classes.items (n * c.args.cut.now.size)
+    (subst (λ n. AreKeptBelow (task_of c.args.job.now (g.A.Goal.wants c.args.goal.now)
+    (g.A.Goal.means c.args.goal.now)) c.args.cut.now.classes.items (n * c.args.cut.now.size)
     c.loop-place.kept.items) full was.found)

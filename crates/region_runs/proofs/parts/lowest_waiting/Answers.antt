@@ -42,7 +42,8 @@ loop-place-preserved g c =
     let run = run_at (stretch size classes (0 + length c.loop-place.yielded)) place in
     let here : c.loop-place.part ≡ 0 + length c.loop-place.yielded = omega (arith, was.count) in
     let own : IsLowestIn task run c.in_ok-waiting.waiting =
-    subst (λ n. IsLowestIn task (run_at (stretch size classes n) place) c.in_ok-waiting.waiting) here
+    subst (λ n. IsLowestIn task (run_at (stretch size classes n) place) c.in_ok-waiting.waiting)
+    here
     c.in_ok-waiting.ensures in
     record {
       order = append_assoc c.loop-place.yielded (place ∷ []) rest ∙ order;

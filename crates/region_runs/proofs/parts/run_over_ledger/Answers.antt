@@ -1,4 +1,4 @@
-use Rattle.std.proofs.Common.{◌∙◌, List, ℕ, ap, arith, length, refl, subst}
+use Rattle.std.proofs.Common.{◌∙◌, ap, arith, length, refl}
 use Rattle.fault_model.specs.Collapse.{Collapsed}
 use Rattle.patterns.specs.Tests.{blocks}
 use Rattle.region_sim.proofs.Public.{all_within}

@@ -86,7 +86,8 @@ returns-in_err-gathered-clause-refused g c =
     ∙ ap (λ n. stretches_for n c.args.workers) few) in
     let p = err_from_is_err_and c.from_residual-in_err-gathered.result
     c.from_residual-in_err-gathered.ensures.1 in
-    rw (p.1, p.2) (part_fault job c.args.parts c.args.part c.new-cut.result.size c.new-cut.result.parts
+    rw (p.1, p.2) (part_fault job c.args.parts c.args.part c.new-cut.result.size
+    c.new-cut.result.parts
     c.args.workers classes c.new-cut.result.classes.items (g.G.Gate.passing c.args.gate.now)
     (g.G.Gate.stops c.args.gate.now) _ c.in_ok-own.ensures c.new-cut.ensures.cut
     stretches c.new-cut.ensures.classes c.in_err-gathered.ensures.refused)

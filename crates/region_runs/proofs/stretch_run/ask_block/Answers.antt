@@ -43,7 +43,8 @@ loop-place-preserved g c =
               (g.G.Gate.stops c.args.gate.now).must c.args.worker r.class c.args.block) rows
               must) in
               false≢true (sym off ∙ c.pass.ensures.passing c.requires.passing))
-          | inr ne ↦ not_settled (g.A.Goal.wants c.args.goal.now) c.args.rows.now c.args.kept.now (place + 1) to k row
+          | inr ne ↦ not_settled (g.A.Goal.wants c.args.goal.now) c.args.rows.now c.args.kept.now
+              (place + 1) to k row
               (c.requires.next.between place to step) (omega (arith, x, ne)) lt idle
         ]
       ]);

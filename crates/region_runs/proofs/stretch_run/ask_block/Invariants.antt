@@ -5,7 +5,8 @@ use Rattle.region_runs.proofs.stretch_run.ask_block.Given as goal
 abbrev pub invariant-loop-place : goal.invariant-loop-place
 invariant-loop-place g l = record {
   within : l.place ≤ length l.rows;
-  asked : AreNotStopped (g.A.Goal.wants l.goal) l.rows l.kept l.worker (g.G.Gate.stops l.gate) l.block l.place;
+  asked : AreNotStopped (g.A.Goal.wants l.goal) l.rows l.kept l.worker
+      (g.G.Gate.stops l.gate) l.block l.place;
 }
 
 abbrev pub decreases-loop-place : goal.decreases-loop-place

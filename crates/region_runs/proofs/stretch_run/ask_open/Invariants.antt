@@ -9,7 +9,8 @@ invariant-loop-place g l = record {
   within : l.place ≤ length l.rows;
   next : AreNextOpen (g.A.Goal.wants l.goal) l.kept l.next;
   between : AreSettled (g.A.Goal.wants l.goal) l.kept (l.before + 1) l.place;
-  asked : AreNotStopped (g.A.Goal.wants l.goal) l.rows l.kept l.worker (g.G.Gate.stops l.gate) l.block l.place;
+  asked : AreNotStopped (g.A.Goal.wants l.goal) l.rows l.kept l.worker
+      (g.G.Gate.stops l.gate) l.block l.place;
 }
 
 abbrev pub decreases-loop-place : goal.decreases-loop-place

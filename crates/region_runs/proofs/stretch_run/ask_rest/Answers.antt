@@ -10,7 +10,8 @@ pub loop-block-preserved : goal.loop-block-preserved
 loop-block-preserved g c = λ b above below. elim (cases_lt b c.loop-block.block) [
   | inl x ↦ c.loop-block.invariant b above x
   | inr x ↦ (let same : b ≡ c.loop-block.block = omega (arith, below, x) in
-      subst (λ n. AreNotStopped (g.A.Goal.wants c.args.goal.now) c.args.rows.now c.args.kept.now c.args.worker
+      subst (λ n. AreNotStopped (g.A.Goal.wants c.args.goal.now) c.args.rows.now c.args.kept.now
+      c.args.worker
       (g.G.Gate.stops c.args.gate.now) n (length c.args.rows.now)) (sym same)
       c.ask_block.ensures)
 ]

@@ -4,4 +4,5 @@ use Rattle.region_runs.proofs.stretch_run.ask_rest.Given as goal
 
 abbrev pub invariant-loop-block : goal.invariant-loop-block
 invariant-loop-block g l = (b : ℕ) → l.fn.span.first < b → b < l.block
-    → AreNotStopped (g.A.Goal.wants l.goal) l.rows l.kept l.worker (g.G.Gate.stops l.gate) b (length l.rows)
+    → AreNotStopped (g.A.Goal.wants l.goal) l.rows l.kept l.worker (g.G.Gate.stops l.gate) b
+    (length l.rows)

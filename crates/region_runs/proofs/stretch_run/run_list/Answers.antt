@@ -5,7 +5,7 @@ use Rattle.region_sim.specs.ClassOrder.{classes_of}
 use Rattle.region_runs.specs.BlockSweeps.{AreDeadFrom}
 use Rattle.region_runs.specs.StretchRuns.{AreKeptUpTo, HasEnded}
 use Rattle.region_runs.specs.Tasks.{IsSound, task_of}
-use Rattle.region_runs.proofs.DeadClasses.{get_left, has_ended, live_none}
+use Rattle.region_runs.proofs.DeadClasses.{has_ended, live_none}
 use Rattle.region_runs.proofs.stretch_run.run_list.Goals as goal
 
 pub run_rows-stop-requires-clause-none : goal.run_rows-stop-requires-clause-none

@@ -1,17 +1,15 @@
-use Rattle.std.proofs.Common.{◌≡◌, ◌<◌, ◌≤◌, ◌+◌, ◌∙◌, ap, arith, inl, inr, length, refl, subst}
-use Rattle.std.proofs.Common.{sym, All}
+use Rattle.std.proofs.Common.{◌≡◌, ◌<◌, arith, inl, inr, length, refl, subst}
+use Rattle.std.proofs.Common.{sym}
 use Rattle.std.proofs.lemmas.Bool.{cases_eq}
 use Rattle.patterns.specs.Tests.{blocks}
-use Rattle.block_sim.specs.Listed.{IsListed}
 use Rattle.region_sim.specs.ClassOrder.{classes_of}
-use Rattle.region_sim.proofs.Public.{next_still, successors_open}
+use Rattle.region_sim.proofs.Public.{next_still}
 use Rattle.region_runs.specs.BlockSweeps.{AreNotStopped}
 use Rattle.region_runs.specs.StretchRuns.{AreKeptUpTo}
 use Rattle.region_runs.specs.Tasks.{IsSound, task_of}
 use Rattle.region_runs.proofs.AskedPieces.{before_passed, rest_passed}
 use Rattle.region_runs.proofs.FirstHits.{class_there, kept_before, kept_swept}
 use Rattle.region_runs.proofs.StretchRuns.{done_high, still_open}
-use Rattle.region_runs.proofs.PassedPieces.{passed_none}
 use Rattle.region_runs.proofs.stretch_run.run_rows.Goals as goal
 
 pub loop-block-smaller : goal.loop-block-smaller

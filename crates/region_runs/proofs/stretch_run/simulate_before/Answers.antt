@@ -1,4 +1,4 @@
-use Rattle.std.proofs.Common.{◌≡◌, ◌++◌, ◌-◌, ◌∙◌, ap, arith, length, sym}
+use Rattle.std.proofs.Common.{◌-◌, ◌∙◌, ap, arith, sym}
 use Rattle.std.specs.Prelude.{slice_get}
 use Rattle.region_runs.proofs.DeadClasses.{get_behind, get_left}
 use Rattle.region_runs.proofs.stretch_run.simulate_before.Goals as goal

@@ -1,4 +1,4 @@
-use Rattle.std.proofs.Common.{◌≡◌, ◌+◌, ◌∙◌, ap, ℕ, Bool}
+use Rattle.std.proofs.Common.{◌+◌, ◌∙◌, ap, ℕ, Bool}
 use Rattle.std.proofs.lemmas.List.Elements.{All-push, All-same}
 use Rattle.region_runs.proofs.stretch_workers.starts.Goals as goal
 
@@ -8,5 +8,6 @@ loop-place-preserved g c = record {
   first = All-same (λ one. (hits : ℕ → Bool) → g.A.Goal.means c.args.goal.now hits 0 0 one)
       c.push.new.self.items _ c.in_ok-push.ensures.items
       (All-push (λ one. (hits : ℕ → Bool) → g.A.Goal.means c.args.goal.now hits 0 0 one)
-      c.loop-place.kept.items _ c.loop-place.invariant.first (λ hits. c.in_ok-start.ensures hits 0));
+      c.loop-place.kept.items _ c.loop-place.invariant.first
+      (λ hits. c.in_ok-start.ensures hits 0));
 }

@@ -1,4 +1,4 @@
-use Rattle.std.proofs.Common.{◌<◌, ◌∙◌, ◌^◌, List, ap, length, subst, sym, ℕ}
+use Rattle.std.proofs.Common.{List, subst, ℕ}
 use Rattle.std.specs.Prelude.{IfOk}
 use Rattle.counting_sort.specs.SortedPlaces.{AreSortedPlaces}
 use Rattle.region_sim.proofs.Public.{all_in_order}

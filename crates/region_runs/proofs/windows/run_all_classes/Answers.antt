@@ -1,5 +1,4 @@
-use Rattle.std.proofs.Common.{◌≡◌, ◌<◌, ◌∙◌, All, ap, arith, length, refl, subst, sym}
-use Rattle.bench_net.specs.Scan.{sources}
+use Rattle.std.proofs.Common.{◌<◌, ◌∙◌, All, ap, length, subst, sym}
 use Rattle.patterns.specs.Tests.{blocks}
 use Rattle.block_sim.specs.Parts.{Parts, with_tests}
 use Rattle.workers.specs.Verdict.{AreClassFirsts}

@@ -1,4 +1,4 @@
-use Rattle.std.proofs.Common.{◌≡◌, ◌∙◌, List, ap, length, subst, sym, ℕ}
+use Rattle.std.proofs.Common.{◌≡◌, ◌∙◌, List, ap, length, subst, ℕ}
 use Rattle.fault_model.specs.Collapse.{Collapsed}
 use Rattle.region_runs.specs.Part.{stretches_for}
 use Rattle.region_runs.specs.Tasks.{AreKept, first_tests}

@@ -2,13 +2,11 @@ use Rattle.std.proofs.Common.{◌≡◌, ◌<◌, ◌∙◌, All, List, ap, get_
 use Rattle.std.proofs.Common.{Some, sym}
 use Rattle.std.specs.Prelude.{slice_get}
 use Rattle.fault_model.specs.Collapse.{Collapsed}
-use Rattle.patterns.specs.Tests.{blocks}
 use Rattle.block_sim.specs.Parts.{Parts, with_tests}
-use Rattle.workers.specs.Verdict.{AreAfterHits, AreClassFirsts, AreFirsts, pieces_after}
+use Rattle.workers.specs.Verdict.{AreAfterHits, AreFirsts, pieces_after}
 use Rattle.region_runs.specs.declared.parts.PartVerdict.{PartVerdict}
 use Rattle.region_runs.specs.declared.parts.PartVerdict.TheVariants.{OtherPart}
 use Rattle.region_runs.specs.Part.{first_in}
-use Rattle.region_runs.specs.WindowLedgers.{AreOfWindows}
 use Rattle.region_sim.proofs.Public.{all_within}
 use Rattle.region_runs.proofs.PartsOfClasses.{all_firsts, all_hits, verdict_there}
 use Rattle.region_runs.proofs.PartsOfClasses.{verdicts_under}

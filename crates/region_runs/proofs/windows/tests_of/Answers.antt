@@ -1,4 +1,4 @@
-use Rattle.std.proofs.Common.{◌≡◌, ◌-◌, ◌∙◌, ap, arith, min, refl, rules, subst, sym, ◌*◌, ⊎_elim}
+use Rattle.std.proofs.Common.{◌≡◌, ◌-◌, arith, subst, sym}
 use Rattle.region_runs.specs.Windows.{AreWordsFrom}
 use Rattle.region_runs.proofs.WindowWords.{begins_before, words_none}
 use Rattle.region_runs.proofs.windows.tests_of.Goals as goal

@@ -1,4 +1,4 @@
-use Rattle.std.proofs.Common.{◌≡◌, ◌*◌, arith, subst, sym, true}
+use Rattle.std.proofs.Common.{◌*◌, subst, true}
 use Rattle.region_sim.specs.Goals.{TellHits}
 use Rattle.n_detect.proofs.GroupWords.{lanes_more, lanes_same}
 use Rattle.n_detect.proofs.lanes.GroupLanesGoal.take.Goals as goal

@@ -55,7 +55,8 @@ loop-seat-preserved g c =
           × (p.worker ≡ i) × (p.cut.value ≡ cut) × (p.goal.value ≡ aim)) done
           (λ i low. subst (λ x. (x.promise.job.value ≡ job) × (x.promise.ledger.value ≡ ledger)
           × (x.promise.gate.value ≡ gate) × (x.promise.worker ≡ i)
-          × (x.promise.cut.value ≡ cut) × (x.promise.goal.value ≡ aim)) (sym (by.0 i d low)) (was.each i d low))
+          × (x.promise.cut.value ≡ cut) × (x.promise.goal.value ≡ aim)) (sym (by.0 i d low))
+          (was.each i d low))
           (let at = by.1 d (search rules) in (
             ap (λ x. x.promise.job.value) at ∙ ap (λ p. p.job.value) promised ∙ c.of.ensures,
             ap (λ x. x.promise.ledger.value) at ∙ ap (λ p. p.ledger.value) promised
