@@ -1,16 +1,16 @@
 -- The tests that detect each class, by the words of the class.
-use Rattle.std.proofs.Common.{◌≡◌, ◌+◌, ◌*◌, ◌/◌, ◌%◌, ◌<◌, ◌≤◌, ◌∙◌, ◌⊎◌, inl, inr, ℕ, List, []}
+use Rattle.std.proofs.Common.{◌≡◌, ◌+◌, ◌*◌, ◌/◌, ◌%◌, ◌<◌, ◌∙◌, ℕ, List, []}
 use Rattle.std.proofs.Common.{ap, arith, get_or, length, map, subst, sym}
 use Rattle.std.specs.Prelude.{Option, Some, slice_get, slice_index, unwrap_or}
 use Rattle.std.specs.Bool.{Decides}
 use Rattle.std.specs.declared.vec.Vec.{Vec}
-use Rattle.std.proofs.lemmas.Bool.{cases_lt}
-use Rattle.std.proofs.lemmas.List.{get_or-map, get_or_past, length-map}
+use Rattle.std.proofs.lemmas.List.{get_or-map, length-map}
 use Rattle.std.proofs.lemmas.Option.{get_or_from_slice_get, slice_get-get_or, slice_get_within}
 use Rattle.list_lemmas.proofs.Places.{within_place}
 use Rattle.fault_model.specs.Collapse.{representatives}
 use Rattle.fault_model.specs.Detection.{DetectsAt}
 use Rattle.fault_model.specs.Fault.{Fault, faults}
+use Rattle.flat_circuit.specs.BlockSpans.{groups}
 use Rattle.flat_circuit.specs.Words.{lane}
 use Rattle.block_sim.specs.Parts.{BelongTogether, Parts}
 use Rattle.n_detect.specs.ClassTests.{AreClassTests}
@@ -96,7 +96,7 @@ module _ {Z : Type 0} (job : Parts) (positions : List ℕ) (rows : List (Vec ℕ
 -- ---- one row
 
 module _ {Z : Type 0} (positions : List ℕ) (rows : List (Vec ℕ Z)) (tests : ℕ)
-    (value : DetectionTable) (class test : ℕ)
+    (value : DetectionTable) (class : ℕ)
     (is : record { words = words_of positions rows; tests = tests } ≡ value)
     (low : class < length value.words) where
   -- the class has a position
@@ -108,41 +108,13 @@ module _ {Z : Type 0} (positions : List ℕ) (rows : List (Vec ℕ Z)) (tests : 
       omega (arith, low, same, long)
 
   -- the words of the class
-  abbrev own : List ℕ
-  own = get_or (map (λ v. v.items) rows) (slice_index positions class) []
+  pub row_here : get_or (map (λ v. v.items) rows) (slice_index positions class) []
+      ≡ get_or value.words class []
+  row_here = sym (words_read positions rows class class_here)
+      ∙ ap (λ (t : DetectionTable). get_or t.words class []) is
 
-  own_read : get_or (words_of positions rows) class [] ≡ own
-  own_read = words_read positions rows class class_here
-
-  module _ (has : HasGroups (record { words = words_of positions rows; tests = tests }))
-      (lt : test < value.tests) where
-    -- the word of the test is there
-    pub group_here : test / 128 < length own
-    group_here =
-        let same = ap (λ (t : DetectionTable). t.tests) is in
-        let long = length-map positions
-        (λ position. get_or (map (λ (v : Vec ℕ Z). v.items) rows) position []) in
-        let count = has class [] (omega (arith, class_here, long)) in
-        let read = ap length own_read in
-        omega (arith, lt, same, count, read)
-
-    -- and so are the words of the class
-    pub position_here : slice_index positions class < length rows
-    position_here = go (cases_lt (slice_index positions class) (length rows))
-      where
-        go : (slice_index positions class < length rows)
-            ⊎ (length rows ≤ slice_index positions class)
-            → slice_index positions class < length rows
-        go (inl inside) = inside
-        go (inr past) =
-            let long = length-map rows (λ (v : Vec ℕ Z). v.items) in
-            let none : own ≡ [] = get_or_past (map (λ v. v.items) rows)
-            (slice_index positions class) [] (omega (arith, past, long)) in
-            let empty = ap length none in
-            let some = group_here in
-            absurd (omega (arith, empty, some))
-
-  pub bit_here : lane (get_or own (test / 128) 0) (test % 128) ≡ detects_by value class test
-  bit_here =
-      ap (λ (xs : List ℕ). lane (get_or xs (test / 128) 0) (test % 128)) (sym own_read)
-      ∙ ap (λ (t : DetectionTable). detects_by t class test) is
+  pub groups_here : HasGroups (record { words = words_of positions rows; tests = tests })
+      → length (get_or value.words class []) ≡ groups value.tests
+  groups_here has =
+      let all : HasGroups value = subst (λ (t : DetectionTable). HasGroups t) is has in
+      all class [] low

@@ -1,6 +1,7 @@
 mod ElementsAtMarks
 mod TestNumbers
 mod PushedElements
+mod ClassesLeft
 mod DetectedClasses
 mod SteepestOrder
 mod OrderedTests

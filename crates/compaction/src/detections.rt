@@ -2,6 +2,7 @@
 
 ghost use Rattle.std.specs.Prelude.{◌≡◌, ◌<◌, ◌≤◌, ◌/◌, ◌%◌, [], IfErr, IfOk, OnOk, length, map};
 ghost use Rattle.std.specs.Prelude.{slice_index, slice_index_or};
+ghost use Rattle.flat_circuit.specs.BlockSpans.{groups};
 ghost use Rattle.flat_circuit.specs.Words.{lane};
 ghost use Rattle.region_runs.specs.Refused.{IsOpenFault};
 ghost use Rattle.compaction.specs.Detections.{detects_by};
@@ -95,23 +96,34 @@ impl Detections {
         requires test { test < self.now.tests }
         ensures { result ≡ detects_by self.now class test }
     {
-        let row = row_of(self.positions.as_slice(), self.rows.as_slice(), class);
-        bit_of(row, test)
+        bit_of(self.row(class), test)
+    }
+
+    /// Returns the words of a class, one for each group of 128 tests. A lane is 1 if its test
+    /// detects the class.
+    pub fn row(&self, class: usize) -> &[u128]
+        requires { class < length self.now.words }
+        ensures words { result.now ≡ slice_index_or self.now.words class [] }
+        ensures count { length result.now ≡ groups self.now.tests }
+    {
+        row_of(self.positions.as_slice(), self.rows.as_slice(), class)
     }
 }
 
 /// Returns the words at the position of a class.
 fn row_of<'r>(positions: &[u32], rows: &'r [Vec<u128>], class: usize) -> &'r [u128]
-    requires class { class < length positions.now }
-    requires position { slice_index positions.now class < length rows.now }
+    requires { class < length positions.now }
     ensures { result.now ≡ slice_index_or (map (λ row. row.items) rows.now)
         (slice_index positions.now class) [] }
 {
-    rows[positions[class] as usize].as_slice()
+    match rows.get(positions[class] as usize) {
+        Some(row) => row.as_slice(),
+        None => &[],
+    }
 }
 
 /// Returns the bit of a test in the words of a class.
-fn bit_of(row: &[u128], test: u32) -> bool
+pub(crate) fn bit_of(row: &[u128], test: u32) -> bool
     requires { test / 128 < length row.now }
     ensures { result ≡ lane (slice_index_or row.now (test / 128) 0) (test % 128) }
 {

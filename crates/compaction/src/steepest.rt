@@ -1,20 +1,23 @@
 //! Tests in the order in which each detects the most classes that none before it detects.
 
-ghost use Rattle.std.specs.Prelude.{◌≡◌, ◌≢◌, ◌+◌, ◌-◌, ◌<◌, ◌^◌, ◌||◌, ℕ, IfNone, IfOk, IfSome};
-ghost use Rattle.std.specs.Prelude.{count_by, false, length, slice_index_or, true};
+ghost use Rattle.std.specs.Prelude.{◌≡◌, ◌≢◌, ◌==◌, ◌+◌, ◌-◌, ◌<◌, ◌^◌, ◌||◌, [], ℕ, IfNone, IfOk};
+ghost use Rattle.std.specs.Prelude.{IfSome, count_by, false, filter, length, not, slice_index_or};
+ghost use Rattle.std.specs.Prelude.{true};
+ghost use Rattle.std.specs.List.{list_any};
 ghost use Rattle.patterns.specs.Least.{below};
 ghost use Rattle.patterns.specs.Tests.{as_number};
 ghost use Rattle.compaction.specs.Detections.{detects_by};
-ghost use Rattle.compaction.specs.News.{AreNews, IsBest};
+ghost use Rattle.compaction.specs.News.{AreDetected, AreLeft, AreNews, IsBest};
 ghost use Rattle.compaction.specs.Steepest.{IsSteepest};
 
-use crate::detections::Detections;
+use crate::detections::{Detections, bit_of};
 use std::alloc::{AllocError, Global};
 
 /// Returns the numbers of tests in steepest order: each is the test that detects the most classes
 /// that none before it detects, the first of such tests. It leaves out a test that would detect
-/// none. It counts each class once at each test and takes it off once. So its time is two passes
-/// over all classes and tests.
+/// none. It counts each class once at each test and takes it off once, which is two passes over all
+/// classes and tests. Beside that each test takes time for the classes that some test detects, and
+/// none so far.
 pub fn steepest_order(alloc: Global, detections: &Detections) -> Result<Vec<u32>, AllocError>
     ensures { IfOk result (λ order. IsSteepest (detects_by detections.now)
         (length detections.now.words) detections.now.tests order.items) }
@@ -22,17 +25,64 @@ pub fn steepest_order(alloc: Global, detections: &Detections) -> Result<Vec<u32>
     let classes = detections.classes();
     let mut covered = vec![in alloc; false; classes]?;
     let mut news = all_news(alloc, detections)?;
+    let mut left = detected_classes(alloc, detections)?;
     let mut order = Vec::new(alloc);
     for _round in 0..classes {
         match best_of(&news) {
             None => return Ok(order),
             Some(best) => {
                 order.push(best)?;
-                cover(detections, best, &mut covered, &mut news);
+                cover(detections, best, &left, &mut covered, &mut news);
+                left = uncovered(alloc, &left, &covered)?;
             }
         }
     }
     Ok(order)
+}
+
+/// Returns the classes that some test detects.
+fn detected_classes(alloc: Global, detections: &Detections) -> Result<Vec<usize>, AllocError>
+    ensures { IfOk result (λ left. AreDetected (detects_by detections.now)
+        (length detections.now.words) left.items) }
+{
+    let mut left = Vec::new(alloc);
+    for class in 0..detections.classes() {
+        if is_detected(detections, class) {
+            left.push(class)?;
+        }
+    }
+    Ok(left)
+}
+
+/// Returns whether some test detects a class.
+fn is_detected(detections: &Detections, class: usize) -> bool
+    requires { class < length detections.now.words }
+    ensures { result ≡ list_any (λ word. not (word == 0))
+        (slice_index_or detections.now.words class []) }
+{
+    detections.row(class).iter().any(|word| *word != 0)
+}
+
+/// Returns those of some classes that are not covered.
+fn uncovered(alloc: Global, classes: &[usize], covered: &[bool]) -> Result<Vec<usize>, AllocError>
+    ensures { IfOk result (λ left. left.items
+        ≡ filter (λ class. not (slice_index_or covered.now class false)) classes.now) }
+{
+    classes
+        .iter()
+        .filter(|class| !is_covered(covered, **class))
+        .copied()
+        .collect(alloc)
+}
+
+/// Returns whether a class is covered.
+fn is_covered(covered: &[bool], class: usize) -> bool
+    ensures { result ≡ slice_index_or covered.now class false }
+{
+    match covered.get(class) {
+        Some(known) => *known,
+        None => false,
+    }
 }
 
 /// Returns how many classes each test detects.
@@ -60,10 +110,9 @@ fn add_class(detections: &Detections, class: usize, news: &mut [usize])
     ensures each { (t : ℕ) → t < length news.old → slice_index_or news.new t 0
         ≡ slice_index_or news.old t 0 + as_number (detects_by detections.now class t) }
 {
+    let row = detections.row(class);
     for test in 0..detections.tests() {
-        if detections.detects(class, test) {
-            news[test as usize] += 1;
-        }
+        news[test as usize] += usize::from(bit_of(row, test));
     }
 }
 
@@ -77,10 +126,9 @@ fn drop_class(detections: &Detections, class: usize, news: &mut [usize])
     ensures each { (t : ℕ) → t < length news.old → slice_index_or news.new t 0
         + as_number (detects_by detections.now class t) ≡ slice_index_or news.old t 0 }
 {
+    let row = detections.row(class);
     for test in 0..detections.tests() {
-        if detections.detects(class, test) {
-            news[test as usize] -= 1;
-        }
+        news[test as usize] -= usize::from(bit_of(row, test));
     }
 }
 
@@ -101,9 +149,17 @@ fn best_of(news: &[usize]) -> Option<u32>
     if most == 0 { None } else { Some(best as u32) }
 }
 
-/// Covers the classes that a test detects.
-fn cover(detections: &Detections, test: u32, covered: &mut [bool], news: &mut [usize])
+/// Covers the classes that a test detects, which are among those left.
+fn cover(
+    detections: &Detections,
+    test: u32,
+    left: &[usize],
+    covered: &mut [bool],
+    news: &mut [usize],
+)
     requires test { test < detections.now.tests }
+    requires left { AreLeft (detects_by detections.now) (length detections.now.words)
+        detections.now.tests covered.old left.now }
     requires covered { length covered.old ≡ length detections.now.words }
     requires news { AreNews (detects_by detections.now) covered.old
         (length detections.now.words) detections.now.tests news.old }
@@ -114,8 +170,8 @@ fn cover(detections: &Detections, test: u32, covered: &mut [bool], news: &mut [u
     ensures news { AreNews (detects_by detections.now) covered.new
         (length detections.now.words) detections.now.tests news.new }
 {
-    for class in 0..detections.classes() {
-        cover_class(detections, class, test, covered, news);
+    for class in left {
+        cover_class(detections, *class, test, covered, news);
     }
 }
 
