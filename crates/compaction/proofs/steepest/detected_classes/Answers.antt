@@ -28,6 +28,10 @@ pub returns : goal.returns
 returns c =
     let detects = detects_by c.args.detections.now in
     let end : c.loop-class.class ≡ length c.args.detections.now.words =
-    omega (arith, c.loop-class-test.false, c.loop-class.auto.class-end,
-    c.classes-class-end.ensures) in
+    omega (
+      arith,
+      c.loop-class-test.false,
+      c.loop-class.auto.class-end,
+      c.classes-class-end.ensures,
+    ) in
     subst (λ n. AreDetected detects n c.loop-class.left.items) end c.loop-class.invariant
