@@ -1,8 +1,9 @@
 #!/usr/bin/env python3
 """Times `faultsim` against a C++ simulator of the same job, and checks that all write the same.
 
-    bench/compare.py [--designs] [--hard] [--workers] [--counts] [--detections] [--model M]
-                     [--rounds N] [--only WORD] [--processor] [--program FILE | --built]
+    bench/compare.py [--designs] [--hard] [--workers] [--counts] [--detections] [--compactions]
+                     [--model M] [--rounds N] [--only WORD] [--processor]
+                     [--program FILE | --built]
 
 It builds baseline.cpp with g++ and the program with `rt run`, and makes circuits and tests with
 generate.py in a temporary folder (circuits of designs/ are unpacked). It runs in turn the program, the
@@ -29,6 +30,10 @@ regions and by packs. These don't depend on the machine, and the program isn't b
 
 With --detections it runs the program alone, with one worker, and prints how many times as long as `run`
 the runs with --detections 1, 5 and 20 take. The report of --detections 1 must be the one of `run`.
+
+With --compactions it runs the program alone, with one worker and with four, and prints how many times
+as long as `run` with one worker `compact` takes: for stuck-at faults, for transition faults, and in
+steepest order. Both numbers of workers must keep the same tests.
 
 --only takes the name of a case, or a part of a title. --built takes the program in out/, and --program
 another one.
@@ -120,9 +125,10 @@ DESIGN_CASES = [
 WORKER_CASES = ("c17", "ecc32long", "mult16long", "r22klong", "r100kshort")
 WORKERS = (1, 2, 4)
 
-# With --detections, where --only names no other.
-DETECTION_CASES = ("r100k", "s38417", "picosoc")
+# With --detections or --compactions, where --only names no other.
+GOAL_CASES = ("r100k", "s38417", "picosoc")
 DETECTIONS = (1, 5, 20)
+COMPACTIONS = {"stuck-at": [], "transition": ["--model", "transition"], "steepest": ["--order", "steepest"]}
 
 REGIONS = ["--algorithm", "regions", "--prune", "--groups"]
 PACKS = ["--algorithm", "packs"]
@@ -307,21 +313,43 @@ def count(folder, baseline, case, options):
     print(f"{case.name}, {case.title}: {events:,} by events, {parts}", flush=True)
 
 
+def least_times(ways, options):
+    """The least time of each way, and what each printed the last time."""
+    least, outs = {}, {}
+    for _ in range(options.rounds):
+        for way, command in ways.items():
+            before = processor_time()
+            took, outs[way] = timed(command)
+            took = processor_time() - before if options.processor else took
+            least[way] = min(took, least.get(way, took))
+    return least, outs
+
+
 def compare_detections(folder, case, options):
     words = [it for it in words_of(folder, case, options.model) if it != "--list"]
     plain = [str(PROGRAM), *words, "--workers", "1"]
     ways = {0: plain} | {most: [*plain, "--detections", str(most)] for most in DETECTIONS}
-    least, outs = {}, {}
-    for _ in range(options.rounds):
-        for most, command in ways.items():
-            before = processor_time()
-            took, outs[most] = timed(command)
-            took = processor_time() - before if options.processor else took
-            least[most] = min(took, least.get(most, took))
+    least, outs = least_times(ways, options)
     if outs[0] != outs[1] or outs[0][0] != 0:
         sys.exit(f"{case.title}: the reports differ")
     ratios = ", ".join(f"{least[most] / least[0]:.1f} with {most}" for most in DETECTIONS)
     print(f"{case.name}, {case.title}: {ratios}", flush=True)
+
+
+def compare_compactions(folder, case, options):
+    inputs = words_of(folder, case, options.model)[1:5]
+    ways = {"run": [str(PROGRAM), "run", *inputs, "--workers", "1"]}
+    for name, words in COMPACTIONS.items():
+        for workers in ("1", "4"):
+            ways[name, workers] = [str(PROGRAM), "compact", *inputs, *words, "--workers", workers]
+    least, outs = least_times(ways, options)
+    if any(status for status, _, _ in outs.values()):
+        sys.exit(f"{case.title}: a command failed")
+    if any(outs[name, "1"][1] != outs[name, "4"][1] for name in COMPACTIONS):
+        sys.exit(f"{case.title}: other tests are kept with four workers")
+    ratios = {way: took / least["run"] for way, took in least.items()}
+    parts = [f"{name} {ratios[name, '1']:.1f} and {ratios[name, '4']:.1f}" for name in COMPACTIONS]
+    print(f"{case.name}, {case.title}: {', '.join(parts)}", flush=True)
 
 
 def processor_time():
@@ -338,6 +366,7 @@ def main():
     parser.add_argument("--workers", action="store_true")
     parser.add_argument("--counts", action="store_true")
     parser.add_argument("--detections", action="store_true")
+    parser.add_argument("--compactions", action="store_true")
     parser.add_argument("--designs", action="store_true")
     parser.add_argument("--processor", action="store_true")
     parser.add_argument("--built", action="store_true")
@@ -351,17 +380,18 @@ def main():
         cases = DESIGN_CASES
     elif options.workers and not options.only:
         cases = [case for case in cases if case.name in WORKER_CASES]
-    elif options.detections and not options.only:
-        cases = [case for case in cases if case.name in DETECTION_CASES]
+    elif (options.detections or options.compactions) and not options.only:
+        cases = [case for case in cases if case.name in GOAL_CASES]
     elif not options.counts and not options.only:
         cases = HARD_CASES if options.hard else CASES
-    if options.workers or options.counts or options.detections:
+    alone = options.detections or options.compactions
+    if options.workers or options.counts or alone:
         cases = [case for case in cases if case.tests]
     with tempfile.TemporaryDirectory() as name:
         folder = pathlib.Path(name)
         if options.counts:
             baseline = build_baseline(folder)
-        elif not options.detections or not options.built:
+        elif not alone or not options.built:
             baseline = build(folder, options.built)
         for case in chosen(cases, options.only):
             if options.counts:
@@ -370,6 +400,8 @@ def main():
                 compare_workers(folder, baseline, case, options)
             elif options.detections:
                 compare_detections(folder, case, options)
+            elif options.compactions:
+                compare_compactions(folder, case, options)
             else:
                 # a look at whole blocks takes up to ten times as long, and hard cases are long already
                 compare(folder, baseline, case, options, whole_blocks=case in CASES)
