@@ -4,10 +4,11 @@
  * usage: calls BENCH
  *
  * A first run of 1,024 random tests drops the classes that are easy to detect: the lists are of the
- * classes that are left, and of all. The last lines tell from how many classes on one fs_lanes is
+ * classes that are left, and of all. The last lines say from how many classes on one fs_lanes is
  * faster than as many calls of fs_detecting. */
 #define _POSIX_C_SOURCE 200809L
 #include "faultsim.h"
+#include "../bindings/c/example.h"
 
 #include <inttypes.h>
 #include <stdio.h>
@@ -27,20 +28,6 @@ static void done(uint32_t status) {
         fprintf(stderr, "calls: status %" PRIu32 "\n", status);
         exit(1);
     }
-}
-
-static void *room(size_t many, size_t size) {
-    void *at = calloc(many ? many : 1, size);
-    if (!at)
-        exit(1);
-    return at;
-}
-
-static uint64_t next(void) {
-    state ^= state >> 12;
-    state ^= state << 25;
-    state ^= state >> 27;
-    return state * 2685821657736338717u;
 }
 
 static double now(void) {
@@ -71,7 +58,7 @@ static double timed(void (*call)(void), int rounds) {
     double took[ROUNDS];
     for (int round = 0; round < rounds; round++) {
         for (uint32_t i = 0; i < n.sources; i++)
-            words[i] = tests == 64 ? next() : next() & 1;
+            words[i] = tests == 64 ? next(&state) : next(&state) & 1;
         if (call != set)
             set();
         double start = now();
@@ -121,14 +108,10 @@ static void time_all(uint32_t left) {
 }
 
 int main(int argc, char **argv) {
-    FILE *file = argc == 2 ? fopen(argv[1], "rb") : NULL;
-    if (!file || fseek(file, 0, SEEK_END))
-        return 2;
-    size_t size = (size_t)ftell(file);
-    uint8_t *bench = room(size, 1);
-    rewind(file);
-    if (fread(bench, 1, size, file) != size)
-        return 2;
+    if (argc != 2)
+        end("usage: calls BENCH");
+    size_t size;
+    uint8_t *bench = read_file(argv[1], &size);
     done(fs_job_read(FS_STUCK_AT, bench, size, &job, &fault));
     done(fs_sizes_of(&job, &n));
     uint32_t most = n.classes > n.signals ? n.classes : n.signals, left = 0;
@@ -139,7 +122,7 @@ int main(int argc, char **argv) {
     for (uint32_t i = 0; i < most; i++)
         all[i] = i;
     for (size_t i = 0; i < (size_t)n.sources * BEFORE; i++)
-        words[i] = next();
+        words[i] = next(&state);
     done(fs_set_words(&job, 64 * BEFORE, words, (size_t)n.sources * BEFORE, &fault));
     done(fs_simulate(&job, all, n.classes, firsts, n.classes));
     for (uint32_t i = 0; i < n.classes; i++)

@@ -7,6 +7,7 @@
  * what one call finds. Prints the number of faults and that of those detected. */
 #define _POSIX_C_SOURCE 200809L
 #include "faultsim.h"
+#include "example.h"
 
 #include <inttypes.h>
 #include <pthread.h>
@@ -47,31 +48,6 @@ static void *run(void *it) {
     }
     fs_job_free(&worker->job);
     return NULL;
-}
-
-static void end(const char *why) {
-    fprintf(stderr, "threads: %s\n", why);
-    exit(1);
-}
-
-static void *room(size_t count, size_t size) {
-    void *at = calloc(count ? count : 1, size);
-    if (!at)
-        end("no memory");
-    return at;
-}
-
-static char *read_file(const char *path) {
-    FILE *file = fopen(path, "rb");
-    if (!file || fseek(file, 0, SEEK_END))
-        end(path);
-    long size = ftell(file);
-    rewind(file);
-    char *text = room((size_t)size + 1, 1);
-    if (fread(text, 1, (size_t)size, file) != (size_t)size)
-        end(path);
-    fclose(file);
-    return text;
 }
 
 /* Two inputs and a chain of gates. */
@@ -151,8 +127,9 @@ int main(int argc, char **argv) {
     int threads = argc > 1 ? atoi(argv[1]) : 0;
     if (threads < 1 || (argc != 2 && argc != 4))
         end("usage: threads THREADS [BENCH TESTS]");
-    char *bench = argc == 4 ? read_file(argv[2]) : a_chain(2000);
-    char *tests = argc == 4 ? read_file(argv[3]) : some_tests(256);
+    size_t size;
+    char *bench = argc == 4 ? (char *)read_file(argv[2], &size) : a_chain(2000);
+    char *tests = argc == 4 ? (char *)read_file(argv[3], &size) : some_tests(256);
     fs_job job = {0};
     fs_fault fault = {0};
     fs_sizes n;

@@ -172,6 +172,10 @@ impl fmt::Display for Error {
 
 impl StdError for Error {}
 
+/// A call that writes a word of a block for each number of a list.
+type WordsOf =
+    unsafe extern "C" fn(*mut sys::Handle, u32, *const u32, usize, *mut u64, usize) -> u32;
+
 /// The error of a status. A [`Job`] always has a job, so status 1 never comes.
 fn told(status: u32, fault: Fault) -> Result<(), Error> {
     match status {
@@ -325,9 +329,8 @@ impl Job {
     pub fn signal_named(&self, name: &str) -> Option<u32> {
         let mut signal = 0;
         // SAFETY: as above.
-        let status = unsafe {
-            sys::fs_signal_named(self.0.get(), name.as_ptr(), name.len(), &mut signal)
-        };
+        let status =
+            unsafe { sys::fs_signal_named(self.0.get(), name.as_ptr(), name.len(), &mut signal) };
         (status == 0).then_some(signal)
     }
 
@@ -474,39 +477,31 @@ impl Job {
     /// seen at an observer: bit k of its word is 1 exactly if test `64 * block + k` detects the
     /// signal stuck at the complement of its fault-free value, under every fault model.
     pub fn observed(&self, block: u32, signals: &[u32]) -> Result<Vec<u64>, Error> {
-        let mut lanes = vec![0; signals.len()];
-        // SAFETY: as above; the call tests the block and the signals.
-        let status = unsafe {
-            sys::fs_observed(
-                self.0.get(),
-                block,
-                signals.as_ptr(),
-                signals.len(),
-                lanes.as_mut_ptr(),
-                lanes.len(),
-            )
-        };
-        told(status, Fault::default())?;
-        Ok(lanes)
+        self.words_of(sys::fs_observed, block, signals)
     }
 
     /// Returns for each class of a list the word that [`Job::detecting`] returns for the class and
     /// the block. It simulates region by region.
     pub fn lanes(&self, block: u32, classes: &[u32]) -> Result<Vec<u64>, Error> {
-        let mut lanes = vec![0; classes.len()];
-        // SAFETY: as above; the call tests the block and the classes.
+        self.words_of(sys::fs_lanes, block, classes)
+    }
+
+    /// Returns what a call writes for each number of a list: a word of a block.
+    fn words_of(&self, call: WordsOf, block: u32, numbers: &[u32]) -> Result<Vec<u64>, Error> {
+        let mut words = vec![0; numbers.len()];
+        // SAFETY: as above; the call tests the block and the numbers.
         let status = unsafe {
-            sys::fs_lanes(
+            call(
                 self.0.get(),
                 block,
-                classes.as_ptr(),
-                classes.len(),
-                lanes.as_mut_ptr(),
-                lanes.len(),
+                numbers.as_ptr(),
+                numbers.len(),
+                words.as_mut_ptr(),
+                words.len(),
             )
         };
         told(status, Fault::default())?;
-        Ok(lanes)
+        Ok(words)
     }
 
     /// Adds to the count of each class of a list the number of tests of a block that detect it, up
