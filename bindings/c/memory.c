@@ -1,5 +1,6 @@
-/* Refuses each allocation of each call in turn: the call must return FS_MEMORY, with the handle as
- * it was, or must do without. Calls that take no memory must take none.
+/* Refuses each allocation of each call in turn, alone and with all that follow it: the call must
+ * return FS_MEMORY, with the handle as it was, or must do without. Calls that take no memory must
+ * take none. It does so under each fault model.
  *
  * usage: memory [BENCH TESTS]
  *
@@ -8,6 +9,7 @@
 #include "faultsim.h"
 
 #include <inttypes.h>
+#include <stdbool.h>
 #include <stdio.h>
 #include <stdlib.h>
 #include <string.h>
@@ -17,10 +19,18 @@ void *__real_realloc(void *at, size_t size);
 void *__wrap_malloc(size_t size);
 void *__wrap_realloc(void *at, size_t size);
 
-/* How many allocations are left until one is refused; 0 refuses none. */
+/* How many allocations are left until one is refused; 0 refuses none. With `onwards` all that
+ * follow are refused, too. */
 static long left;
+static bool onwards, was_refused;
 
-static int refuses(void) { return left && !--left; }
+static bool refuses(void) {
+    if (!left || --left)
+        return false;
+    was_refused = true;
+    left = onwards;
+    return true;
+}
 
 void *__wrap_malloc(size_t size) { return refuses() ? NULL : __real_malloc(size); }
 
@@ -37,6 +47,7 @@ static const char *bench =
     "22 = NAND(10, 16)\n23 = NAND(16, 19)\n";
 static const char *tests = "11111\n01010\n";
 
+static uint32_t model;
 static fs_job job, second;
 static fs_fault fault;
 static fs_sizes n;
@@ -46,7 +57,7 @@ static uint8_t *text;
 static size_t text_len, wanted;
 
 static uint32_t read_it(void) {
-    return fs_job_read(FS_STUCK_AT, (const uint8_t *)bench, strlen(bench), &job, &fault);
+    return fs_job_read(model, (const uint8_t *)bench, strlen(bench), &job, &fault);
 }
 
 static uint32_t share_it(void) { return fs_job_share(&job, &second); }
@@ -79,7 +90,7 @@ static uint32_t report(void) {
 }
 
 static uint32_t in_one(void) {
-    return fs_firsts(FS_STUCK_AT, (const uint8_t *)bench, strlen(bench), (const uint8_t *)tests,
+    return fs_firsts(model, (const uint8_t *)bench, strlen(bench), (const uint8_t *)tests,
                      strlen(tests), firsts, n.faults, &faults, &fault);
 }
 
@@ -163,14 +174,14 @@ static long refuse(const char *name, uint32_t (*call)(void)) {
         fs_sizes before = {0};
         uint32_t had = fs_sizes_of(&job, &before);
         left = at;
+        was_refused = false;
         uint32_t status = call();
-        int none_refused = left != 0;
         left = 0;
-        if (status != FS_DONE && (status != FS_MEMORY || none_refused))
+        if (status != FS_DONE && (status != FS_MEMORY || !was_refused))
             end(name, at);
         if (status == FS_MEMORY && !is_as_before(had, &before))
             end(name, at);
-        if (none_refused) {
+        if (!was_refused) {
             printf("%-14s %4ld refused, %ld done without\n", name, at - 1, done);
             return at - 1;
         }
@@ -232,11 +243,8 @@ static void make_room(void) {
     expected = known;
 }
 
-int main(int argc, char **argv) {
-    if (argc == 3) {
-        bench = read_file(argv[1]);
-        tests = read_file(argv[2]);
-    }
+/* Refuses the allocations of all calls. Returns how many were refused. */
+static long refuse_all(void) {
     long refused = refuse("fs_job_read", read_it);
     if (fs_sizes_of(&job, &n))
         end("fs_sizes_of", 0);
@@ -260,12 +268,22 @@ int main(int argc, char **argv) {
     if (!is_as_before(FS_DONE, &n))
         end("fs_job_free", 0);
     fs_job_free(&job);
-    free(classes);
-    free(firsts);
-    free(expected);
-    free(words);
-    free(lanes);
-    free(text);
-    printf("%ld refused\n", refused);
-    return refused < 20;
+    free(classes), free(firsts), free(expected), free(words), free(lanes), free(text);
+    expected = NULL;
+    return refused;
+}
+
+int main(int argc, char **argv) {
+    if (argc == 3) {
+        bench = read_file(argv[1]);
+        tests = read_file(argv[2]);
+    }
+    for (model = FS_STUCK_AT; model <= FS_TRANSITION_PAIRS; model++)
+        for (int turn = 0; turn < 2; turn++) {
+            onwards = turn;
+            printf("model %" PRIu32 ", %s:\n", model, onwards ? "with all that follow" : "alone");
+            if (refuse_all() < 20)
+                end("few allocations", 0);
+        }
+    return 0;
 }
