@@ -1,4 +1,4 @@
-/* What the examples generator.c, loops.c and threads.c share: an end with a message, memory, a file
+/* What the examples drop.c, generator.c, loops.c and threads.c share: an end with a message, memory, a file
  * and random words. */
 #include <stdint.h>
 #include <stdio.h>
