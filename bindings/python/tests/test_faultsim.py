@@ -1,6 +1,8 @@
 """The package, on C17 and on circuits of a line. Expected values are worked out by hand."""
 
 import copy
+import gc
+import os
 import pathlib
 import pickle
 import resource
@@ -10,6 +12,8 @@ import sys
 import tempfile
 import threading
 import unittest
+import warnings
+import weakref
 from array import array
 from unittest import mock
 
@@ -67,19 +71,34 @@ class Reading(unittest.TestCase):
             faultsim.Job(AND, "stuck")
 
     def test_name_of_a_file_in_place_of_its_text(self):
+        end = "the name of a file, and a job takes the text in it)"
         for text, hint in (
-            ("no.bench", "('no.bench' looks like the name of a file, and a job takes the text in it)"),
-            (__file__, f"({__file__!r} is the name of a file, and a job takes the text in it)"),
-            ("z = \n", ""),
+            ("no.bench", f" ('no.bench' looks like {end}"),
+            (b"no.bench", f" ('no.bench' looks like {end}"),
+            (__file__, f" ({__file__!r} is {end}"),
+            ("z", ""),
+            ("z = a.b\n", ""),
+            ("INPUT(a.b", ""),
         ):
             with self.assertRaises(faultsim.Error) as caught:
                 faultsim.Job(text)
             said = str(caught.exception)
-            self.assertEqual(said, f"bench line 1: syntax {hint}".rstrip())
+            self.assertEqual(said, f"bench line 1: syntax{hint}")
             self.assertEqual(str(pickle.loads(pickle.dumps(caught.exception))), said)
+        with faultsim.Job(AND) as job:
+            for call in (
+                lambda: job.set_tests("a.tests"),
+                lambda: faultsim.firsts(AND, "a.tests"),
+                lambda: faultsim.firsts("a.tests", "11\n"),
+            ):
+                with self.assertRaisesRegex(faultsim.Error, "'a.tests' looks like the name"):
+                    call()
+            with self.assertRaisesRegex(faultsim.Error, "^tests line 1: not 0 or 1$"):
+                job.set_tests("1x")
 
     def test_release_is_that_of_the_package(self):
-        self.assertIn(faultsim.release(), (faultsim.__version__, f"{faultsim.__version__} (unproved)"))
+        version = faultsim.__version__
+        self.assertIn(faultsim.release(), (version, f"{version} (unproved)"))
 
     def test_closed(self):
         job = faultsim.Job(AND)
@@ -118,6 +137,17 @@ class Tests(unittest.TestCase):
                 with self.assertRaises(error):
                     job.set_tests(tests, count)
                 self.assertEqual((job.tests, job.coverage()), (1, (3, 6)))
+
+    def test_rows_that_raise(self):
+        def rows():
+            yield [1, 1]
+            raise KeyError("amid rows")
+
+        with faultsim.Job(AND) as job:
+            job.set_tests("11\n")
+            with self.assertRaises(KeyError):
+                job.set_tests(rows())
+            self.assertEqual((job.tests, job.coverage()), (1, (3, 6)))
 
     def test_lists_of_other_things(self):
         with faultsim.Job(AND) as job:
@@ -350,6 +380,59 @@ class Threads(unittest.TestCase):
             thread.join()
             self.assertTrue(len(found) == 10 and all(it in wanted for it in found))
 
+    def test_close_beside_calls(self):
+        # Calls of other threads are done, or find the job closed.
+        gates = "".join(f"n{i} = XOR(n{i - 1}, {'ab'[i % 2]})\n" for i in range(1, 500))
+        bench, ends = "INPUT(a)\nINPUT(b)\nOUTPUT(n499)\nn0 = NAND(a, b)\n" + gates, []
+
+        def run(job, first):
+            try:
+                while True:
+                    job.simulate(workers=2)
+                    first.set()
+            except ValueError as error:
+                ends.append(str(error))
+
+        for _ in range(10):
+            job, begun = faultsim.Job(bench), [threading.Event() for _ in range(3)]
+            job.set_tests("00\n11\n")
+            threads = [threading.Thread(target=run, args=(job, it)) for it in begun]
+            for it in threads:
+                it.start()
+            for it in begun:
+                self.assertTrue(it.wait(60))
+            job.close()
+            for it in threads:
+                it.join()
+        self.assertEqual(ends, ["the job is closed"] * 30)
+
+    def test_child_processes(self):
+        # A child has the job, and none of the threads that simulated.
+        with faultsim.Job(C17) as job:
+            job.set_tests("11111\n")
+            wanted = job.coverage(workers=3)
+            with warnings.catch_warnings():
+                warnings.simplefilter("ignore", DeprecationWarning)
+                child = os.fork()
+            if not child:
+                same = job.coverage(workers=3) == wanted
+                job.set_tests("11111\n11111\n")
+                os._exit(0 if same and job.coverage() == wanted else 1)
+            self.assertEqual(os.waitpid(child, 0)[1], 0)
+            self.assertEqual(job.coverage(workers=3), wanted)
+
+    def test_jobs_that_hold_each_other(self):
+        one = faultsim.Job(C17)
+        two = one.share()
+        one.other, two.other, gone = two, one, weakref.ref(one)
+        third = one.share()
+        del one, two
+        gc.collect()
+        self.assertIsNone(gone())
+        third.set_tests("11111\n")
+        self.assertEqual(third.coverage(), (14, 34))
+        third.close()
+
     def test_calls_of_a_signal_handler(self):
         said = []
         with faultsim.Job(C17) as job:
@@ -529,6 +612,29 @@ class Arrays(unittest.TestCase):
             with self.assertRaises(IndexError):
                 job.set_tests(faultsim.numpy.zeros((2, 3)))
 
+    def test_types_and_layouts_of_rows(self):
+        numpy = faultsim.numpy
+        rows = numpy.array([[0, 1]] * 70 + [[1, 1]])
+        with faultsim.Job(AND) as job:
+            for right in (
+                *(rows.astype(kind) for kind in ("i1", "u8", ">i4", "f4", "f8")),
+                numpy.asfortranarray(rows),
+                numpy.repeat(rows, 2, axis=0)[::2],
+                numpy.ascontiguousarray(rows[::-1, ::-1])[::-1, ::-1],
+                list(rows),
+            ):
+                job.set_tests([])
+                job.set_tests(right)
+                self.assertEqual(job.tests, 71)
+                self.assertEqual([job.word(1, it) & 127 for it in (0, 1)], [64, 127])
+            for wrong in (rows * 2, rows * 0.5, rows.astype(object), rows.astype(str)):
+                with self.assertRaises(ValueError):
+                    job.set_tests(wrong)
+            for wrong in (rows[0], rows[None], rows.T):
+                with self.assertRaisesRegex(IndexError, "shape"):
+                    job.set_tests(wrong)
+            self.assertEqual(job.tests, 71)
+
     def test_shapes_of_words(self):
         # 65 tests of two sources: only the last has a 1 at a, and only test 63 one at b.
         numpy = faultsim.numpy
@@ -576,6 +682,8 @@ class Arrays(unittest.TestCase):
             self.assertEqual(len(job.simulate(numpy.array([]))), 0)
             for classes, error in (
                 (numpy.array([True, False]), TypeError),
+                (list(numpy.array([True, False])), TypeError),
+                ([numpy.array([0, 1]), numpy.array([2, 3])], TypeError),
                 (numpy.array([0.5]), TypeError),
                 (numpy.array([1 << 32]), IndexError),
                 (numpy.array([-1]), IndexError),

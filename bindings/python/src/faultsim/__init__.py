@@ -17,6 +17,7 @@ import ctypes
 import enum
 import operator
 import os
+import re
 import threading
 import weakref
 from array import array
@@ -46,6 +47,10 @@ __all__ = [
 __version__ = "0.3.0"
 
 Text = Union[str, bytes]
+# What `set_tests` takes: a text, rows of bits, or words. An array of numpy is iterable, too.
+Tests = Union[Text, Iterable[Sequence[int]], Iterable[int]]
+# What is no number of a list, though Python takes it for one.
+_TRUTHS = (bool,) if numpy is None else (bool, numpy.bool_)
 if TYPE_CHECKING:
     from numpy import uint32, uint64
     from numpy.typing import NDArray
@@ -134,7 +139,7 @@ def _numbers(values: Iterable[int], code: str) -> Any:
         return _array_numbers(values, code)
     if not (isinstance(values, array) and values.typecode == code):
         values = values if isinstance(values, (range, array)) else list(values)
-        if isinstance(values, list) and any(isinstance(it, bool) for it in values):
+        if isinstance(values, list) and any(isinstance(it, _TRUTHS) for it in values):
             raise TypeError("a list of truth values, and not of numbers")
         try:
             values = array(code, values)
@@ -220,7 +225,7 @@ def _runs_of(stems: Any) -> Any:
     return runs
 
 
-def _words_of(rows: Sequence[Sequence[int]], width: int) -> tuple[int, Any]:
+def _words_of(rows: Sequence[Any], width: int) -> tuple[int, Any]:
     """The number of tests, and their words: for each block of 64 tests one for each source."""
     if any(len(row) != width for row in rows):
         raise IndexError(f"a test hasn't {width} bits")
@@ -248,12 +253,23 @@ def _packed(rows: Any, width: int) -> tuple[int, Any]:
     return count, numpy.ascontiguousarray(packed).reshape(-1).view("<u8")
 
 
-def _hint(text: Any) -> str:
+def _check_text(status: int, fault: FsFault, text: Text) -> None:
+    """Raises the exception of a call that takes a text. It names a text that looks like the name of
+    a file."""
+    try:
+        check(status, fault)
+    except Error as error:
+        raise Error(error.kind, error.place, _hint(text)) from None
+
+
+def _hint(text: Text) -> str:
     """What an error says of a text that looks like the name of a file."""
-    if not isinstance(text, str) or "\n" in text or "(" in text or not text.strip():
+    name = text if isinstance(text, str) else bytes(text).decode(errors="replace")
+    exists = "\n" not in name and os.path.exists(name)
+    if not exists and not re.fullmatch(r"[^\n(]*[./\\][^\n(]*", name):
         return ""
-    kind = "is" if os.path.exists(text) else "looks like"
-    return f" ({text!r} {kind} the name of a file, and a job takes the text in it)"
+    kind = "is" if exists else "looks like"
+    return f" ({name!r} {kind} the name of a file, and a job takes the text in it)"
 
 
 def _begin(function: Any, arguments: Any, errors: list[BaseException]) -> Any:
@@ -304,10 +320,7 @@ class Job:
         self.close()
         self._start()
         model, text, fault = _number(model), _bytes(bench), FsFault()
-        try:
-            check(library.fs_job_read(model, text, len(text), self._handle, fault), fault)
-        except Error as error:
-            raise Error(error.kind, error.place, _hint(bench)) from None
+        _check_text(library.fs_job_read(model, text, len(text), self._handle, fault), fault, text)
         self._sizes()
 
     def _start(self) -> None:
@@ -380,7 +393,7 @@ class Job:
         other._sizes()
 
     def set_tests(
-        self, tests: Any, count: Optional[int] = None, keep_last: bool = False
+        self, tests: Tests, count: Optional[int] = None, keep_last: bool = False
     ) -> None:
         """Takes tests in place of the job's.
 
@@ -401,7 +414,7 @@ class Job:
             if count is not None or keep_last:
                 raise TypeError("count and keep_last don't go with a text")
             text = _bytes(tests)
-            self._take(library.fs_set_text, text, len(text))
+            self._take(library.fs_set_text, text, len(text), text=text)
         else:
             if count is not None:
                 words = self._words(tests, _number(count))
@@ -421,8 +434,8 @@ class Job:
             words = words.reshape(-1)
         return _numbers(words, "Q")
 
-    def _take(self, function: Any, *arguments: Any) -> None:
-        """Takes tests by a function of the library, when no other call runs."""
+    def _take(self, function: Any, *arguments: Any, text: Text = "") -> None:
+        """Takes tests, perhaps of a text, by a function of the library, when no other call runs."""
         fault = FsFault()
         with self._lock:
             self._turn += 1
@@ -431,7 +444,7 @@ class Job:
             if status == _library.SHARED:
                 _free_handles_of_no_job()
                 status = self._call(function, *arguments, fault)
-            check(status, fault)
+            _check_text(status, fault, text)
             self._sizes()
 
     def classes_of(self) -> Numbers:
@@ -805,5 +818,5 @@ def firsts(bench: Text, tests: Text, model: int = Model.STUCK_AT) -> Numbers:
         if status != _library.RANGE or count.value == len(found):
             break
         found = _room(count.value, "I")
-    check(status, fault)
+    _check_text(status, fault, bench if fault.kind < Kind.TESTS_BYTE else tests)
     return found
