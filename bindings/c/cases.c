@@ -2,8 +2,8 @@
  *
  * usage: cases FILE
  *
- * Link with a library that has refuse.c. Prints each call that has another result, and then how many
- * calls there were. Returns 0 if there were some, and all had their results. */
+ * Link with a library that has refuse.c. Prints each call that has another result, and then how
+ * many calls there were. Returns 0 if there were some, and all had their results. */
 #include "faultsim.h"
 #include "refuse.h"
 

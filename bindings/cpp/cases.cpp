@@ -2,8 +2,8 @@
 //
 // usage: cases FILE
 //
-// Link with a library that has refuse.c. Prints each call that has another result, and then how many
-// calls there were. Returns 0 if there were some, and all had their results.
+// Link with a library that has refuse.c. Prints each call that has another result, and then how
+// many calls there were. Returns 0 if there were some, and all had their results.
 #include "faultsim.hpp"
 #include "refuse.h"
 
@@ -31,7 +31,9 @@ struct Call {
     std::string handle;
     Strings words;
 
-    faultsim::Job &job() const { return *jobs[handle]; }
+    // The job: all calls but those that take tests or share leave it as it is.
+    const faultsim::Job &job() const { return *jobs[handle]; }
+    faultsim::Job &changed_job() const { return *jobs[handle]; }
     std::uint32_t number(std::size_t at) const {
         return static_cast<std::uint32_t>(std::stoul(words.at(at)));
     }
@@ -230,14 +232,14 @@ static const std::map<std::string, std::function<std::string(const Call &)>> cal
      })},
     {"share", quiet([](const Call &it) { jobs[it.handle] = jobs[it.words.at(0)]->share(); })},
     {"free", quiet([](const Call &it) { jobs[it.handle].reset(); })},
-    {"set_text", quiet([](const Call &it) { it.job().set_text(it.text(0)); })},
+    {"set_text", quiet([](const Call &it) { it.changed_job().set_text(it.text(0)); })},
     {"set_words", quiet([](const Call &it) {
-         it.job().set_words(it.number(0), words_from(it, 1));
+         it.changed_job().set_words(it.number(0), words_from(it, 1));
      })},
     {"next_words", quiet([](const Call &it) {
-         it.job().next_words(it.number(0), words_from(it, 1));
+         it.changed_job().next_words(it.number(0), words_from(it, 1));
      })},
-    {"set_rows", quiet([](const Call &it) { set_rows(it.job(), it.text(0)); })},
+    {"set_rows", quiet([](const Call &it) { set_rows(it.changed_job(), it.text(0)); })},
     {"sizes", [](const Call &it) { return sizes(it.job()); }},
     {"names", [](const Call &it) { return joined(names(it.job(), false), same); }},
     {"sources", [](const Call &it) { return joined(names(it.job(), true), same); }},
