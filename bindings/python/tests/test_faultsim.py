@@ -529,7 +529,16 @@ class Threads(unittest.TestCase):
         def close(job):
             job.close()
 
-        for free in (read_again, close):
+        def read_wrong(job):
+            with self.assertRaises(faultsim.Error):
+                faultsim.Job(f"{bench}x = ")
+
+        def share(job):
+            job.set_tests("1\n")
+            with job.share() as other:
+                other.simulate(workers=2)
+
+        for free in (read_again, close, read_wrong, share):
             job = faultsim.Job(bench)
             with faultsim.Job(bench) as other:
                 self.assertEqual(other.sources, 1)
