@@ -12,12 +12,13 @@ rounds for each time.
   --circuit NAME  the circuit: s38417 (22,179 random gates in its shape, the default), or one of
                   designs/, such as picorv32
   --tests N       the number of random tests (4,096)
-  --compare       compares with what the program writes, under each model: the name of each fault,
-                  its first test and how many tests detect it, up to three. `cases`: on each circuit
-                  of cases/, with the tests of the cases and with 70 random ones; a file that the
-                  program rejects must be rejected at the same line. `designs`: on picorv32 with 256
-                  random tests. Both, if neither is named. The counts of all blocks must be the
-                  detections, and a complemented signal is seen if a fault of its stem is detected
+  --compare       compares with what the program writes, under each model: the report with all
+                  faults, the name of each fault, its first test and how many tests detect it, up to
+                  three. `cases`: on each circuit of cases/, with the tests of the cases and with 70
+                  random ones; a file that the program rejects must be rejected at the same line.
+                  `designs`: on picorv32 with 256 random tests. Both, if neither is named. The
+                  counts of all blocks must be the detections, and a complemented signal is seen if
+                  a fault of its stem is detected
   --quick         leaves out tests of cases/ that take many seconds: over 500,000 faults times tests
   --generators    times the random test generator of each language, and faultgen beside them
 
@@ -120,11 +121,15 @@ def timed(program, paths, rounds):
     return 0
 
 
-def said_by(program, paths, model, *more):
-    """The lines of faults that the program writes, each as a name and what is said of it."""
+def report_of(program, paths, model, *more):
+    """The report with a line for each fault that the program writes."""
     command = [program, "run", "--list", "--model", model, "--bench", paths[0], "--tests", paths[1]]
-    out = subprocess.run([*command, *more], stdout=subprocess.PIPE, check=True, text=True).stdout
-    return [tuple(line.rsplit(" ", 1)) for line in out.splitlines()[:-1]]
+    return subprocess.run([*command, *more], stdout=subprocess.PIPE, check=True, text=True).stdout
+
+
+def lines_of(report):
+    """The lines of faults in a report, each as a name and what is said of it."""
+    return [tuple(line.rsplit(" ", 1)) for line in report.splitlines()[:-1]]
 
 
 def are_counts_of_blocks(job, counts, most):
@@ -159,8 +164,8 @@ def flat(row):
 
 
 def is_same(program, paths, model, number):
-    """Whether names, first tests and detections are those that the program writes, and how many
-    faults there are. The calls on one block have to agree with them."""
+    """Whether the report, names, first tests and detections are those that the program writes, and
+    how many faults there are. The calls on one block have to agree with them."""
     with faultsim.Job(text_of(paths[0]), number) as job:
         job.set_tests(text_of(paths[1]))
         firsts = [
@@ -168,9 +173,9 @@ def is_same(program, paths, model, number):
         ]
         counts, of = job.detections(3), job.classes_of()
         counted = [(name, str(int(counts[int(of[at])]))) for at, (name, _) in enumerate(firsts)]
-        same = firsts == said_by(program, paths, model) and counted == said_by(
-            program, paths, model, "--detections", "3"
-        )
+        report = report_of(program, paths, model)
+        same = job.report(faultsim.Lines.ALL) == report and firsts == lines_of(report)
+        same &= counted == lines_of(report_of(program, paths, model, "--detections", "3"))
         of_blocks = are_counts_of_blocks(job, counts, 3)
         observed = number != faultsim.Model.STUCK_AT or are_observed(job)
         return same and of_blocks and observed, job.faults
@@ -204,9 +209,9 @@ def read_cases():
 
 
 def compared_on(program, folder, bench, tests, most):
-    """The faults that are the same, and what differs, on a circuit with some texts of tests, of which
-    those with more faults times tests than the most are left out. A text that is refused counts as
-    none."""
+    """The faults that are the same, and what differs, on a circuit with some texts of tests, of
+    which those with more faults times tests than the most are left out. A text that is refused
+    counts as none."""
     try:
         job = faultsim.Job(bench)
     except faultsim.Error as error:
