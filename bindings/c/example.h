@@ -1,5 +1,5 @@
-/* What the examples drop.c, generator.c, loops.c and threads.c share: an end with a message, memory, a file
- * and random words. */
+/* What the examples drop.c, generator.c, loops.c and threads.c share: an end with a message, memory,
+ * a file and random words. */
 #include <stdint.h>
 #include <stdio.h>
 #include <stdlib.h>

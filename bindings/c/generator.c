@@ -44,10 +44,11 @@ int main(int argc, char **argv) {
     fs_job job = {0};
     fs_fault fault = {0};
     fs_sizes n;
-    if (fs_job_read(FS_STUCK_AT, bench, size, &job, &fault) || fs_sizes_of(&job, &n)) {
-        fprintf(stderr, "generator: wrong circuit: kind %" PRIu32 " of faultsim.h, line %" PRIu64 "\n",
-                fault.kind, fault.place);
-        return 1;
+    uint32_t status = fs_job_read(FS_STUCK_AT, bench, size, &job, &fault);
+    if (status || fs_sizes_of(&job, &n)) {
+        char why[128];
+        fs_message(status, &fault, why, sizeof why);
+        end(why);
     }
     uint64_t *words = room(n.sources, sizeof *words);
     uint32_t *left = room(n.classes, sizeof *left), *firsts = room(n.classes, sizeof *firsts);

@@ -301,8 +301,8 @@ public:
         return words;
     }
 
-    // Returns the report that `faultsim run` writes: the lines that are asked for, the coverage, and
-    // with `classes` that of the classes.
+    // Returns the report that `faultsim run` writes: the lines that are asked for, the coverage,
+    // and with `classes` that of the classes.
     std::string report(Lines lines = Lines::none, bool classes = false) const {
         return text([&](auto... room) {
             return fs_report(&handle, static_cast<std::uint32_t>(lines), classes, room...);
@@ -332,8 +332,8 @@ public:
 
     // Writes for each signal of a list the tests of a block in which complementing the signal is
     // seen at an observer: bit k of its word is 1 exactly if test 64 * block + k detects the signal
-    // stuck at the complement of its fault-free value. The lengths are equal. Spans that overlap are
-    // out of range.
+    // stuck at the complement of its fault-free value. The lengths are equal. Spans that overlap
+    // are out of range.
     void observed(std::uint32_t block, std::span<const std::uint32_t> signals,
                   std::span<std::uint64_t> words) const {
         detail::check_apart(signals, words);
@@ -366,9 +366,9 @@ public:
         return lanes;
     }
 
-    // Counts how many tests detect each class of a list, no more than `most` of a class. The lengths
-    // are equal. Spans that overlap are out of range. It simulates class by class, and so takes many
-    // times as long as simulate.
+    // Counts how many tests detect each class of a list, no more than `most` of a class. The
+    // lengths are equal. Spans that overlap are out of range. It simulates class by class, and so
+    // takes many times as long as simulate.
     void detections(std::span<const std::uint32_t> classes, std::uint32_t most,
                     std::span<std::uint32_t> counts) const {
         detail::check_apart(classes, counts);

@@ -29,7 +29,8 @@ def _library():
     path = pathlib.Path(named) if named else HERE.parents[1] / "out" / "libfaultsim.so"
     if not path.exists():
         raise SystemExit(
-            f"there is no {path}: contrib/build-library makes it in out/, or FAULTSIM_LIBRARY names it"
+            f"there is no {path}: contrib/build-library makes it in out/, "
+            "or FAULTSIM_LIBRARY names it"
         )
     return path
 

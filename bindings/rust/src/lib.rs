@@ -246,10 +246,10 @@ impl Job {
         told(status, fault)
     }
 
-    /// Takes tests in words as [`Job::set_words`] does, but after the job's last test, which is test
-    /// 0 of the new list: so under [`Model::Transition`] the pair of it and the first new test isn't
-    /// lost. Under [`Model::TransitionPairs`] use [`Job::set_words`]: this call would move the pairs
-    /// by one test.
+    /// Takes tests in words as [`Job::set_words`] does, but after the job's last test, which is
+    /// test 0 of the new list: so under [`Model::Transition`] the pair of it and the first new test
+    /// isn't lost. Under [`Model::TransitionPairs`] use [`Job::set_words`]: this call would move the
+    /// pairs by one test.
     pub fn next_words(&mut self, count: u32, words: &[u64]) -> Result<(), Error> {
         let mut fault = Fault::default();
         // SAFETY: as above.
@@ -406,8 +406,8 @@ impl Job {
         Ok(words)
     }
 
-    /// Returns the fault-free value of a signal: bit k is that in test `64 * block + k`. Bits past the
-    /// last test may be 1.
+    /// Returns the fault-free value of a signal: bit k is that in test `64 * block + k`. Bits past
+    /// the last test may be 1.
     pub fn word(&self, block: u32, signal: u32) -> Result<u64, Error> {
         let mut word = 0;
         // SAFETY: as above; the call tests the numbers.
@@ -418,7 +418,8 @@ impl Job {
         Ok(word)
     }
 
-    /// Returns the signal of each observer: the OUTPUT lines, and then the data pins of the flip-flops.
+    /// Returns the signal of each observer: the OUTPUT lines, and then the data pins of the
+    /// flip-flops.
     pub fn observers(&self) -> Vec<u32> {
         let (mut signals, mut wanted) = (Vec::new(), 0);
         loop {
@@ -447,8 +448,8 @@ impl Job {
         words
     }
 
-    /// Returns the report that `faultsim run` writes: the lines that are asked for, the coverage, and
-    /// with `classes` that of the classes.
+    /// Returns the report that `faultsim run` writes: the lines that are asked for, the coverage,
+    /// and with `classes` that of the classes.
     pub fn report(&self, lines: Lines, classes: bool) -> Result<String, Error> {
         // SAFETY: as above; the call tests the number.
         self.text(|job, text, room, wanted| unsafe {

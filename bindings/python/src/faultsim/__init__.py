@@ -273,8 +273,9 @@ def _hint(text: Text) -> str:
 
 
 def _begin(function: Any, arguments: Any, errors: list[BaseException]) -> Any:
-    """Calls a function in another thread. Returns a lock that is released at its end; what it raises
-    is put into a list. (A thread of `threading` may not start if a signal handler raises.)"""
+    """Calls a function in another thread. Returns a lock that is released at its end; what it
+    raises is put into a list. (A thread of `threading` may not start if a signal handler
+    raises.)"""
     end = _thread.allocate_lock()
     end.acquire()
 
