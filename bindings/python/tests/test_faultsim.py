@@ -2,6 +2,7 @@
 
 import copy
 import gc
+import inspect
 import os
 import pathlib
 import pickle
@@ -95,6 +96,14 @@ class Reading(unittest.TestCase):
                     call()
             with self.assertRaisesRegex(faultsim.Error, "^tests line 1: not 0 or 1$"):
                 job.set_tests("1x")
+
+    def test_types(self):
+        calls = [it for name, it in vars(faultsim.Job).items() if not name.startswith("_")]
+        for call in [*calls, faultsim.Job.__init__, faultsim.firsts, faultsim.release]:
+            types = call.__annotations__
+            names = {*inspect.signature(call).parameters} - {"self"}
+            self.assertEqual({*types}, names | {"return"})
+            self.assertNotIn("Any", types.values(), call)
 
     def test_release_is_that_of_the_package(self):
         version = faultsim.__version__
