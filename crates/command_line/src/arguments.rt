@@ -4,7 +4,7 @@ ghost use Rattle.std.specs.Prelude.{◌≤◌};
 
 use crate::command::run_words;
 use crate::status::{CommandError, MISSED, NO_MEMORY, UNWRITTEN, answer_fault};
-use command_basics::{DONE, Files};
+use command_basics::{DONE, Files, REFUSED};
 use report::{Out, Plain};
 use std::alloc::{AllocError, Global};
 use std::env;
@@ -77,7 +77,7 @@ fn run_with_buffer<
     let mut files = Files::new(rt, input);
     let status = run_words(rt, rt.alloc(), words, &mut files, &mut out, err);
     let flushed = out.into_writer().flush();
-    if matches!(status, DONE | MISSED) && flushed.is_err() {
+    if matches!(status, DONE | MISSED | REFUSED) && flushed.is_err() {
         return answer_fault(&UNWRITTEN, err);
     }
     status

@@ -4,15 +4,20 @@ use crate::columns::check_names;
 use crate::command::{read_file, read_model, read_option};
 use crate::status::{CommandError, NO_MEMORY, UNWRITTEN};
 use block_sim::JobFault;
+use byte_output::put_all;
 use clap::ArgMatches;
 use command_basics::Source;
-use input_check::{Answer, Excess, Findings, Located, check_texts};
-use report::{Formatted, Out, SimFault};
+use input_check::{
+    Answer, ErrorRow, Excess, Findings, Located, answer_object, check_texts, errors_object,
+};
+use report::{Formatted, Out, OutFailed, SimFault};
 use std::alloc::{AllocError, Global};
 use std::fmt::Write;
+use test_columns::Mismatch;
 
 /// Runs `check`. It reads the files before it checks either. The errors of a file go to standard
-/// error, before the error that `run` prints.
+/// error, before the error that `run` prints. With `--format json` the result also goes to the
+/// output, with errors or without.
 pub(crate) fn do_check<'a, S: Source, W: Out, E: Out>(
     alloc: Global,
     matches: &ArgMatches<'a>,
@@ -21,6 +26,7 @@ pub(crate) fn do_check<'a, S: Source, W: Out, E: Out>(
     err: &mut E,
 ) -> Result<(), CommandError<'a>> {
     let model = read_model(matches)?;
+    let json = is_json(matches);
     let bench = read_option(alloc, matches, "bench", files)?;
     let tests = match matches.get_str("tests") {
         Some(path) => Some(read_file(alloc, path, files)?),
@@ -28,24 +34,85 @@ pub(crate) fn do_check<'a, S: Source, W: Out, E: Out>(
     };
     let text = tests.as_ref().map(|tests| tests.as_slice());
     if let Some(text) = text {
-        check_names(alloc, matches, &bench, text)?;
+        let checked = check_names(alloc, matches, &bench, text);
+        if let (true, Err(CommandError::Columns(path, mismatch))) = (json, &checked) {
+            write_mismatch(alloc, path, mismatch, out)?;
+        }
+        checked?;
     }
-    match check_texts(alloc, model, &bench, text) {
-        Ok(answer) => write_answer(matches, &answer, out, err),
-        Err(AllocError) => Err(NO_MEMORY),
+    let answer = match check_texts(alloc, model, &bench, text) {
+        Ok(answer) => answer,
+        Err(AllocError) => return Err(NO_MEMORY),
+    };
+    if json {
+        write_object(alloc, matches, &answer, out)?;
+    }
+    write_answer(matches, &answer, json, out, err)
+}
+
+/// Returns whether the command line requests JSON.
+fn is_json(matches: &ArgMatches<'_>) -> bool {
+    matches.get_str("format") == Some("json")
+}
+
+/// Writes an object.
+fn put_object<'a, W: Out>(
+    object: Result<Vec<u8>, AllocError>,
+    out: &mut W,
+) -> Result<(), CommandError<'a>> {
+    let Ok(text) = object else {
+        return Err(NO_MEMORY);
+    };
+    match put_all(&text, out) {
+        Ok(()) => Ok(()),
+        Err(OutFailed) => Err(UNWRITTEN),
     }
 }
 
-/// Prints the result.
+/// Writes the object of the result.
+fn write_object<'a, W: Out>(
+    alloc: Global,
+    matches: &ArgMatches<'a>,
+    answer: &Answer<'_>,
+    out: &mut W,
+) -> Result<(), CommandError<'a>> {
+    let bench = matches.get_str("bench").unwrap_or("");
+    let tests = matches.get_str("tests").unwrap_or("");
+    put_object(answer_object(alloc, answer, bench, tests), out)
+}
+
+/// Writes the object of a test file that names its columns otherwise than the circuit.
+fn write_mismatch<'a, W: Out>(
+    alloc: Global,
+    path: &'a str,
+    mismatch: &Mismatch,
+    out: &mut W,
+) -> Result<(), CommandError<'a>> {
+    let Ok(message) = format!(in alloc; "{mismatch}") else {
+        return Err(NO_MEMORY);
+    };
+    let row = ErrorRow {
+        file: path,
+        line: Some(mismatch.line),
+        column: None,
+        message: message.as_str(),
+        hint: None,
+    };
+    put_object(errors_object(alloc, &[row], 0), out)
+}
+
+/// Prints the result: the sizes, unless their object is written, or the errors.
 fn write_answer<'a, W: Out, E: Out>(
     matches: &ArgMatches<'a>,
     answer: &Answer<'_>,
+    json: bool,
     out: &mut W,
     err: &mut E,
 ) -> Result<(), CommandError<'a>> {
     match answer {
-        Answer::Accepted(table) => {
-            if write!(Formatted(out), "{table}").is_err() {
+        Answer::Accepted(_) if json => Ok(()),
+        Answer::Accepted(sizes) => {
+            if write!(Formatted(out), "{sizes}").is_err() {
                 return Err(UNWRITTEN);
             }
             Ok(())

@@ -58,6 +58,8 @@ pub(crate) enum Choice {
     Format,
     /// The format of a curve.
     CurveFormat,
+    /// The format of a check.
+    CheckFormat,
     /// The coverage of the classes of merged part files, and the circuit that it needs.
     MergeClasses,
     MergeBench,
@@ -248,6 +250,16 @@ fn format_option<'a>(alloc: Global) -> Arg<'a> {
         .help("The format of the list of faults")
 }
 
+/// The formats of a check.
+static CHECK_FORMATS: [&str; 2] = ["text", "json"];
+
+/// Returns the option `--format FORMAT` of `check`.
+fn check_format_option<'a>(alloc: Global) -> Arg<'a> {
+    format_option(alloc)
+        .value_parser(CHECK_FORMATS.as_slice())
+        .help("The format of the result; json also has the errors")
+}
+
 /// The help of the option `--format FORMAT` of `run`.
 const RUN_FORMAT_HELP: &str =
     "The format of the list; csv and json list all faults, or only undetected ones";
@@ -356,6 +368,7 @@ pub(crate) fn option<'a>(
         Choice::RunFormat => run_format_option(alloc)?,
         Choice::Format => format_option(alloc),
         Choice::CurveFormat => format_option(alloc).help("The format of the curve"),
+        Choice::CheckFormat => check_format_option(alloc),
         Choice::MergeClasses => classes_flag(alloc).requires_arg("bench")?,
         Choice::MergeBench => merge_bench_option(alloc),
         Choice::MergeFormat => merge_format_option(alloc)?,

@@ -96,7 +96,12 @@ impl Task {
 }
 
 /// The options of `check`.
-static CHECK_CHOICES: [Choice; 3] = [Choice::Bench, Choice::TestsIfAny, Choice::Model];
+static CHECK_CHOICES: [Choice; 4] = [
+    Choice::Bench,
+    Choice::TestsIfAny,
+    Choice::Model,
+    Choice::CheckFormat,
+];
 
 /// The options of `run`.
 static RUN_CHOICES: [Choice; 16] = [
@@ -222,6 +227,10 @@ line, a mark and a suggestion, and then the error that run prints:
 
 If the files have no error, it prints their sizes, the most tests of one run, and
 warnings.
+
+--format json writes one JSON object on standard output, with errors or without:
+
+    faultsim check --bench a.bench --format json | jq .errors
 
 Each FILE is read whole. One FILE can be -, the standard input.";
 

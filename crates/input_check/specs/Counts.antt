@@ -1,26 +1,67 @@
 -- The sizes of a circuit and its tests.
-use Rattle.std.specs.Prelude.{◌≡◌, ◌<◌, ◌≤◌, ◌*◌, ℕ, List, length}
+use Rattle.std.specs.Prelude.{◌≡◌, ◌<◌, ◌≤◌, ◌*◌, ◌/◌, ◌==◌, ℕ, max, min, Bool, false}
+use Rattle.std.specs.Prelude.{List, [], filter, length, slice_index}
+use Rattle.std.specs.List.{flat_map}
 use Rattle.std.specs.Int.{div_ceil}
+use Rattle.bench_net.specs.declared.Kind.{Kind}
+use Rattle.bench_net.specs.declared.Kind.TheVariants.{And, Nand, Or, Nor, Xor, Xnor, Not, Buff}
+use Rattle.bench_net.specs.Circuit.{sink_count}
 use Rattle.bench_net.specs.Level.{HasDepth}
 use Rattle.bench_net.specs.Scan.{cells, inputs, names, outputs}
-use Rattle.bench_net.specs.Statement.{Statement}
+use Rattle.bench_net.specs.Statement.{Name, Statement, Gate}
 use Rattle.fault_model.specs.declared.Model.{Model}
 use Rattle.fault_model.specs.Collapse.{Collapsed, AreClassesOf}
 use Rattle.fault_model.specs.Fault.{faults}
-use Rattle.patterns.specs.Tests.{TestList, blocks, max_pieces}
+use Rattle.patterns.specs.Tests.{TestList, blocks, max_pieces, max_tests}
 use Rattle.block_sim.specs.Parts.{Parts, piece_count}
 use Rattle.region_runs.specs.Refused.{ArePartsWithin, HasLargePart}
 use Rattle.input_check.specs.declared.summary.Counts.{Counts}
 use Rattle.input_check.specs.declared.summary.Excess.{Excess}
+use Rattle.input_check.specs.declared.summary.Limits.{Limits}
 use Rattle.input_check.specs.declared.summary.TestCounts.{TestCounts}
 
--- the numbers of inputs, outputs, flip-flops, signals, faults and classes, and the depth, are the
--- circuit's under the named model
+-- the place of a kind in a list of the numbers of gates
+abbrev pub kind_place : Kind → ℕ
+kind_place And = 0
+kind_place Nand = 1
+kind_place Or = 2
+kind_place Nor = 3
+kind_place Xor = 4
+kind_place Xnor = 5
+kind_place Not = 6
+kind_place Buff = 7
+
+-- a gate line of this kind
+abbrev pub is_gate_of : Kind → Statement → Bool
+is_gate_of kind (Gate n other args) = kind_place kind == kind_place other
+is_gate_of kind _ = false
+
+-- the number of gates of a kind
+abbrev pub gate_count : List Statement → Kind → ℕ
+gate_count c kind = length (filter (is_gate_of kind) c)
+
+-- the list has the number of gates of each kind
+abbrev pub AreGateCountsOf : List Statement → List ℕ → Type 0
+AreGateCountsOf c counts = (kind : Kind) → slice_index counts (kind_place kind) ≡ gate_count c kind
+
+-- the arguments of a gate line, and their number in all
+abbrev pub gate_args : Statement → List Name
+gate_args (Gate n kind args) = args
+gate_args _ = []
+
+abbrev pub pin_count : List Statement → ℕ
+pin_count c = length (flat_map gate_args c)
+
+-- the numbers of inputs, outputs, flip-flops, gates of each kind, pins, sinks, signals, faults and
+-- classes, and the depth, are the circuit's under the named model
 pub record AreCountsOf (m : Model) (c : List Statement) (counts : Counts) : Type 0 where
   pub model : counts.model ≡ m
   pub inputs : counts.inputs ≡ length (inputs c)
   pub outputs : counts.outputs ≡ length (outputs c)
   pub cells : counts.cells ≡ length (cells c)
+  pub gates : AreGateCountsOf c counts.gates
+  pub pins : counts.pins ≡ pin_count c
+  pub sinks : counts.sinks ≡ sink_count c
   pub signals : counts.signals ≡ length (names c)
   pub depth : HasDepth c counts.depth
   pub faults : counts.faults ≡ length (faults m c)
@@ -39,6 +80,16 @@ pub record AreTestCountsOf (classes : ℕ) (list : TestList) (taken : TestCounts
 abbrev pub AreLeastParts : ℕ → ℕ → ℕ → Type 0
 AreLeastParts classes blocks parts = (div_ceil classes parts * blocks ≤ max_pieces)
     × ((fewer : ℕ) → 0 < fewer → fewer < parts → max_pieces < div_ceil classes fewer * blocks)
+
+-- the most tests of one run: 64 for each block of which all pieces are within the limit, and at
+-- most as many as a test file may have
+abbrev pub tests_a_run : ℕ → ℕ
+tests_a_run classes = min (64 * (max_pieces / max classes 1)) max_tests
+
+-- a run takes so many tests, and the most tests of a file need so many parts
+pub record AreLimitsOf (classes : ℕ) (limits : Limits) : Type 0 where
+  pub tests : limits.tests ≡ tests_a_run classes
+  pub parts : AreLeastParts classes (blocks max_tests) limits.parts
 
 -- The pieces of a job are past the limit, and this many. A run needs this number of parts, and no
 -- fewer do.

@@ -7,7 +7,8 @@ ghost use Rattle.input_check.specs.Checks.{IsAnswerTo, IsCircuitAnswer, IsTestsA
 ghost use Rattle.input_check.specs.Checks.{IsTextAnswer};
 
 use crate::bench::{BenchCheck, check_bench};
-use crate::summary::{Excess, count_circuit, count_tests, excess_of};
+use crate::sizes::Sizes;
+use crate::summary::{Excess, count_circuit, count_tests, excess_of, limits_of};
 use crate::tests::{TestCheck, check_tests};
 use bench_net::Circuit;
 use fault_model::Model;
@@ -18,8 +19,8 @@ use std::alloc::{AllocError, Global};
 /// The result of checking the files of a run.
 #[derive(Drop)]
 pub enum Answer<'a> {
-    /// Both are accepted. The text is a table of their sizes, and warnings.
-    Accepted(String),
+    /// Both are accepted, with these sizes and warnings.
+    Accepted(Sizes),
     /// The bench file has errors.
     BenchRefused(Findings<'a>),
     /// The test file has errors.
@@ -60,9 +61,14 @@ fn answer_for<'a>(
         Some(text) => answer_for_text(alloc, model, circuit, text),
         None => {
             let counts = count_circuit(alloc, model, circuit)?;
-            let mut table = format!(in alloc; "{counts}")?;
-            add_warnings(&mut table, alloc, &circuit_warnings(alloc, circuit)?)?;
-            Ok(Answer::Accepted(table))
+            let mut warnings = Vec::new(alloc);
+            add_words(&mut warnings, alloc, &circuit_warnings(alloc, circuit)?)?;
+            Ok(Answer::Accepted(Sizes {
+                counts,
+                limits: limits_of(&counts),
+                tests: None,
+                warnings,
+            }))
         }
     }
 }
@@ -98,39 +104,41 @@ fn answer_for_tests<'a>(
     match excess_of(&counts, &taken) {
         Some(excess) => Ok(Answer::TooManyPieces(excess)),
         None => {
-            let table = format!(in alloc; "{counts}{taken}")?;
-            Ok(Answer::Accepted(with_warnings(alloc, model, table, circuit, tests)?))
+            Ok(Answer::Accepted(Sizes {
+                counts,
+                limits: limits_of(&counts),
+                tests: Some(taken),
+                warnings: warnings_of(alloc, model, circuit, tests)?,
+            }))
         }
     }
 }
 
-/// Returns a table with a line for each warning of a circuit and of tests for it.
-fn with_warnings(
+/// Returns the words of each warning of a circuit and of tests for it.
+fn warnings_of(
     alloc: Global,
     model: Model,
-    table: String,
     circuit: &Circuit,
     tests: &Tests,
-) -> Result<String, AllocError> {
-    let mut table = table;
-    add_warnings(&mut table, alloc, &circuit_warnings(alloc, circuit)?)?;
+) -> Result<Vec<String>, AllocError> {
+    let mut words = Vec::new(alloc);
+    add_words(&mut words, alloc, &circuit_warnings(alloc, circuit)?)?;
     let warnings = match model {
         Model::StuckAt | Model::Transition => test_warnings(alloc, circuit, tests)?,
         Model::TransitionPairs => pair_warnings(alloc, circuit, tests)?,
     };
-    add_warnings(&mut table, alloc, &warnings)?;
-    Ok(table)
+    add_words(&mut words, alloc, &warnings)?;
+    Ok(words)
 }
 
-/// Adds a line for each warning to a table.
-fn add_warnings(
-    table: &mut String,
+/// Adds the words of each warning.
+fn add_words(
+    words: &mut Vec<String>,
     alloc: Global,
     warnings: &[Warning<'_>],
 ) -> Result<(), AllocError> {
     for warning in warnings {
-        let line = format!(in alloc; "warning: {warning}\n")?;
-        table.push_str(line.as_str())?;
+        words.push(format!(in alloc; "{warning}")?)?;
     }
     Ok(())
 }

@@ -1,10 +1,12 @@
 //! The sizes of a circuit and its tests, and of a run.
 
-ghost use Rattle.std.specs.Prelude.{◌≡◌, ◌<◌, ◌≤◌, ◌*◌, IfNone, IfOk, IfSome};
+ghost use Rattle.std.specs.Prelude.{◌≡◌, ◌<◌, ◌≤◌, ◌*◌, IfNone, IfOk, IfSome, Some};
 ghost use Rattle.patterns.specs.Tests.{max_pieces};
-ghost use Rattle.input_check.specs.Counts.{AreCountsOf, AreLeastParts, AreTestCountsOf};
+ghost use Rattle.input_check.specs.Counts.{AreCountsOf, AreLeastParts, AreLimitsOf};
+ghost use Rattle.input_check.specs.Counts.{AreTestCountsOf, tests_a_run};
 
-use bench_net::{Circuit, Kind};
+use crate::gates::{GateCounts, count_gates};
+use bench_net::Circuit;
 use fault_model::{Model, collapse, list_faults_in};
 use job_loading::{LONG_TESTS, piece_bytes};
 use patterns::{BLOCK_SIZE, MAX_PIECES, MAX_TESTS, Tests};
@@ -17,19 +19,7 @@ use test_threads::LARGE_PIECE;
 const MAX_BLOCKS: u32 = MAX_TESTS / BLOCK_SIZE;
 
 /// The number of workers of `run` by default.
-const USUAL_WORKERS: u32 = 4;
-
-/// The kinds of gates and their names, in the order of [`Counts::gates`].
-static KINDS: [(Kind, &str); 8] = [
-    (Kind::And, "AND"),
-    (Kind::Nand, "NAND"),
-    (Kind::Or, "OR"),
-    (Kind::Nor, "NOR"),
-    (Kind::Xor, "XOR"),
-    (Kind::Xnor, "XNOR"),
-    (Kind::Not, "NOT"),
-    (Kind::Buff, "BUFF"),
-];
+pub(crate) const USUAL_WORKERS: u32 = 4;
 
 /// The sizes of a circuit.
 #[derive(Clone, Copy, Debug, PartialEq, Eq)]
@@ -40,9 +30,11 @@ pub struct Counts {
     /// Flip-flops.
     pub cells: usize,
     /// Gates of each kind: AND, NAND, OR, NOR, XOR, XNOR, NOT, BUFF.
-    pub gates: [u64; 8],
+    pub gates: [u32; 8],
     /// The arguments of all gates.
     pub pins: u64,
+    /// Gate pins, data pins of flip-flops and OUTPUT lines.
+    pub sinks: u64,
     pub signals: u32,
     /// The greatest level of a gate.
     pub depth: u32,
@@ -58,7 +50,7 @@ pub fn count_circuit(alloc: Global, model: Model, circuit: &Circuit) -> Result<C
 {
     let list = list_faults_in(alloc, circuit, model)?;
     let classes = collapse(alloc, circuit, &list)?;
-    let (gates, pins) = count_gates(circuit);
+    let GateCounts { gates, pins, sinks } = count_gates(circuit);
     Ok(Counts {
         model,
         inputs: circuit.inputs().len(),
@@ -66,6 +58,7 @@ pub fn count_circuit(alloc: Global, model: Model, circuit: &Circuit) -> Result<C
         cells: circuit.scan_cells().len(),
         gates,
         pins,
+        sinks,
         signals: circuit.signals(),
         depth: circuit.depth(),
         faults: list.count(),
@@ -73,45 +66,11 @@ pub fn count_circuit(alloc: Global, model: Model, circuit: &Circuit) -> Result<C
     })
 }
 
-/// Returns the place of a kind among [`KINDS`].
-fn place_of(kind: Kind) -> usize {
-    KINDS.iter().position(|known| known.0 == kind).unwrap_or(0)
-}
-
-/// Returns the number of gates of each kind, and the number of their pins.
-fn count_gates(circuit: &Circuit) -> ([u64; 8], u64) {
-    let mut gates = [0; 8];
-    let mut pins: u64 = 0;
-    for signal in 0..circuit.signals() {
-        let Some(gate) = circuit.gate_of(signal) else {
-            continue;
-        };
-        pins = pins.saturating_add(gate.pins.len() as u64);
-        if let Some(count) = gates.get_mut(place_of(gate.kind)) {
-            *count = u64::saturating_add(*count, 1);
-        }
-    }
-    (gates, pins)
-}
-
 impl Counts {
-    /// Returns the number of all gates.
-    fn all_gates(&self) -> u64 {
-        let mut all: u64 = 0;
-        for count in &self.gates {
-            all = all.saturating_add(*count);
-        }
-        all
-    }
-
-    /// Returns the number of sinks: gate pins, data pins of flip-flops and OUTPUT lines.
-    fn sinks(&self) -> u64 {
-        let ports = self.cells.saturating_add(self.outputs) as u64;
-        self.pins.saturating_add(ports)
-    }
-
     /// Returns the most tests of one run: 64 times 16,777,216 div classes, and 65,536 at most.
-    pub(crate) fn tests_a_run(&self) -> u32 {
+    pub(crate) fn tests_a_run(&self) -> u32
+        ensures { result ≡ tests_a_run self.now.classes }
+    {
         let blocks = MAX_PIECES / self.classes.max(1);
         blocks.saturating_mul(BLOCK_SIZE).min(MAX_TESTS)
     }
@@ -195,70 +154,25 @@ fn groups_of(tests: u32) -> u32 {
     tests.div_ceil(2 * BLOCK_SIZE)
 }
 
-/// Returns the least number of megabytes that is above a number of bytes.
-fn megabytes(bytes: u64) -> u64 {
-    bytes / 1_000_000 + 1
+/// What one run of a circuit takes.
+#[derive(Clone, Copy, Debug, PartialEq, Eq)]
+pub struct Limits {
+    /// The most tests of one run.
+    pub tests: u32,
+    /// The least number of parts for a run of 65,536 tests.
+    pub parts: u32,
+    /// An estimate of the bytes of a run of 65,536 tests with four workers.
+    pub bytes: u64,
 }
 
-/// Returns the name of a model on the command line.
-fn model_name(model: Model) -> &'static str {
-    match model {
-        Model::StuckAt => "stuck",
-        Model::Transition => "transition",
-        Model::TransitionPairs => "transition-pairs",
-    }
-}
-
-/// Writes a row of a table.
-fn fmt_row<W: fmt::Write>(name: &str, count: u64, f: &mut Formatter<W>) -> fmt::Result {
-    writeln!(f, "{name:<12}{count:>10}")
-}
-
-/// Writes a row for each kind of gate that there is.
-fn fmt_gates<W: fmt::Write>(gates: &[u64], f: &mut Formatter<W>) -> fmt::Result {
-    for (count, (_, name)) in gates.iter().zip(&KINDS) {
-        if *count > 0 {
-            writeln!(f, "  {name:<10}{count:>10}")?;
-        }
-    }
-    Ok(())
-}
-
-impl Counts {
-    /// Writes the number of parts for the most tests, and the memory of a run in these, if the
-    /// tests are too many for one run.
-    fn fmt_parts<W: fmt::Write>(&self, f: &mut Formatter<W>) -> fmt::Result {
-        match self.parts_of(MAX_BLOCKS) {
-            1 => Ok(()),
-            parts => {
-                writeln!(f, "parts       {parts:>10} at least, for {MAX_TESTS} tests")?;
-                let megabytes = megabytes(self.memory_in_windows(MAX_TESTS, USUAL_WORKERS));
-                writeln!(
-                    f,
-                    "  memory    {megabytes:>10} MB, some, for {USUAL_WORKERS} workers"
-                )
-            }
-        }
-    }
-}
-
-impl Display for Counts {
-    fn fmt<W: fmt::Write>(&self, f: &mut Formatter<W>) -> fmt::Result {
-        fmt_row("inputs", self.inputs as u64, f)?;
-        fmt_row("outputs", self.outputs as u64, f)?;
-        fmt_row("flip-flops", self.cells as u64, f)?;
-        fmt_row("gates", self.all_gates(), f)?;
-        fmt_gates(&self.gates, f)?;
-        fmt_row("signals", u64::from(self.signals), f)?;
-        fmt_row("sinks", self.sinks(), f)?;
-        fmt_row("depth", u64::from(self.depth), f)?;
-        let model = model_name(self.model);
-        let faults = self.faults;
-        writeln!(f, "faults      {faults:>10} {model}")?;
-        fmt_row("classes", u64::from(self.classes), f)?;
-        let most = self.tests_a_run();
-        writeln!(f, "tests a run {most:>10} at most")?;
-        self.fmt_parts(f)
+/// Computes what one run of a circuit with these counts takes.
+pub fn limits_of(counts: &Counts) -> Limits
+    ensures { AreLimitsOf counts.now.classes result }
+{
+    Limits {
+        tests: counts.tests_a_run(),
+        parts: counts.parts_of(MAX_BLOCKS),
+        bytes: counts.memory_in_windows(MAX_TESTS, USUAL_WORKERS),
     }
 }
 
@@ -341,22 +255,5 @@ impl Display for Excess {
             "found {pieces} pieces: {classes} classes on {blocks} blocks of 64 tests; "
         )?;
         write!(f, "try --parts auto, or --parts {parts} or more")
-    }
-}
-
-impl Display for TestCounts {
-    fn fmt<W: fmt::Write>(&self, f: &mut Formatter<W>) -> fmt::Result {
-        fmt_row("tests", u64::from(self.tests), f)?;
-        fmt_row("blocks", u64::from(self.blocks), f)?;
-        fmt_row("pieces", self.pieces, f)?;
-        let some = megabytes(self.bytes);
-        writeln!(
-            f,
-            "memory      {some:>10} MB, some, for {USUAL_WORKERS} workers"
-        )?;
-        match megabytes(self.bytes_with_all_words) {
-            all if all > some => writeln!(f, "  --why     {all:>10} MB, some"),
-            _ => Ok(()),
-        }
     }
 }

@@ -1,8 +1,11 @@
 //! Errors of a file with their places, and how they are printed.
 
+ghost use Rattle.std.specs.Prelude.{◌≡◌};
+ghost use Rattle.input_errors.specs.Words.{line_of, words};
+
 use crate::note::Note;
 use crate::tokens::Place;
-use bench_net::BenchFault;
+use bench_net::{BenchFault, Limit};
 use patterns::TestFault;
 use std::alloc::{AllocError, Global};
 use std::fmt::{self, Display, Formatter};
@@ -16,7 +19,9 @@ pub enum InputError {
 
 impl InputError {
     /// Returns the line that it names, from 1.
-    pub(crate) fn line(self) -> Option<u64> {
+    pub fn line(self) -> Option<u64>
+        ensures { result ≡ line_of self }
+    {
         match self {
             InputError::Bench(
                 BenchFault::Syntax(line)
@@ -28,38 +33,51 @@ impl InputError {
             _ => None,
         }
     }
+
+    /// Returns its words, without the file and the line that it names.
+    pub fn words(self) -> &'static str
+        ensures { result.now ≡ words self }
+    {
+        match self {
+            InputError::Bench(fault) => bench_words(fault),
+            InputError::Tests(fault) => test_words(fault),
+        }
+    }
 }
 
 impl Display for InputError {
     /// Writes the words of the error, without the file and the line that it names.
     fn fmt<W: fmt::Write>(&self, f: &mut Formatter<W>) -> fmt::Result {
-        match self {
-            InputError::Bench(fault) => fmt_bench(fault, f),
-            InputError::Tests(fault) => fmt_tests(fault, f),
-        }
+        f.write_str(self.words())
     }
 }
 
-/// Writes the words of a bench file's error.
-fn fmt_bench<W: fmt::Write>(fault: &BenchFault, f: &mut Formatter<W>) -> fmt::Result {
+/// Returns the words of a bench file's error.
+fn bench_words(fault: BenchFault) -> &'static str
+    ensures { result.now ≡ words (InputError.Bench fault) }
+{
     match fault {
-        BenchFault::TooLarge(limit) => write!(f, "more than {limit}"),
-        BenchFault::Syntax(_) => f.write_str("syntax"),
-        BenchFault::Redefined(_) => f.write_str("name defined before"),
-        BenchFault::Undefined(_) => f.write_str("name not defined"),
-        BenchFault::Cycle(_) => f.write_str("cycle"),
-        BenchFault::Empty => f.write_str("no signal"),
-        BenchFault::Memory => f.write_str("out of memory"),
+        BenchFault::TooLarge(Limit::Bytes) => "more than 16777216 bytes",
+        BenchFault::TooLarge(Limit::Signals) => "more than 1000000 signals",
+        BenchFault::TooLarge(Limit::Sinks) => "more than 4000000 sinks",
+        BenchFault::Syntax(_) => "syntax",
+        BenchFault::Redefined(_) => "name defined before",
+        BenchFault::Undefined(_) => "name not defined",
+        BenchFault::Cycle(_) => "cycle",
+        BenchFault::Empty => "no signal",
+        BenchFault::Memory => "out of memory",
     }
 }
 
-/// Writes the words of a test file's error.
-fn fmt_tests<W: fmt::Write>(fault: &TestFault, f: &mut Formatter<W>) -> fmt::Result {
+/// Returns the words of a test file's error.
+fn test_words(fault: TestFault) -> &'static str
+    ensures { result.now ≡ words (InputError.Tests fault) }
+{
     match fault {
-        TestFault::BadByte(_) => f.write_str("not 0 or 1"),
-        TestFault::BadWidth(_) => f.write_str("wrong width"),
-        TestFault::TooMany => f.write_str("more than 65536 rows"),
-        TestFault::Memory => f.write_str("out of memory"),
+        TestFault::BadByte(_) => "not 0 or 1",
+        TestFault::BadWidth(_) => "wrong width",
+        TestFault::TooMany => "more than 65536 rows",
+        TestFault::Memory => "out of memory",
     }
 }
 
