@@ -1,2 +1,4 @@
+mod Eight
 mod JobsOfAnswers
 mod LeastParts
+mod Parts

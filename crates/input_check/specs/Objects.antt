@@ -52,10 +52,14 @@ abbrev pub kind_names : List (List ℕ)
 kind_names = codes "AND" ∷ codes "NAND" ∷ codes "OR" ∷ codes "NOR" ∷ codes "XOR" ∷ codes "XNOR"
     ∷ codes "NOT" ∷ codes "BUFF" ∷ []
 
+-- the numbers of gates of each kind
+abbrev pub kinds_text : List ℕ → List ℕ
+kinds_text gates = flat_map (member_text (codes ",")) (zip kind_names (map Some gates))
+
 -- the number of all gates, and of those of each kind
 abbrev pub gates_text : Counts → List ℕ
-gates_text counts = codes ",\n\"gates\":{\"total\":" ++ (decimal (sum counts.gates)
-    ++ (flat_map (member_text (codes ",")) (zip kind_names (map Some counts.gates)) ++ codes "}"))
+gates_text counts = (codes ",\n\"gates\":{\"total\":" ++ decimal (sum counts.gates))
+    ++ (kinds_text counts.gates ++ codes "}")
 
 abbrev pub signals_text : Counts → List ℕ
 signals_text counts = lines_text (
@@ -66,13 +70,16 @@ signals_text counts = lines_text (
     ∷ (codes "classes", Some counts.classes)
     ∷ [])
 
--- the sizes of a circuit
-abbrev pub circuit_text : Counts → List ℕ
-circuit_text counts = lines_text (
+abbrev pub ports_text : Counts → List ℕ
+ports_text counts = lines_text (
     (codes "inputs", Some counts.inputs)
     ∷ (codes "outputs", Some counts.outputs)
     ∷ (codes "flip_flops", Some counts.cells)
-    ∷ []) ++ (gates_text counts ++ signals_text counts)
+    ∷ [])
+
+-- the sizes of a circuit
+abbrev pub circuit_text : Counts → List ℕ
+circuit_text counts = ports_text counts ++ (gates_text counts ++ signals_text counts)
 
 -- what one run takes
 abbrev pub limits_text : Limits → List ℕ
@@ -100,12 +107,16 @@ abbrev pub warnings_text : List (List ℕ) → List ℕ
 warnings_text warnings = codes ",\n\"warnings\":["
     ++ (drop 1 (flat_map warning_text warnings) ++ codes "]")
 
+-- the members before the sizes
+abbrev pub head_text : Model → List ℕ
+head_text model = codes "{\n\"errors\":[],\n\"more_errors\":0,\n\"model\":\""
+    ++ (model_word model ++ codes "\"")
+
 -- the object of accepted files
 abbrev pub sizes_object : Sizes → List ℕ
-sizes_object sizes = codes "{\n\"errors\":[],\n\"more_errors\":0,\n\"model\":\""
-    ++ (model_word sizes.counts.model ++ (codes "\"" ++ (circuit_text sizes.counts
+sizes_object sizes = head_text sizes.counts.model ++ (circuit_text sizes.counts
     ++ (limits_text sizes.limits ++ (run_text sizes.tests
-    ++ (warnings_text (map string_bytes sizes.warnings.items) ++ codes "\n}\n"))))))
+    ++ (warnings_text (map string_bytes sizes.warnings.items) ++ codes "\n}\n"))))
 
 -- ---- the errors of a file
 
@@ -132,26 +143,29 @@ column_of finding =
     if (length finding.text.now == 0) || nat_lt (length finding.text.now) finding.place.start
     then None else Some (finding.place.start + 1)
 
--- an error of the file at this path, with some hint
-abbrev pub cells_of : List ℕ → Finding → Option (List ℕ) → ErrorCells
-cells_of file finding hint = record {
+-- an error of the file at this path, without a hint
+abbrev pub cells_of : List ℕ → Finding → ErrorCells
+cells_of file finding = record {
   file = file;
   line = line_of finding.fault;
   column = column_of finding;
   message = words finding.fault;
-  hint = hint;
+  hint = None;
 }
 
-abbrev pub IsErrorRow : List ℕ → Finding → ErrorRow → Type 0
-IsErrorRow file finding row = error_of row ≡ cells_of file finding (error_of row).hint
+-- an error without its hint
+abbrev pub without_hint : ErrorCells → ErrorCells
+without_hint e = record e { hint = None }
 
--- the rows are those of the errors, in their order
-abbrev pub AreErrorRows : List ℕ → Findings → List ErrorRow → Type 0
-AreErrorRows file findings rows = map error_of rows
-    ≡ map (λ at. cells_of file at.0 at.1)
-    (zip (findings.first ∷ findings.others.items) (map (λ row. (error_of row).hint) rows))
+-- these are the errors of the file at this path, in their order, each with some hint
+abbrev pub AreErrorsOf : List ℕ → List Finding → List ErrorCells → Type 0
+AreErrorsOf file findings errors = map without_hint errors ≡ map (cells_of file) findings
 
--- the row of tests that are too many for one run
+-- the first errors of a file
+abbrev pub kept : Findings → List Finding
+kept findings = findings.first ∷ findings.others.items
+
+-- tests that are too many for one run
 abbrev pub excess_words : Excess → List ℕ
 excess_words excess = codes "found " ++ (decimal excess.pieces ++ (codes " pieces: "
     ++ (decimal excess.classes ++ (codes " classes on " ++ (decimal excess.blocks
@@ -167,9 +181,6 @@ excess_cells file excess = record {
   hint = Some (excess_words excess);
 }
 
-abbrev pub IsExcessRow : List ℕ → Excess → ErrorRow → Type 0
-IsExcessRow file excess row = error_of row ≡ excess_cells file excess
-
 -- the object of an error after a comma and a line feed
 abbrev pub error_text : ErrorCells → List ℕ
 error_text e = codes ",\n{\"file\":" ++ (quoted e.file ++ (codes ",\"line\":"
@@ -184,10 +195,8 @@ errors_object errors more = codes "{\n\"errors\":[" ++ (drop 1 (flat_map error_t
 
 -- the object of the errors of the file at this path, each with some hint
 abbrev pub IsErrorsObject : List ℕ → Findings → List ℕ → Type 0
-IsErrorsObject file findings bytes = (hints : List (Option (List ℕ)))
-    × (length hints ≡ length (findings.first ∷ findings.others.items))
-    × (bytes ≡ errors_object (map (λ at. cells_of file at.0 at.1)
-    (zip (findings.first ∷ findings.others.items) hints)) findings.more)
+IsErrorsObject file findings bytes = (errors : List ErrorCells)
+    × AreErrorsOf file (kept findings) errors × (bytes ≡ errors_object errors findings.more)
 
 -- the object of a result for the bench file and the test file at these paths
 abbrev pub IsObjectOf : List ℕ → List ℕ → Answer → List ℕ → Type 0

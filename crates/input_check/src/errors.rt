@@ -2,8 +2,9 @@
 
 ghost use Rattle.std.specs.Prelude.{◌≡◌, ◌++◌, IfOk, OnOk, map, option_map, string_bytes};
 ghost use Rattle.std.specs.List.{flat_map};
-ghost use Rattle.input_check.specs.Objects.{AreErrorRows, IsErrorRow, IsExcessRow};
+ghost use Rattle.input_check.specs.Objects.{AreErrorsOf, cells_of, excess_cells, kept};
 ghost use Rattle.input_check.specs.Objects.{column_of, error_of, error_text, errors_object};
+ghost use Rattle.input_check.specs.Objects.{without_hint};
 
 use crate::json::{add_pieces, number_or_null, quoted, quoted_or_null, without_first};
 use crate::summary::Excess;
@@ -35,7 +36,8 @@ pub(crate) fn error_rows<'a>(
     file: &'a str,
     findings: &Findings<'_>,
 ) -> Result<Vec<ErrorRow<'a>>, AllocError>
-    ensures { IfOk result (λ rows. AreErrorRows file.now findings.now rows.items) }
+    ensures { IfOk result (λ rows.
+        AreErrorsOf file.now (kept findings.now) (map error_of rows.items)) }
 {
     let mut rows = Vec::new(alloc);
     rows.push(error_row(alloc, file, &findings.first)?)?;
@@ -51,7 +53,7 @@ fn error_row<'a>(
     file: &'a str,
     finding: &Finding<'_>,
 ) -> Result<ErrorRow<'a>, AllocError>
-    ensures { IfOk result (IsErrorRow file.now finding.now) }
+    ensures { IfOk result (λ row. without_hint (error_of row) ≡ cells_of file.now finding.now) }
 {
     Ok(ErrorRow {
         file,
@@ -87,7 +89,7 @@ pub(crate) fn excess_row<'a>(
     file: &'a str,
     excess: &Excess,
 ) -> Result<ErrorRow<'a>, AllocError>
-    ensures { IfOk result (IsExcessRow file.now excess.now) }
+    ensures { IfOk result (λ row. error_of row ≡ excess_cells file.now excess.now) }
 {
     Ok(ErrorRow {
         file,
@@ -130,10 +132,7 @@ fn add_error(text: &mut Vec<u8>, alloc: Global, row: &ErrorRow<'_>) -> Result<()
 {
     let file = quoted(alloc, row.file)?;
     let message = quoted(alloc, row.message)?;
-    let hint = match &row.hint {
-        Some(hint) => quoted_or_null(alloc, Some(hint.as_str()))?,
-        None => quoted_or_null(alloc, None)?,
-    };
+    let hint = quoted_or_null(alloc, &row.hint)?;
     let mut line = Buffer::new();
     let mut column = Buffer::new();
     let pieces = [

@@ -66,10 +66,8 @@ impl Counts {
     pub(crate) fn all_gates(&self) -> u64
         ensures { result ≡ sum self.now.gates }
     {
-        let mut all: u64 = 0;
-        for count in &self.gates {
-            all += u64::from(*count);
-        }
-        all
+        let [and, nand, or, nor, xor, xnor, not, buff] = self.gates;
+        let inverting = u64::from(nand) + u64::from(nor) + u64::from(xnor) + u64::from(not);
+        u64::from(and) + u64::from(or) + u64::from(xor) + u64::from(buff) + inverting
     }
 }

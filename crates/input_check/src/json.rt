@@ -17,7 +17,7 @@ pub(crate) struct Member<'a> {
 }
 
 /// Returns a member with a number.
-pub(crate) fn member<'a>(name: &'a str, number: u64) -> Member<'a>
+pub(crate) fn numbered<'a>(name: &'a str, number: u64) -> Member<'a>
     ensures name { result.name.now ≡ name.now }
     ensures number { result.number ≡ Some number }
 {
@@ -43,12 +43,12 @@ pub(crate) fn quoted(alloc: Global, text: &str) -> Result<String, AllocError>
 }
 
 /// Returns a text as a JSON string, or `null` if there is none.
-pub(crate) fn quoted_or_null(alloc: Global, text: Option<&str>) -> Result<String, AllocError>
+pub(crate) fn quoted_or_null(alloc: Global, text: &Option<String>) -> Result<String, AllocError>
     ensures { IfOk result (λ string. string_bytes string
-        ≡ string_or_null (option_map (λ text. text.now) text.entry)) }
+        ≡ string_or_null (option_map string_bytes text.now)) }
 {
     match text {
-        Some(text) => quoted(alloc, text),
+        Some(text) => quoted(alloc, text.as_str()),
         None => String::from_str(alloc, "null"),
     }
 }

@@ -1,17 +1,18 @@
 //! The result of a check as a JSON object (RFC 8259).
 
-ghost use Rattle.std.specs.Prelude.{◌≡◌, ◌++◌, IfOk, OnOk, drop, map, string_bytes};
+ghost use Rattle.std.specs.Prelude.{◌≡◌, ◌++◌, IfOk, OnOk, Some, None, map, string_bytes};
 ghost use Rattle.std.specs.List.{flat_map};
-ghost use Rattle.input_check.specs.Objects.{IsObjectOf, circuit_text, gates_text, limits_text};
-ghost use Rattle.input_check.specs.Objects.{run_text, signals_text, sizes_object, warning_text};
+ghost use Rattle.input_check.specs.Objects.{IsObjectOf, circuit_text, gates_text, head_text};
+ghost use Rattle.input_check.specs.Objects.{kinds_text, limits_text, ports_text, run_text};
+ghost use Rattle.input_check.specs.Objects.{signals_text, sizes_object, warning_text};
 ghost use Rattle.input_check.specs.Objects.{warnings_text};
 
 use crate::answer::Answer;
 use crate::errors::{error_rows, errors_object, excess_row};
-use crate::gates::KIND_NAMES;
-use crate::json::{add_members, add_pieces, member, missing, quoted, without_first};
+use crate::json::{add_members, add_pieces, missing, numbered, quoted, without_first};
 use crate::sizes::{Sizes, megabytes, model_word};
 use crate::summary::{Counts, Limits, TestCounts};
+use fault_model::Model;
 use itoa::Buffer;
 use std::alloc::{AllocError, Global};
 
@@ -61,34 +62,46 @@ fn sizes_object(alloc: Global, sizes: &Sizes) -> Result<Vec<u8>, AllocError>
     ensures { IfOk result (λ text. text.items ≡ sizes_object sizes.now) }
 {
     let mut text = Vec::new(alloc);
-    add_pieces(
-        &mut text,
-        &[
-            "{\n\"errors\":[],\n\"more_errors\":0,\n\"model\":\"",
-            model_word(sizes.counts.model),
-            "\"",
-        ],
-    )?;
+    add_head(&mut text, sizes.counts.model)?;
     add_circuit(&mut text, &sizes.counts)?;
     add_limits(&mut text, &sizes.limits)?;
-    add_run(&mut text, sizes.tests)?;
+    add_run(&mut text, &sizes.tests)?;
     add_warnings(&mut text, alloc, &sizes.warnings)?;
     add_pieces(&mut text, &["\n}\n"])?;
     Ok(text)
+}
+
+/// Adds the members before the sizes.
+fn add_head(text: &mut Vec<u8>, model: Model) -> Result<(), AllocError>
+    ensures { OnOk result (text.new.items ≡ text.old.items ++ head_text model) }
+{
+    let pieces = [
+        "{\n\"errors\":[],\n\"more_errors\":0,\n\"model\":\"",
+        model_word(model),
+        "\"",
+    ];
+    add_pieces(text, &pieces)
 }
 
 /// Adds the sizes of a circuit.
 fn add_circuit(text: &mut Vec<u8>, counts: &Counts) -> Result<(), AllocError>
     ensures { OnOk result (text.new.items ≡ text.old.items ++ circuit_text counts.now) }
 {
-    let ports = [
-        member("inputs", counts.inputs as u64),
-        member("outputs", counts.outputs as u64),
-        member("flip_flops", counts.cells as u64),
-    ];
-    add_members(text, NEXT_LINE, &ports)?;
+    add_ports(text, counts)?;
     add_gates(text, counts)?;
     add_signals(text, counts)
+}
+
+/// Adds the numbers of inputs, outputs and flip-flops.
+fn add_ports(text: &mut Vec<u8>, counts: &Counts) -> Result<(), AllocError>
+    ensures { OnOk result (text.new.items ≡ text.old.items ++ ports_text counts.now) }
+{
+    let members = [
+        numbered("inputs", counts.inputs as u64),
+        numbered("outputs", counts.outputs as u64),
+        numbered("flip_flops", counts.cells as u64),
+    ];
+    add_members(text, NEXT_LINE, &members)
 }
 
 /// Adds the numbers of all gates and of those of each kind.
@@ -98,19 +111,26 @@ fn add_gates(text: &mut Vec<u8>, counts: &Counts) -> Result<(), AllocError>
     let mut all = Buffer::new();
     let pieces = [",\n\"gates\":{\"total\":", all.format(counts.all_gates())];
     add_pieces(text, &pieces)?;
-    let [and, nand, or, nor, xor, xnor, not, buff] = counts.gates;
-    let kinds = [
-        member("AND", u64::from(and)),
-        member("NAND", u64::from(nand)),
-        member("OR", u64::from(or)),
-        member("NOR", u64::from(nor)),
-        member("XOR", u64::from(xor)),
-        member("XNOR", u64::from(xnor)),
-        member("NOT", u64::from(not)),
-        member("BUFF", u64::from(buff)),
-    ];
-    add_members(text, ",", &kinds)?;
+    add_kinds(text, &counts.gates)?;
     add_pieces(text, &["}"])
+}
+
+/// Adds the numbers of gates of each kind.
+fn add_kinds(text: &mut Vec<u8>, gates: &[u32; 8]) -> Result<(), AllocError>
+    ensures { OnOk result (text.new.items ≡ text.old.items ++ kinds_text gates.now) }
+{
+    let [and, nand, or, nor, xor, xnor, not, buff] = *gates;
+    let kinds = [
+        numbered("AND", u64::from(and)),
+        numbered("NAND", u64::from(nand)),
+        numbered("OR", u64::from(or)),
+        numbered("NOR", u64::from(nor)),
+        numbered("XOR", u64::from(xor)),
+        numbered("XNOR", u64::from(xnor)),
+        numbered("NOT", u64::from(not)),
+        numbered("BUFF", u64::from(buff)),
+    ];
+    add_members(text, ",", &kinds)
 }
 
 /// Adds the other sizes of a circuit.
@@ -118,11 +138,11 @@ fn add_signals(text: &mut Vec<u8>, counts: &Counts) -> Result<(), AllocError>
     ensures { OnOk result (text.new.items ≡ text.old.items ++ signals_text counts.now) }
 {
     let members = [
-        member("signals", u64::from(counts.signals)),
-        member("sinks", counts.sinks),
-        member("depth", u64::from(counts.depth)),
-        member("faults", u64::from(counts.faults)),
-        member("classes", u64::from(counts.classes)),
+        numbered("signals", u64::from(counts.signals)),
+        numbered("sinks", counts.sinks),
+        numbered("depth", u64::from(counts.depth)),
+        numbered("faults", u64::from(counts.faults)),
+        numbered("classes", u64::from(counts.classes)),
     ];
     add_members(text, NEXT_LINE, &members)
 }
@@ -132,26 +152,33 @@ fn add_limits(text: &mut Vec<u8>, limits: &Limits) -> Result<(), AllocError>
     ensures { OnOk result (text.new.items ≡ text.old.items ++ limits_text limits.now) }
 {
     let members = [
-        member("tests_a_run", u64::from(limits.tests)),
-        member("parts", u64::from(limits.parts)),
-        member("parts_memory_mb", megabytes(limits.bytes)),
+        numbered("tests_a_run", u64::from(limits.tests)),
+        numbered("parts", u64::from(limits.parts)),
+        numbered("parts_memory_mb", megabytes(limits.bytes)),
     ];
     add_members(text, NEXT_LINE, &members)
 }
 
 /// Adds the size of a run of tests. Each member is `null` if there is no test file.
-fn add_run(text: &mut Vec<u8>, tests: Option<TestCounts>) -> Result<(), AllocError>
-    ensures { OnOk result (text.new.items ≡ text.old.items ++ run_text tests) }
+fn add_run(text: &mut Vec<u8>, tests: &Option<TestCounts>) -> Result<(), AllocError>
+    ensures { OnOk result (text.new.items ≡ text.old.items ++ run_text tests.now) }
 {
-    let Some(taken) = tests else {
-        return add_no_run(text);
-    };
+    match tests {
+        Some(taken) => add_taken(text, taken),
+        None => add_no_run(text),
+    }
+}
+
+/// Adds the members of a run of tests.
+fn add_taken(text: &mut Vec<u8>, taken: &TestCounts) -> Result<(), AllocError>
+    ensures { OnOk result (text.new.items ≡ text.old.items ++ run_text (Some taken.now)) }
+{
     let members = [
-        member("tests", u64::from(taken.tests)),
-        member("blocks", u64::from(taken.blocks)),
-        member("pieces", taken.pieces),
-        member("memory_mb", megabytes(taken.bytes)),
-        member("all_words_memory_mb", megabytes(taken.bytes_with_all_words)),
+        numbered("tests", u64::from(taken.tests)),
+        numbered("blocks", u64::from(taken.blocks)),
+        numbered("pieces", taken.pieces),
+        numbered("memory_mb", megabytes(taken.bytes)),
+        numbered("all_words_memory_mb", megabytes(taken.bytes_with_all_words)),
     ];
     add_members(text, NEXT_LINE, &members)
 }

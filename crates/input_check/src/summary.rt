@@ -243,6 +243,11 @@ pub(crate) fn excess_of(counts: &Counts, taken: &TestCounts) -> Option<Excess>
 }
 
 impl Display for Excess {
+    ghost use Rattle.std.specs.Prelude.{Some};
+    ghost use Rattle.input_check.specs.Objects.{excess_words};
+
+    ghost output = { λ excess. Some (excess_words excess) };
+
     fn fmt<W: fmt::Write>(&self, f: &mut Formatter<W>) -> fmt::Result {
         let Excess {
             classes,
