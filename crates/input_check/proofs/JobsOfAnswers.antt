@@ -45,16 +45,21 @@ is_made m c classes tests are fit = (
 answer_of : (m : Model) (bench : List ℕ) (tests : Option (List ℕ)) (c : List Statement)
     (given : Answer) → IsAccepted bench c → IsCircuitAnswer m c tests given
     → IsAnswerTo m bench tests given
-answer_of m bench None c (answer.Accepted table) accepted is = (c, accepted)
+answer_of m bench None c (answer.Accepted sizes) accepted is = (c, accepted, is)
 answer_of m bench None c (answer.BenchRefused findings) accepted is = absurd is
 answer_of m bench None c (answer.TestsRefused findings) accepted is = absurd is
 answer_of m bench None c (answer.TooManyPieces excess) accepted is = absurd is
 answer_of m bench (Some text) c (answer.BenchRefused findings) accepted is = absurd is.2
 answer_of m bench (Some text) c (answer.TestsRefused findings) accepted is =
     (c, is.0, accepted, is.1, is.2)
-answer_of m bench (Some text) c (answer.Accepted table) accepted is = (
+answer_of m bench (Some text) c (answer.Accepted sizes) accepted is = (
+  c,
+  is.0,
+  accepted,
+  is.1,
   is.2.0,
-  (job_of_texts m bench text c is.0 is.2.0 accepted is.1 is.2.1, is.2.2),
+  is.2.1,
+  (job_of_texts m bench text c is.0 is.2.1 accepted is.1 is.2.2, is.2.3),
 )
 answer_of m bench (Some text) c (answer.TooManyPieces excess) accepted is = (
   is.2.0,

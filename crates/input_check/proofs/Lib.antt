@@ -1,4 +1,5 @@
 mod Eight
+mod GatesAmong
 mod JobsOfAnswers
 mod LeastParts
 mod Parts

@@ -1,6 +1,6 @@
 -- The sizes of a circuit and its tests.
 use Rattle.std.specs.Prelude.{◌≡◌, ◌<◌, ◌≤◌, ◌*◌, ◌/◌, ◌==◌, ℕ, max, min, Bool, false}
-use Rattle.std.specs.Prelude.{List, [], filter, length, slice_index}
+use Rattle.std.specs.Prelude.{⊤, List, [], filter, length, slice_index, Option, Some, None}
 use Rattle.std.specs.List.{flat_map}
 use Rattle.std.specs.Int.{div_ceil}
 use Rattle.bench_net.specs.declared.Kind.{Kind}
@@ -15,6 +15,7 @@ use Rattle.fault_model.specs.Fault.{faults}
 use Rattle.patterns.specs.Tests.{TestList, blocks, max_pieces, max_tests}
 use Rattle.block_sim.specs.Parts.{Parts, piece_count}
 use Rattle.region_runs.specs.Refused.{ArePartsWithin, HasLargePart}
+use Rattle.input_check.specs.declared.sizes.Sizes.{Sizes}
 use Rattle.input_check.specs.declared.summary.Counts.{Counts}
 use Rattle.input_check.specs.declared.summary.Excess.{Excess}
 use Rattle.input_check.specs.declared.summary.Limits.{Limits}
@@ -90,6 +91,19 @@ tests_a_run classes = min (64 * (max_pieces / max classes 1)) max_tests
 pub record AreLimitsOf (classes : ℕ) (limits : Limits) : Type 0 where
   pub tests : limits.tests ≡ tests_a_run classes
   pub parts : AreLeastParts classes (blocks max_tests) limits.parts
+
+-- the size of a run of the tests, if there are any
+abbrev pub IsRunOf : ℕ → Option TestList → Option TestCounts → Type 0
+IsRunOf classes None None = ⊤
+IsRunOf classes (Some list) (Some taken) = AreTestCountsOf classes list taken
+IsRunOf classes _ _ = ⊥
+
+-- the sizes are those of the circuit under the model, and of tests for it, if there are any
+pub record AreSizesOf (m : Model) (c : List Statement) (tests : Option TestList) (sizes : Sizes)
+    : Type 0 where
+  pub counts : AreCountsOf m c sizes.counts
+  pub limits : AreLimitsOf sizes.counts.classes sizes.limits
+  pub tests : IsRunOf sizes.counts.classes tests sizes.tests
 
 -- The pieces of a job are past the limit, and this many. A run needs this number of parts, and no
 -- fewer do.
