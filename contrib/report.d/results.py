@@ -75,8 +75,7 @@ class Results:
         self.runs += ["--workers", given.workers] if given.workers else []
         self.inputs = ["--bench", given.bench, "--tests", given.tests, *model]
         self.program = program
-        self.warnings = [line.removeprefix("warning: ") for line in self.lines("check")
-                         if line.startswith("warning: ")]
+        self.warnings = self.read_check()["warnings"]
         self.read_lists([program, "faults", "--bench", given.bench, *model, "--format", "csv"])
         self.read_reasons()
         self.read_counts(given.detections)
@@ -85,6 +84,10 @@ class Results:
     def lines(self, command, *options):
         """The lines of a command on the two files."""
         return call([self.program, command, *self.inputs, *options])
+
+    def read_check(self):
+        """The object of `check`, which ends this program if a file has an error."""
+        return json.loads("\n".join(self.lines("check", "--format", "json")))
 
     def read_lists(self, faults):
         """First tests, classes and lines, from the table of a run and from the list of faults."""
