@@ -1,18 +1,18 @@
 -- The gates of the statements that define a signal are all gates.
 use Rattle.std.proofs.Common.{◌≡◌, ◌∙◌, ◌+◌, ◌<◌, ◌≤◌, ℕ, zero, suc, Bool, true, false, cond, List, []}
-use Rattle.std.proofs.Common.{◌∷◌, ◌++◌, ap, arith, drop, length, map, refl, sym}
+use Rattle.std.proofs.Common.{◌∷◌, ap, arith, drop, length, map, refl, sym}
 use Rattle.std.proofs.Common.{get_or, inl, inr, set}
 use Rattle.std.proofs.Math.Numerals.{add-one}
 use Rattle.std.proofs.lemmas.Bool.Decides.{eqb_tells}
 use Rattle.std.proofs.lemmas.Grind.{get_or-set_at}
 use Rattle.std.proofs.lemmas.List.{get_or-set_other, length-append, length-map}
 use Rattle.std.specs.List.{filter, flat_map}
-use Rattle.std.specs.Prelude.{◌==◌, Option, Some, None, slice_get}
+use Rattle.std.specs.Prelude.{◌==◌, Some, None, slice_get}
 use Rattle.bench_net.specs.declared.Kind.{Kind}
 use Rattle.bench_net.specs.declared.Kind.TheVariants.{And, Nand, Or, Nor, Xor, Xnor, Not, Buff}
 use Rattle.bench_net.specs.Circuit.{sink_count}
 use Rattle.bench_net.specs.Scan.{cells, gate_line, names, outputs, signal}
-use Rattle.bench_net.specs.Statement.{Name, Statement, Input, Output, Gate, Dff, defines}
+use Rattle.bench_net.specs.Statement.{Statement, Input, Output, Gate, Dff, defines}
 use Rattle.input_check.specs.Counts.{gate_args, gate_count, is_gate_of, kind_place, pin_count}
 
 -- as many statements define a signal as there are names

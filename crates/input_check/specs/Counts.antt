@@ -99,11 +99,11 @@ IsRunOf classes (Some list) (Some taken) = AreTestCountsOf classes list taken
 IsRunOf classes _ _ = ⊥
 
 -- the sizes are those of the circuit under the model, and of tests for it, if there are any
-pub record AreSizesOf (m : Model) (c : List Statement) (tests : Option TestList) (sizes : Sizes)
+pub record AreSizesOf (m : Model) (c : List Statement) (list : Option TestList) (sizes : Sizes)
     : Type 0 where
   pub counts : AreCountsOf m c sizes.counts
   pub limits : AreLimitsOf sizes.counts.classes sizes.limits
-  pub tests : IsRunOf sizes.counts.classes tests sizes.tests
+  pub tests : IsRunOf sizes.counts.classes list sizes.tests
 
 -- The pieces of a job are past the limit, and this many. A run needs this number of parts, and no
 -- fewer do.

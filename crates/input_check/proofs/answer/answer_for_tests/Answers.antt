@@ -31,8 +31,8 @@ returns-in-Some c =
       },
     )
 
-pub returns-in_ok-with_warnings-in-None : goal.returns-in_ok-with_warnings-in-None
-returns-in_ok-with_warnings-in-None c =
+pub returns-in_ok-warnings_of-in-None : goal.returns-in_ok-warnings_of-in-None
+returns-in_ok-warnings_of-in-None c =
     let m = c.args.model in
     let circuit = c.args.circuit.now in
     let tests = c.args.tests.now in
@@ -42,6 +42,11 @@ returns-in_ok-with_warnings-in-None c =
     let many : c.count_tests-taken.result.pieces ≡ piece_count job = taken.pieces
     ∙ (ap (λ k. k * c.count_tests-taken.result.blocks) classes.2
     ∙ ap (λ k. length classes.0.representative * k) taken.blocks) in (
+      record {
+        counts = c.in_ok-counts.ensures;
+        limits = c.limits_of.ensures;
+        tests = taken;
+      },
       job,
       is_made m circuit classes.0 tests classes.1 c.requires,
       subst (λ k. k ≤ max_pieces) many c.in-None.ensures.none,

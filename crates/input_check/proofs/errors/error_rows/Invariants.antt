@@ -1,4 +1,4 @@
-use Rattle.std.proofs.Common.{◌≡◌, ◌∷◌, map, take}
+use Rattle.std.proofs.Common.{◌∷◌, map, take}
 use Rattle.input_check.specs.Objects.{AreErrorsOf, error_of}
 use Rattle.input_check.proofs.errors.error_rows.Given as goal
 

@@ -1,4 +1,4 @@
-use Rattle.std.proofs.Common.{◌≡◌, ◌+◌, ℕ, get_or, length}
+use Rattle.std.proofs.Common.{◌≡◌, ◌+◌, get_or, length}
 use Rattle.std.specs.List.{filter}
 use Rattle.bench_net.specs.declared.Kind.{Kind}
 use Rattle.bench_net.specs.Statement.{defines}

@@ -1,6 +1,4 @@
-use Rattle.std.proofs.Common.{◌++◌, arith, length, subst}
-use Rattle.std.specs.Prelude.{OnOk}
-use Rattle.input_check.specs.Objects.{kinds_text}
+use Rattle.std.proofs.Common.{arith}
 use Rattle.input_check.proofs.Eight.{eight}
 use Rattle.input_check.proofs.object.add_kinds.Goals as goal
 
