@@ -11,7 +11,7 @@ mod bench;
 mod errors;
 mod first;
 mod gates;
-mod json;
+mod json_text;
 mod object;
 mod sizes;
 mod summary;

@@ -9,7 +9,7 @@ ghost use Rattle.input_check.specs.Objects.{warnings_text};
 
 use crate::answer::Answer;
 use crate::errors::{error_rows, errors_object, excess_row};
-use crate::json::{add_members, add_pieces, missing, numbered, quoted, without_first};
+use crate::json_text::{add_members, add_pieces, missing, numbered, quoted, without_first};
 use crate::sizes::{Sizes, megabytes, model_word};
 use crate::summary::{Counts, Limits, TestCounts};
 use fault_model::Model;
@@ -23,12 +23,12 @@ const NEXT_LINE: &str = ",\n";
 ///
 /// # Examples
 ///
-/// An error in line 3 of `a.bench` gives
+/// If line 5 of `a.bench` is `e = NOT(e)`, the only error, the object is
 ///
 /// ```text
 /// {
 /// "errors":[
-/// {"file":"a.bench","line":3,"column":6,"message":"syntax","hint":"unknown gate INV; did you mean NOT?"}],
+/// {"file":"a.bench","line":5,"column":1,"message":"cycle","hint":"e -> e"}],
 /// "more_errors":0
 /// }
 /// ```

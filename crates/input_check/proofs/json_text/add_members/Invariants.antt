@@ -1,7 +1,7 @@
 use Rattle.std.proofs.Common.{◌≡◌, ◌++◌, take}
 use Rattle.std.specs.List.{flat_map}
 use Rattle.input_check.specs.Objects.{member_text}
-use Rattle.input_check.proofs.json.add_members.Given as goal
+use Rattle.input_check.proofs.json_text.add_members.Given as goal
 
 -- the members so far were added
 abbrev pub invariant-loop-member : goal.invariant-loop-member

@@ -1,6 +1,6 @@
 use Rattle.std.proofs.Common.{◌≡◌, ◌++◌, take}
 use Rattle.std.specs.List.{flat_map}
-use Rattle.input_check.proofs.json.add_pieces.Given as goal
+use Rattle.input_check.proofs.json_text.add_pieces.Given as goal
 
 -- the pieces so far were added
 abbrev pub invariant-loop-piece : goal.invariant-loop-piece
