@@ -34,11 +34,7 @@ pub(crate) fn do_check<'a, S: Source, W: Out, E: Out>(
     };
     let text = tests.as_ref().map(|tests| tests.as_slice());
     if let Some(text) = text {
-        let checked = check_names(alloc, matches, &bench, text);
-        if let (true, Err(CommandError::Columns(path, mismatch))) = (json, &checked) {
-            write_mismatch(alloc, path, mismatch, out)?;
-        }
-        checked?;
+        check_columns(alloc, matches, &bench, text, json, out)?;
     }
     let answer = match check_texts(alloc, model, &bench, text) {
         Ok(answer) => answer,
@@ -53,6 +49,25 @@ pub(crate) fn do_check<'a, S: Source, W: Out, E: Out>(
 /// Returns whether the command line requests JSON.
 fn is_json(matches: &ArgMatches<'_>) -> bool {
     matches.get_str("format") == Some("json")
+}
+
+/// Checks the names of the columns of a test file, and writes the object of an error if JSON is
+/// requested.
+fn check_columns<'a, W: Out>(
+    alloc: Global,
+    matches: &ArgMatches<'a>,
+    bench: &[u8],
+    tests: &[u8],
+    json: bool,
+    out: &mut W,
+) -> Result<(), CommandError<'a>> {
+    match check_names(alloc, matches, bench, tests) {
+        Err(CommandError::Columns(path, mismatch)) if json => {
+            write_mismatch(alloc, path, &mismatch, out)?;
+            Err(CommandError::Columns(path, mismatch))
+        }
+        checked => checked,
+    }
 }
 
 /// Writes an object.
@@ -84,21 +99,31 @@ fn write_object<'a, W: Out>(
 /// Writes the object of a test file that names its columns otherwise than the circuit.
 fn write_mismatch<'a, W: Out>(
     alloc: Global,
-    path: &'a str,
+    path: &str,
     mismatch: &Mismatch,
     out: &mut W,
 ) -> Result<(), CommandError<'a>> {
     let Ok(message) = format!(in alloc; "{mismatch}") else {
         return Err(NO_MEMORY);
     };
+    put_object(mismatch_object(alloc, path, mismatch.line, &message), out)
+}
+
+/// Returns the object of an error in a line of the file at a path, with these words.
+fn mismatch_object<'a>(
+    alloc: Global,
+    path: &'a str,
+    line: u64,
+    message: &'a str,
+) -> Result<Vec<u8>, AllocError> {
     let row = ErrorRow {
         file: path,
-        line: Some(mismatch.line),
+        line: Some(line),
         column: None,
-        message: message.as_str(),
+        message,
         hint: None,
     };
-    put_object(errors_object(alloc, &[row], 0), out)
+    errors_object(alloc, &[row], 0)
 }
 
 /// Prints the result: the sizes, unless their object is written, or the errors.
