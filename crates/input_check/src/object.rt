@@ -104,7 +104,7 @@ fn add_ports(text: &mut Vec<u8>, counts: &Counts) -> Result<(), AllocError>
     add_members(text, NEXT_LINE, &members)
 }
 
-/// Adds the numbers of all gates and of those of each kind.
+/// Adds the number of gates, and the number of gates of each kind.
 fn add_gates(text: &mut Vec<u8>, counts: &Counts) -> Result<(), AllocError>
     ensures { OnOk result (text.new.items ≡ text.old.items ++ gates_text counts.now) }
 {
@@ -147,7 +147,7 @@ fn add_signals(text: &mut Vec<u8>, counts: &Counts) -> Result<(), AllocError>
     add_members(text, NEXT_LINE, &members)
 }
 
-/// Adds what one run takes.
+/// Adds the limits of one run.
 fn add_limits(text: &mut Vec<u8>, limits: &Limits) -> Result<(), AllocError>
     ensures { OnOk result (text.new.items ≡ text.old.items ++ limits_text limits.now) }
 {

@@ -85,8 +85,8 @@ fn fmt_counts<W: fmt::Write>(counts: &Counts, f: &mut Formatter<W>) -> fmt::Resu
     fmt_row("classes", u64::from(counts.classes), f)
 }
 
-/// Writes the most tests of one run. If they are fewer than the most tests of a file, it also
-/// writes the number of parts for these, and the memory of a run in these.
+/// Writes the most tests of one run. If a test file may have more, it also writes the number of
+/// parts for 65,536 tests, and the memory of a run in these parts.
 fn fmt_limits<W: fmt::Write>(limits: &Limits, f: &mut Formatter<W>) -> fmt::Result {
     let most = limits.tests;
     writeln!(f, "tests a run {most:>10} at most")?;
