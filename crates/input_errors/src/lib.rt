@@ -2,7 +2,8 @@
 //! suggestion. Also warnings: oddities that are no errors.
 //!
 //! `bench_net` and `patterns` decide whether a file is accepted, and which error is its first. This
-//! is a second look at the lines, which decides nothing and only promises that it is safe.
+//! is a second look at the lines, which decides nothing and only promises that it is safe. Of an
+//! error, contracts say the line that it names and its words.
 #![tactic(auto)]
 
 mod bench;
