@@ -22,7 +22,8 @@ use Rattle.job_loading.specs.Splits.{IsSplitFault, IsSplitOf}
 use Rattle.analysis_reports.specs.Detected.{detection_report}
 use Rattle.region_runs.specs.Refused.{IsOpenFault}
 use Rattle.report.specs.EndToEnd.{IsJobReportFault, IsReportFault, IsTextFault}
-use Rattle.analysis_reports.specs.Histogram.{IsCountedFault, IsHistogramReportOf}
+use Rattle.analysis_reports.specs.Detected.{IsCountedFault}
+use Rattle.analysis_reports.specs.Histogram.{IsHistogramReportOf}
 use Rattle.analysis_reports.specs.Histogram.{IsHistogramReportOfJob}
 use Rattle.analysis_reports.specs.Histogram.{faults_with, histogram, histogram_line, histogram_text}
 use Rattle.analysis_reports.specs.Histogram.{one_with}

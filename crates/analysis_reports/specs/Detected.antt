@@ -9,6 +9,11 @@ use Rattle.fault_model.specs.Fault.{Fault, faults}
 use Rattle.patterns.specs.Tests.{TestList, HasTests}
 use Rattle.block_sim.specs.Parts.{Parts}
 use Rattle.n_detect.specs.Detections.{AreCounts}
+use Rattle.job_loading.specs.declared.fault.SimFault.{SimFault}
+use Rattle.job_loading.specs.declared.split.Split.{Split}
+use Rattle.job_loading.specs.declared.split.Split.TheVariants as split
+use Rattle.region_runs.specs.Refused.{IsOpenFault}
+use Rattle.report.specs.EndToEnd.{IsReportFault, IsTextFault}
 use Rattle.report.specs.Report.{coverage_line, fault_text}
 
 -- a line: `FAULT COUNT`
@@ -39,3 +44,12 @@ abbrev pub IsDetectionReportOfJob : Parts → ℕ → Bool → List ℕ → Type
 IsDetectionReportOfJob job most list bytes = (counts : List ℕ)
     × AreCounts job.list.model job.circuit job.tests.tests most counts
     × (bytes ≡ detection_report job.list.model job.circuit most counts list)
+
+-- The condition of each error: as for a run, if it is run whole; and else never the number of
+-- pieces.
+abbrev pub IsCountedFault : Model → List ℕ → List ℕ → Split → ℕ → SimFault → Type 0
+IsCountedFault m bench text split.Whole workers f = IsReportFault m bench text workers f
+IsCountedFault m bench text (split.Parts count) workers f =
+    IsTextFault m bench text workers (λ job. IsOpenFault workers) f
+IsCountedFault m bench text split.Fitting workers f =
+    IsTextFault m bench text workers (λ job. IsOpenFault workers) f

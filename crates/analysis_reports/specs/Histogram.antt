@@ -9,12 +9,7 @@ use Rattle.patterns.specs.Least.{below}
 use Rattle.patterns.specs.Tests.{TestList, HasTests}
 use Rattle.block_sim.specs.Parts.{Parts}
 use Rattle.n_detect.specs.Detections.{AreCounts}
-use Rattle.job_loading.specs.declared.fault.SimFault.{SimFault}
-use Rattle.job_loading.specs.declared.split.Split.{Split}
-use Rattle.job_loading.specs.declared.split.Split.TheVariants as split
 use Rattle.analysis_reports.specs.Detected.{detection_report}
-use Rattle.region_runs.specs.Refused.{IsOpenFault}
-use Rattle.report.specs.EndToEnd.{IsReportFault, IsTextFault}
 
 -- 1 if this count is n, else 0; and the number of faults with the count n
 abbrev pub one_with : ℕ → ℕ → ℕ
@@ -48,12 +43,3 @@ IsHistogramReportOfJob job most list bytes = (counts : List ℕ)
     × AreCounts job.list.model job.circuit job.tests.tests most counts
     × (bytes ≡ detection_report job.list.model job.circuit most counts list
     ++ histogram_text (histogram most counts))
-
--- The condition of each error: as for a run, if it is run whole; and else never the number of
--- pieces.
-abbrev pub IsCountedFault : Model → List ℕ → List ℕ → Split → ℕ → SimFault → Type 0
-IsCountedFault m bench text split.Whole workers f = IsReportFault m bench text workers f
-IsCountedFault m bench text (split.Parts count) workers f =
-    IsTextFault m bench text workers (λ job. IsOpenFault workers) f
-IsCountedFault m bench text split.Fitting workers f =
-    IsTextFault m bench text workers (λ job. IsOpenFault workers) f

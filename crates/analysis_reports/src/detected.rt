@@ -11,25 +11,32 @@ ghost use Rattle.analysis_reports.specs.Detected.{IsDetectionReportOf};
 ghost use Rattle.region_runs.specs.Refused.{IsOpenFault};
 ghost use Rattle.analysis_reports.specs.Detected.{IsDetectionReportOfJob};
 ghost use Rattle.analysis_reports.specs.Detected.{count_line, detection_report, reached_count};
-ghost use Rattle.report.specs.EndToEnd.{IsJobReportFault, IsReportFault, IsTextFault, WritesOneOf};
+ghost use Rattle.job_loading.specs.Splits.{HasSomePart};
+ghost use Rattle.analysis_reports.specs.Detected.{IsCountedFault};
+ghost use Rattle.report.specs.EndToEnd.{IsJobReportFault, WritesOneOf};
 
 use bench_net::Circuit;
 use block_sim::Job;
 use byte_output::{Out, OutFailed};
 use fault_model::{Faults, Model};
 use itoa::Buffer;
-use job_loading::{ReportFault, SimFault, job_of_any_size_in_threads, job_of_in_threads};
+use job_loading::{ReportFault, SimFault, Split, Watch, split_run_of};
 use n_detect::detections;
+use region_runs::RunJob;
 use report::{put_coverage, put_fault_line};
 use std::alloc::Global;
 use std::sync::Wait;
 use std::thread::Threads;
+use workers::RunFault;
 
 /// Reads a circuit and tests for it, and writes how many tests detect each fault of a model. With
 /// `list` it writes a line for each fault. Then it writes how many faults at least `most` tests
 /// detect. The count of a fault ends at `most`.
 ///
-/// It fails as [`report::simulate_text_in`] does, in the same order.
+/// The gate observes the run, and lets each piece pass. If the tests have more blocks than a window
+/// ([`region_runs::window_blocks`]), it runs window by window. It fails as
+/// [`report::simulate_text_in`] does with [`Split::Whole`], in the same order; else there is no
+/// limit on pieces.
 ///
 /// # Examples
 ///
@@ -44,70 +51,78 @@ use std::thread::Threads;
 /// stem z sa1 3
 /// 1 of 6 (16.66%)
 /// ```
-pub fn detections_text_in<R: Threads + Wait, W: Out>(
+pub fn detections_text_watched<R: Threads + Wait, G: Watch + Sync, W: Out>(
     rt: &R,
     alloc: Global,
     model: Model,
     bench: &[u8],
     tests: &[u8],
+    split: Split,
     most: u32,
     workers: u32,
     list: bool,
+    gate: &G,
     out: &mut W,
 ) -> Result<(), SimFault>
+    requires split { HasSomePart split }
+    requires passing { G.passing gate.now }
     ensures written { WritesOneOf (IsDetectionReportOf model bench.now tests.now most list) result
         (W.seen out.old) (W.seen out.new) }
-    ensures refused { IfErr result (IsReportFault model bench.now tests.now workers) }
+    ensures refused { IfErr result (IsCountedFault model bench.now tests.now split workers) }
     ensures workers { OnOk result ((0 < workers) × (workers ≤ 64)) }
 {
-    let job = job_of_in_threads(rt, alloc, model, bench, tests, workers)?;
-    report_counts(rt, alloc, &job, most, workers, list, out)
+    let (made, parts) = split_run_of(rt, alloc, model, bench, tests, split, true, workers)?;
+    let mut run = made;
+    report_counts(rt, alloc, &mut run, most, parts, workers, list, gate, out)
 }
 
-/// Reads a circuit and tests for it, and writes the report that [`detections_text_in`] writes, with
-/// the same bytes, for any number of pieces. It keeps nothing for a piece, so there is no limit.
-///
-/// It fails as [`detections_text_in`] does, except for the number of pieces.
-pub fn detections_text_of_any_size<R: Threads + Wait, W: Out>(
+/// Counts for a run, and writes the report.
+fn report_counts<R: Threads + Wait, G: Watch + Sync, W: Out>(
     rt: &R,
     alloc: Global,
-    model: Model,
-    bench: &[u8],
-    tests: &[u8],
+    run: &mut RunJob,
     most: u32,
+    parts: u32,
     workers: u32,
     list: bool,
+    gate: &G,
     out: &mut W,
 ) -> Result<(), SimFault>
-    ensures written { WritesOneOf (IsDetectionReportOf model bench.now tests.now most list) result
-        (W.seen out.old) (W.seen out.new) }
-    ensures refused { IfErr result (IsTextFault model bench.now tests.now workers
-        (λ job. IsOpenFault workers)) }
-    ensures workers { OnOk result ((0 < workers) × (workers ≤ 64)) }
-{
-    let job = job_of_any_size_in_threads(rt, alloc, model, bench, tests, workers)?;
-    report_counts(rt, alloc, &job, most, workers, list, out)
-}
-
-/// Counts for a job, and writes the report.
-fn report_counts<R: Threads + Wait, W: Out>(
-    rt: &R,
-    alloc: Global,
-    job: &Job,
-    most: u32,
-    workers: u32,
-    list: bool,
-    out: &mut W,
-) -> Result<(), SimFault>
-    requires job { BelongTogether job.now }
-    ensures written { WritesOneOf (IsDetectionReportOfJob job.now most list) result
+    requires job { BelongTogether run.old.parts }
+    requires parts { 0 < parts }
+    requires passing { G.passing gate.now }
+    ensures written { WritesOneOf (IsDetectionReportOfJob run.old.parts most list) result
         (W.seen out.old) (W.seen out.new) }
     ensures refused { IfErr result (IsJobReportFault workers (IsOpenFault workers)) }
     ensures workers { OnOk result ((0 < workers) × (workers ≤ 64)) }
 {
-    let counts = detections(rt, alloc, job, most, workers)?;
-    write_detections(job, counts.as_slice(), most, list, out)?;
+    let counts = detections_watched(rt, alloc, run, most, parts, workers, gate)?;
+    write_detections(run.job(), counts.as_slice(), most, list, out)?;
     Ok(())
+}
+
+/// Counts as [`detections`] does, under a gate that observes the run.
+pub fn detections_watched<R: Threads + Wait, G: Watch + Sync>(
+    rt: &R,
+    alloc: Global,
+    run: &mut RunJob,
+    most: u32,
+    parts: u32,
+    workers: u32,
+    gate: &G,
+) -> Result<Vec<u32>, RunFault>
+    requires parts { 0 < parts }
+    requires passing { G.passing gate.now }
+    ensures counts { IfOk result (λ counts. AreCounts run.old.parts.list.model
+        run.old.parts.circuit run.old.parts.tests.tests most counts.items) }
+    ensures workers { OnOk result ((0 < workers) × (workers ≤ 64)) }
+    ensures refused { IfErr result (IsOpenFault workers) }
+    ensures same { run.new ≡ run.old }
+{
+    gate.starts(run.job().classes().count(), run.tests().blocks());
+    let counts = detections(rt, alloc, run, most, parts, workers, gate)?;
+    gate.ends();
+    Ok(counts)
 }
 
 /// Writes the report of how many tests detect each fault of a job. With `listed` it writes a line

@@ -8,29 +8,29 @@ ghost use Rattle.byte_output.specs.Output.{Writes};
 ghost use Rattle.analysis_reports.specs.Detected.{detection_report};
 ghost use Rattle.region_runs.specs.Refused.{IsOpenFault};
 ghost use Rattle.report.specs.EndToEnd.{IsJobReportFault, WritesOneOf};
-ghost use Rattle.analysis_reports.specs.Histogram.{IsCountedFault, IsHistogramReportOf};
+ghost use Rattle.analysis_reports.specs.Detected.{IsCountedFault};
+ghost use Rattle.analysis_reports.specs.Histogram.{IsHistogramReportOf};
 ghost use Rattle.analysis_reports.specs.Histogram.{IsHistogramReportOfJob, histogram};
 ghost use Rattle.analysis_reports.specs.Histogram.{histogram_line, histogram_text, one_with};
 
-use crate::detected::write_detections;
+use crate::detected::{detections_watched, write_detections};
 use block_sim::Job;
 use byte_output::{Out, OutFailed, put_pieces};
 use fault_model::Model;
 use itoa::Buffer;
-use job_loading::{ReportFault, SimFault, Split, split_job_of};
-use n_detect::detections;
+use job_loading::{ReportFault, SimFault, Split, Watch, split_run_of};
+use region_runs::RunJob;
 use std::alloc::{AllocError, Global};
 use std::sync::Wait;
 use std::thread::Threads;
 use workers::RunFault;
 
 /// Reads a circuit and tests for it, and writes how many tests detect each fault of a model, as
-/// [`crate::detections_text_in`] does, and then the histogram. The histogram has a line `COUNT
+/// [`crate::detections_text_watched`] does, and then the histogram. The histogram has a line `COUNT
 /// FAULTS` for each count from 0 to `most`, with the number of faults that this many tests detect.
 /// The last line counts the faults that at least `most` tests detect.
 ///
-/// It fails as [`crate::detections_text_in`] does with [`Split::Whole`], and else as
-/// [`crate::detections_text_of_any_size`] does.
+/// The gate and the errors are those of that function.
 ///
 /// # Examples
 ///
@@ -44,7 +44,7 @@ use workers::RunFault;
 /// 2 0
 /// 3 1
 /// ```
-pub fn histogram_text_in<R: Threads + Wait, W: Out>(
+pub fn histogram_text_watched<R: Threads + Wait, G: Watch + Sync, W: Out>(
     rt: &R,
     alloc: Global,
     model: Model,
@@ -54,35 +54,43 @@ pub fn histogram_text_in<R: Threads + Wait, W: Out>(
     most: u32,
     workers: u32,
     list: bool,
+    gate: &G,
     out: &mut W,
 ) -> Result<(), SimFault>
-    requires { HasSomePart split }
+    requires split { HasSomePart split }
+    requires passing { G.passing gate.now }
     ensures written { WritesOneOf (IsHistogramReportOf model bench.now tests.now most list) result
         (W.seen out.old) (W.seen out.new) }
     ensures refused { IfErr result (IsCountedFault model bench.now tests.now split workers) }
     ensures workers { OnOk result ((0 < workers) × (workers ≤ 64)) }
 {
-    let (job, _parts) = split_job_of(rt, alloc, model, bench, tests, split, workers)?;
-    report_histogram(rt, alloc, &job, most, workers, list, out)
+    let (made, parts) = split_run_of(rt, alloc, model, bench, tests, split, true, workers)?;
+    let mut run = made;
+    report_histogram(rt, alloc, &mut run, most, parts, workers, list, gate, out)
 }
 
-/// Counts for a job, and writes the report and the histogram.
-fn report_histogram<R: Threads + Wait, W: Out>(
+/// Counts for a run, and writes the report and the histogram.
+fn report_histogram<R: Threads + Wait, G: Watch + Sync, W: Out>(
     rt: &R,
     alloc: Global,
-    job: &Job,
+    run: &mut RunJob,
     most: u32,
+    parts: u32,
     workers: u32,
     list: bool,
+    gate: &G,
     out: &mut W,
 ) -> Result<(), SimFault>
-    requires job { BelongTogether job.now }
-    ensures written { WritesOneOf (IsHistogramReportOfJob job.now most list) result
+    requires job { BelongTogether run.old.parts }
+    requires parts { 0 < parts }
+    requires passing { G.passing gate.now }
+    ensures written { WritesOneOf (IsHistogramReportOfJob run.old.parts most list) result
         (W.seen out.old) (W.seen out.new) }
     ensures refused { IfErr result (IsJobReportFault workers (IsOpenFault workers)) }
     ensures workers { OnOk result ((0 < workers) × (workers ≤ 64)) }
 {
-    let counts = detections(rt, alloc, job, most, workers)?;
+    let counts = detections_watched(rt, alloc, run, most, parts, workers, gate)?;
+    let job = run.job();
     let _faults = job.faults().count();
     let Ok(faults) = histogram_of(alloc, &counts, most) else {
         return Err(SimFault::Run(RunFault::Memory));

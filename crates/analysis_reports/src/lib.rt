@@ -1,6 +1,6 @@
 //! Further reports, from the bytes of a bench file and a test file to bytes.
 //!
-//! [`detections_text_in`] counts the tests that detect each fault, and [`histogram_text_in`] the
+//! [`detections_text_watched`] counts the tests that detect each fault, and [`histogram_text_watched`] the
 //! faults of each count. [`reasons_text_watched`] writes why no test detects a fault.
 //! [`compact_text_in`] writes fewer tests that detect the same faults, [`responses_text_in`] the
 //! responses of the circuit without faults, and [`pairs_text_in`] the pairs of launch-on-capture
@@ -19,8 +19,8 @@ mod whole;
 
 pub use compacted::{KeptCount, KeptForm, KeptLayout, compact_text_in, compact_text_with};
 pub use compaction::TestOrder;
-pub use detected::{detections_text_in, detections_text_of_any_size, write_detections};
-pub use histogram::{histogram_of, histogram_text_in};
+pub use detected::{detections_text_watched, detections_watched, write_detections};
+pub use histogram::{histogram_of, histogram_text_watched};
 pub use launched::pairs_text_in;
 pub use reasoned::{
     reason_counts, reasons_text_watched, words_of, write_reasons, write_reasons_in_threads,

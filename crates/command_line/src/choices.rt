@@ -52,8 +52,6 @@ pub(crate) enum Choice {
     /// The format of a run's list.
     RunFormat,
     Progress,
-    /// The same for a run that may count detections.
-    RunProgress,
     /// The format of the list of faults.
     Format,
     /// The format of a curve.
@@ -312,11 +310,6 @@ fn progress_flag<'a>(alloc: Global) -> Arg<'a> {
         .help("Draw the progress of the run on standard error")
 }
 
-/// Returns the flag `--progress` of `run`.
-fn run_progress_flag<'a>(alloc: Global) -> Result<Arg<'a>, AllocError> {
-    progress_flag(alloc).conflicts_with("detections")
-}
-
 /// Returns the files `FILE..` of `merge`.
 fn part_texts<'a>(alloc: Global) -> Arg<'a> {
     Arg::new(alloc, "part texts")
@@ -376,7 +369,6 @@ pub(crate) fn option<'a>(
         Choice::RunFailUnder => run_fail_under_option(alloc)?,
         Choice::Summary => summary_option(alloc)?,
         Choice::Progress => progress_flag(alloc),
-        Choice::RunProgress => run_progress_flag(alloc)?,
         Choice::PartTexts => part_texts(alloc),
     };
     Ok(option)

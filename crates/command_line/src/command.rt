@@ -289,7 +289,7 @@ fn do_run_or_detections<'a, R: Threads + Wait, S: Source, W: Out, E: Out + Send>
     err: &mut E,
 ) -> Result<(), CommandError<'a>> {
     match matches.get_one::<u32>("detections") {
-        Some(most) => do_detections(rt, alloc, matches, most, files, out),
+        Some(most) => do_detections(rt, alloc, matches, most, files, out, err),
         None => do_run(rt, alloc, matches, files, out, err),
     }
 }

@@ -120,7 +120,7 @@ static RUN_CHOICES: [Choice; 16] = [
     Choice::RunFormat,
     Choice::RunFailUnder,
     Choice::Summary,
-    Choice::RunProgress,
+    Choice::Progress,
 ];
 
 /// The options of `curve`.

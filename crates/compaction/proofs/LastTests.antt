@@ -136,7 +136,7 @@ last_is job class hits h (Some s) is = (
 pub lasts_at : (job : Parts) (classes positions : List ℕ) (lasts : List (Option ℕ))
     → BelongTogether job → ArePositions classes positions
     → length positions ≡ length job.classes.representative
-    → AreKept (task_of job (λ _. true) IsLastHit) classes lasts → AreLastAt job positions lasts
+    → AreKept (task_of job 0 (λ _. true) IsLastHit) classes lasts → AreLastAt job positions lasts
 lasts_at job classes positions lasts b placed long are = record {
   count = long;
   within = λ class lt.

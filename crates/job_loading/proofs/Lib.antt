@@ -1,5 +1,3 @@
 mod JobsOfTexts
 mod FewestParts
-mod GivenTests
-mod PartsApart
 pub mod Public

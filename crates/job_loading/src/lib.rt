@@ -14,7 +14,7 @@ mod watch;
 
 pub use fault::{ReportFault, SimFault};
 pub use pieces::{LONG_TESTS, piece_bytes};
-pub use run_job::RunJob;
+pub use region_runs::RunJob;
 pub use split::{
     Split, least_parts, split_job_of, split_run_for, split_run_in_pieces, split_run_of,
 };

@@ -3,7 +3,7 @@
 ghost use Rattle.std.specs.Prelude.{◌≡◌, ◌<◌, ◌≤◌, IfErr, IfOk, OnOk, true};
 ghost use Rattle.workers.specs.Verdict.{AreAfterHits, AreFirsts};
 ghost use Rattle.region_runs.specs.Refused.{ArePartsWithin, IsPartsFault};
-ghost use Rattle.job_loading.specs.RunJobs.{AreByLedgers};
+ghost use Rattle.region_runs.specs.RunJobs.{AreByLedgers};
 
 use crate::run_job::RunJob;
 use block_sim::Job;

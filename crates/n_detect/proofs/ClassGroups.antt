@@ -79,7 +79,7 @@ pub tests_of_classes : {Z : Type 0} (job : Parts) → BelongTogether job → (co
     → count ≡ groups (length job.tests.tests) → (classes positions : List ℕ)
     (rows : List (Vec ℕ Z)) → ArePositions classes positions
     → length positions ≡ length job.classes.representative
-    → AreKept (task_of job (λ _. true)
+    → AreKept (task_of job 0 (λ _. true)
     (λ hits low high (kept : Vec ℕ Z). AreGroupsIn count hits low high kept.items)) classes rows
     → AreClassTests job positions rows
 tests_of_classes {Z} job b count is classes positions rows placed long are = record {

@@ -77,7 +77,7 @@ class_hits job b class lt =
 -- what a run for counts keeps of all classes is the count of each at its position
 pub counts_at : (job : Parts) (most : ℕ) (classes positions kept : List ℕ) → BelongTogether job
     → ArePositions classes positions → length positions ≡ length job.classes.representative
-    → AreKept (task_of job (λ n. nat_lt n most) (IsHitCount most)) classes kept
+    → AreKept (task_of job 0 (λ n. nat_lt n most) (IsHitCount most)) classes kept
     → AreCountsAt job most positions kept
 counts_at job most classes positions kept b placed long are = record {
   count = long;
@@ -111,15 +111,18 @@ fewer job most class n is = record {
 
 -- a count up to a number that isn't 0 is open at first
 pub open_at_first : (job : Parts) (most : ℕ) → 0 < most
-    → IsOpenAtFirst (task_of job (λ n. nat_lt n most) (IsHitCount most))
-open_at_first job most some n hits is =
-    let none : count_by hits (from_up 0 (0 - 0)) ≡ 0 = refl in
+    → IsOpenAtFirst (task_of job 0 (λ n. nat_lt n most) (IsHitCount most))
+open_at_first job most some n hits at is =
+    let no : at - at ≡ 0 = omega arith in
+    let none : count_by hits (from_up at (at - at)) ≡ 0 =
+    ap (λ k. count_by hits (from_up at k)) no in
     lt-ltb n most (omega (arith, is, none, some))
 
 -- no class has a first test at first
 pub first_open : (job : Parts) → IsOpenAtFirst (first_tests job)
-first_open job None hits h = refl
-first_open job (Some t) hits h = let low = h.1 in absurd (omega (arith, low))
+first_open job None hits at h = refl
+first_open job (Some t) hits at h =
+    let low = h.0 in let high = h.1 in absurd (omega (arith, low, high))
 
 -- one hit at least, if there is a first one
 one_hit : (hits : ℕ → Bool) (low high : ℕ) (first : Option ℕ) → IsFirstHit hits low high first
@@ -144,7 +147,7 @@ one_hit hits low high (Some t) h =
 -- counts up to 1 of all classes, from their first tests
 pub ones_kept : (job : Parts) (classes : List ℕ) (firsts : List (Option ℕ))
     → AreKept (first_tests job) classes firsts
-    → AreKept (task_of job (λ n. nat_lt n 1) (IsHitCount 1)) classes (map one_of firsts)
+    → AreKept (task_of job 0 (λ n. nat_lt n 1) (IsHitCount 1)) classes (map one_of firsts)
 ones_kept job classes firsts are = record {
   count = length-map firsts one_of ∙ are.count;
   each = λ hits k class one ec ek h.

@@ -2,6 +2,7 @@ mod RangeCounts
 mod ClassCounts
 mod EachPushed
 mod TakenCounts
+mod JoinedCounts
 mod CountsBefore
 mod RowLists
 mod GroupWords

@@ -1,9 +1,10 @@
 //! The number of tests that detect a class, as the goal of a simulation.
 
-ghost use Rattle.std.specs.Prelude.{◌≡◌, ◌^◌, ◌<◌, min, nat_lt, true};
+ghost use Rattle.std.specs.Prelude.{◌≡◌, ◌^◌, ◌≤◌, ◌<◌, min, nat_lt, true};
 ghost use Rattle.n_detect.specs.CountLaws.{count_agrees, count_stays, count_unchanged};
 ghost use Rattle.n_detect.specs.HitCounts.{IsHitCount};
 
+use region_runs::WindowGoal;
 use region_sim::Goal;
 use std::alloc::{AllocError, Global};
 
@@ -49,6 +50,13 @@ impl Goal for Count {
     #[inline(always)]
     fn take(&self, kept: &mut u32, _group: u32, lanes: u128) {
         let more = kept.saturating_add(lanes.count_ones());
+        *kept = least(self.most, more);
+    }
+}
+
+impl WindowGoal for Count {
+    fn join(&self, kept: &mut u32, later: &u32, _start: u32) {
+        let more = kept.saturating_add(*later);
         *kept = least(self.most, more);
     }
 }

@@ -35,14 +35,14 @@ module _ {K : Type 0} (task : Task K) (sound : IsSound task) (b : BelongTogether
       h : (hits : ℕ → Bool) × AreHits task.job row.class hits
       h = some_hits task.job b row.class own.within
 
-      was : task.means h.0 0 (64 * from) one
+      was : task.means h.0 (64 * task.from) (64 * from) one
       was = found.each h.0 k row.class from one (class_there rows k row at) here h.1
           (done_high 0 from k (omega arith))
 
       go : (v : Bool) → task.wants one ≡ v → task.wants one ≡ true
       go true e = e
       go false e =
-          let later = sound.stays one h.0 0 (64 * from) (64 * block) e (omega (arith, le)) was in
+          let later = sound.stays one h.0 (64 * task.from) (64 * from) (64 * block) e (omega (arith, le)) was in
           absurd (false≢true (sym e ∙ still h.0 one h.1 later))
 
   -- a class that is open after later blocks is open at its place
@@ -76,16 +76,16 @@ module _ {K : Type 0} (task : Task K) (sound : IsSound task) (b : BelongTogether
       → ((block : ℕ) → from ≤ block → block ≤ last
       → AreNotStopped task.wants rows kept worker S block (length rows))
       → ArePassed task (classes_of rows) worker S 0 (last + 1)
-  rest_passed first asked = λ k class block at e still must.
-      go k class block at e still must (cases_lt block from)
+  rest_passed first asked = λ k class block at up e still must.
+      go k class block at up e still must (cases_lt block from)
     where
       go : (k class block : ℕ) → slice_get (classes_of rows) k ≡ Some class
-          → IsEarlier k block 0 (last + 1) → IsOpenAfter task class block
+          → task.from ≤ block → IsEarlier k block 0 (last + 1) → IsOpenAfter task class block
           → S.must worker class block → (block < from) ⊎ (from ≤ block) → ⊥
-      go k class block at (inr x) still must y = let no = x.1 in omega (arith, no)
-      go k class block at (inl lt) still must (inl low) =
-          first k class block at (inl low) still must
-      go k class block at (inl lt) still must (inr high) =
+      go k class block at up (inr x) still must y = let no = x.1 in omega (arith, no)
+      go k class block at up (inl lt) still must (inl low) =
+          first k class block at up (inl low) still must
+      go k class block at up (inl lt) still must (inr high) =
           let x = asked_at k class block at high still in
           asked block high (omega (arith, lt)) k x.0 x.1 x.2
           (subst (λ c. S.must worker c block) (sym x.3) must)
@@ -94,14 +94,14 @@ module _ {K : Type 0} (task : Task K) (sound : IsSound task) (b : BelongTogether
   pub before_passed : (place : ℕ) → ArePassed task (classes_of rows) worker S 0 from
       → AreNotStopped task.wants rows kept worker S from place
       → ArePassed task (classes_of rows) worker S place from
-  before_passed place first asked = λ k class block at e still must. go k class block at e
-      still must
+  before_passed place first asked = λ k class block at up e still must.
+      go k class block at up e still must
     where
       go : (k class block : ℕ) → slice_get (classes_of rows) k ≡ Some class
-          → IsEarlier k block place from → IsOpenAfter task class block
+          → task.from ≤ block → IsEarlier k block place from → IsOpenAfter task class block
           → S.must worker class block → ⊥
-      go k class block at (inl lt) still must = first k class block at (inl lt) still must
-      go k class block at (inr x) still must =
+      go k class block at up (inl lt) still must = first k class block at up (inl lt) still must
+      go k class block at up (inr x) still must =
           let own = asked_at k class from at (omega arith)
           (subst (IsOpenAfter task class) x.0 still) in
           asked k own.0 x.1 own.2

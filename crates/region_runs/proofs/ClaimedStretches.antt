@@ -21,7 +21,7 @@ use Rattle.region_runs.specs.Tasks.{IsAtFirst, Task}
 -- what is kept at first
 pub starts_kept : {K : Type 0} (task : Task K) (classes : List ℕ) (kept : List K)
     → length kept ≡ length classes → All (λ one. IsAtFirst task one) kept
-    → AreKeptUpTo task classes 0 0 kept
+    → AreKeptUpTo task classes 0 task.from kept
 starts_kept {K} task classes kept count first =
     kept_at_first task classes kept count
     (λ k one at. subst (IsAtFirst task) (get_or_from_slice_get kept k one one at)
@@ -42,57 +42,59 @@ done_along {K} task size classes w P P' S S' done q t v is = record {
     go : (stop : Option Stop) → HasEnded task (stretch size classes done.part) w S stop
         done.kept.items → HasEnded task (stretch size classes done.part) w S' stop
         done.kept.items
-    go None e = (e.0, λ k class b at lt still must. e.1 k class b at lt still (v w class b must))
+    go None e =
+        (e.0, λ k class b at up lt still must. e.1 k class b at up lt still (v w class b must))
     go (Some stop) e = (
       record {
         class = e.0.class;
         at = e.0.at;
+        low = e.0.low;
         within = e.0.within;
         stopped = t w e.0.class stop.block e.0.stopped;
         still = e.0.still;
       },
       e.1,
-      λ k class b at lt still must. e.2 k class b at lt still (v w class b must),
+      λ k class b at up lt still must. e.2 k class b at up lt still (v w class b must),
     )
 
 -- the result of a thread, under other names of the same
-pub served_along : {E K V : Type 0} (of : Parts → V → Task K) (r r' : Result (Served K) E)
+pub served_along : {E K V : Type 0} (of : Parts → Cut → V → Task K) (r r' : Result (Served K) E)
     (j j' : Parts) (a a' : V) (u u' : Cut) (p p' : Place) (w w' : ℕ) (P P' : Type 0)
     (S S' : Stops) → r ≡ r' → j ≡ j' → a ≡ a' → u ≡ u' → p ≡ p' → w ≡ w' → (P' → P)
     → ((v k b : ℕ) → S.may v k b → S'.may v k b) → ((v k b : ℕ) → S'.must v k b → S.must v k b)
-    → IfOk r (λ served. HasServed (of j a) u.size u.classes.items p w P S served.seat
+    → IfOk r (λ served. HasServed (of j u a) u.size u.classes.items p w P S served.seat
     served.dones.items)
-    → IfOk r' (λ served. HasServed (of j' a') u'.size u'.classes.items p' w' P' S' served.seat
+    → IfOk r' (λ served. HasServed (of j' u' a') u'.size u'.classes.items p' w' P' S' served.seat
     served.dones.items)
 served_along {E} {K} {V} of r r' j j' a a' u u' p p' w w' P P' S S' er ej ea eu ep ew q t v is =
-    subst (λ (x : Result (Served K) E). IfOk x (λ served. HasServed (of j' a') u'.size
+    subst (λ (x : Result (Served K) E). IfOk x (λ served. HasServed (of j' u' a') u'.size
     u'.classes.items p' w' P' S' served.seat served.dones.items)) er (go r is)
   where
     go : (x : Result (Served K) E)
-        → IfOk x (λ served. HasServed (of j a) u.size u.classes.items p w P S served.seat
+        → IfOk x (λ served. HasServed (of j u a) u.size u.classes.items p w P S served.seat
         served.dones.items)
-        → IfOk x (λ served. HasServed (of j' a') u'.size u'.classes.items p' w' P' S' served.seat
+        → IfOk x (λ served. HasServed (of j' u' a') u'.size u'.classes.items p' w' P' S' served.seat
         served.dones.items)
     go (Err x) h = tt
     go (Ok served) h =
-        subst (λ x. HasServed (of x a') u'.size u'.classes.items p' w' P' S' served.seat
+        subst (λ x. HasServed (of x u' a') u'.size u'.classes.items p' w' P' S' served.seat
         served.dones.items) ej
-        (subst (λ x. HasServed (of j x) u'.size u'.classes.items p' w' P' S' served.seat
+        (subst (λ x. HasServed (of j u' x) u'.size u'.classes.items p' w' P' S' served.seat
         served.dones.items) ea
-        (subst (λ (x : Cut). HasServed (of j a) x.size x.classes.items p' w' P' S' served.seat
+        (subst (λ (x : Cut). HasServed (of j x a) x.size x.classes.items p' w' P' S' served.seat
         served.dones.items) eu
-        (subst (λ x. HasServed (of j a) u.size u.classes.items x w' P' S' served.seat
+        (subst (λ x. HasServed (of j u a) u.size u.classes.items x w' P' S' served.seat
         served.dones.items) ep
-        (subst (λ x. HasServed (of j a) u.size u.classes.items p x P' S' served.seat
+        (subst (λ x. HasServed (of j u a) u.size u.classes.items p x P' S' served.seat
         served.dones.items) ew
         (record {
           place_is = h.place_is;
           worker_is = h.worker_is;
           legal = h.legal;
           accounts = record {
-            done = All-weaker (λ done. IsDone (of j a) u.size u.classes.items w P S done)
-                (λ done. IsDone (of j a) u.size u.classes.items w P' S' done)
-                (λ done d. done_along (of j a) u.size u.classes.items w P P' S S' done q t v d)
+            done = All-weaker (λ done. IsDone (of j u a) u.size u.classes.items w P S done)
+                (λ done. IsDone (of j u a) u.size u.classes.items w P' S' done)
+                (λ done d. done_along (of j u a) u.size u.classes.items w P P' S S' done q t v d)
                 served.dones.items h.accounts.done;
             stand = h.accounts.stand;
             claimed = h.accounts.claimed;

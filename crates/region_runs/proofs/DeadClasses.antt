@@ -22,7 +22,7 @@ use Rattle.region_runs.specs.StretchRuns.{AreKeptUpTo, ArePassed, HasEnded, IsEa
 use Rattle.region_runs.specs.StretchRuns.{IsOpenAfter}
 use Rattle.region_runs.specs.Tasks.{IsSound, Task}
 use Rattle.region_runs.proofs.FirstHits.{never_hit, row_listed}
-use Rattle.region_runs.proofs.StretchRuns.{done_high}
+use Rattle.region_runs.proofs.StretchRuns.{done_high, one_count}
 
 -- ---- places in two lists, one behind the other
 pub get_left : {X : Type 0} (xs ys : List X) (k : ℕ) → k < length xs
@@ -64,8 +64,8 @@ module _ {K : Type 0} (task : Task K) (live dead : List ListedClass) where
 
   -- before the first block
   pub live_none : (was rest : List K) → length was ≡ length live
-      → AreKeptUpTo task (classes_of (live ++ dead)) 0 0 (was ++ rest)
-      → AreKeptUpTo task (classes_of live) 0 0 was
+      → AreKeptUpTo task (classes_of (live ++ dead)) 0 task.from (was ++ rest)
+      → AreKeptUpTo task (classes_of live) 0 task.from was
   live_none was rest long none = record {
     count = long ∙ sym (length-map live (λ (at : ListedClass). at.class));
     each = λ hits k class n one ec ek h up.
@@ -89,30 +89,31 @@ module _ {K : Type 0} (task : Task K) (b : BelongTogether task.job) (live dead :
   -- the gate was asked for each of them
   whole_passed : (worker : ℕ) (S : Stops)
       → ArePassed task (classes_of live) worker S 0 (blocks (length task.job.tests.tests))
-      → ((block : ℕ) → block < blocks (length task.job.tests.tests)
+      → ((block : ℕ) → task.from ≤ block → block < blocks (length task.job.tests.tests)
       → AreAllNotStopped dead worker S block (length dead))
       → ArePassed task (classes_of (live ++ dead)) worker S 0
       (blocks (length task.job.tests.tests))
-  whole_passed worker S before asked = λ k class block at e still must.
-      go k class block at e still must (cases_lt k (length live))
+  whole_passed worker S before asked = λ k class block at low e still must.
+      go k class block at low e still must (cases_lt k (length live))
     where
       go : (k class block : ℕ) → slice_get (classes_of (live ++ dead)) k ≡ Some class
-          → IsEarlier k block 0 (blocks (length task.job.tests.tests))
+          → task.from ≤ block → IsEarlier k block 0 (blocks (length task.job.tests.tests))
           → IsOpenAfter task class block → S.must worker class block
           → (k < length live) ⊎ (length live ≤ k) → ⊥
-      go k class block at e still must (inl lt) =
-          before k class block (class_left task live dead k class lt at) e still must
-      go k class block at (inr x) still must (inr le) = let low = x.1 in omega (arith, low)
-      go k class block at (inl low) still must (inr le) =
+      go k class block at low e still must (inl lt) =
+          before k class block (class_left task live dead k class lt at) low e still must
+      go k class block at low (inr x) still must (inr le) = let no = x.1 in omega (arith, no)
+      go k class block at low (inl lt) still must (inr le) =
           let x = from_mapped (λ (at : ListedClass). at.class) (live ++ dead) k class at in
           let here = sym (get_behind live dead k le) ∙ x.1 in
-          asked block low (k - length live) x.0
+          asked block low lt (k - length live) x.0
           (slice_get_within dead (k - length live) x.0 here) here
           (subst (λ c. S.must worker c block) (sym x.2) must)
 
   -- what is kept of them is that of no test
   module _ (sound : IsSound task) (was rest : List K) (long : length was ≡ length live)
-      (none : AreKeptUpTo task (classes_of (live ++ dead)) 0 0 (was ++ rest)) where
+      (none : AreKeptUpTo task (classes_of (live ++ dead)) 0 task.from (was ++ rest))
+      (low : task.from ≤ blocks (length task.job.tests.tests)) where
     whole_kept : (found : List K)
         → AreKeptUpTo task (classes_of live) 0 (blocks (length task.job.tests.tests)) found
         → AreKeptUpTo task (classes_of (live ++ dead)) 0 (blocks (length task.job.tests.tests))
@@ -126,9 +127,14 @@ module _ {K : Type 0} (task : Task K) (b : BelongTogether task.job) (live dead :
       each = λ hits k class n one ec ek h up. (elim (cases_lt k (length live)) [
         | inl lt ↦ done.each hits k class n one (class_left task live dead k class lt ec)
             (sym (get_left found rest k (omega (arith, lt, same, long))) ∙ ek) h up
-        | inr le ↦ sound.unchanged one hits 0 0 (64 * n) (omega arith)
+        | inr le ↦ sound.unchanged one hits (64 * task.from) (64 * task.from) (64 * n)
+            (let all = one_count 0 (blocks (length task.job.tests.tests)) k
+            (blocks (length task.job.tests.tests)) n
+            (done_high 0 (blocks (length task.job.tests.tests)) k (omega arith)) up in
+            omega (arith, low, all))
             (λ t above below. no_hits k class le ec hits h t)
-            (none.each hits k class 0 one ec (stays k one le ek) h (done_high 0 0 k (omega arith)))
+            (none.each hits k class task.from one ec (stays k one le ek) h
+            (done_high 0 task.from k (omega arith)))
       ]);
     }
       where
@@ -147,7 +153,7 @@ module _ {K : Type 0} (task : Task K) (b : BelongTogether task.job) (live dead :
 
     pub has_ended : (worker : ℕ) (S : Stops) (stop : Option Stop) (found : List K)
         → stop ≡ None → HasEnded task (classes_of live) worker S stop found
-        → ((block : ℕ) → block < blocks (length task.job.tests.tests)
+        → ((block : ℕ) → task.from ≤ block → block < blocks (length task.job.tests.tests)
         → AreAllNotStopped dead worker S block (length dead))
         → HasEnded task (classes_of (live ++ dead)) worker S stop (found ++ rest)
     has_ended worker S stop found is ended asked =

@@ -163,7 +163,7 @@ module _ (job : Parts) (b : BelongTogether job) (class : ℕ)
 
 -- ---- what is kept of rows
 module _ {K : Type 0} (task : Task K) (rows : List ListedClass) (span : BlockSpan)
-    (up : span.first ≤ span.last) (before now : List K)
+    (low : task.from ≤ span.first) (up : span.first ≤ span.last) (before now : List K)
     (found : AreKeptUpTo task (classes_of rows) 0 span.first before)
     (count : length now ≡ length before) where
   -- of a row of which the tests of the span were taken
@@ -171,7 +171,7 @@ module _ {K : Type 0} (task : Task K) (rows : List ListedClass) (span : BlockSpa
       → slice_get now k ≡ Some one → AreHits task.job class hits
       → ((row : ListedClass) → slice_get rows k ≡ Some row
       → HasTakenAt task.means task.job span row before now k)
-      → task.means hits 0 (64 * (span.last + 1)) one
+      → task.means hits (64 * task.from) (64 * (span.last + 1)) one
   row_kept hits k class one ec ek h taken =
       let x = from_mapped (λ (at : ListedClass). at.class) rows k class ec in
       let t = taken x.0 x.1 in
@@ -180,9 +180,9 @@ module _ {K : Type 0} (task : Task K) (rows : List ListedClass) (span : BlockSpa
       let was = found.each hits k class span.first t.0 ec t.2 h
       (done_high 0 span.first k (omega arith)) in
       let end : 64 * span.last + 64 ≡ 64 * (span.last + 1) = omega arith in
-      subst (λ v. task.means hits 0 (64 * (span.last + 1)) v) same
-      (subst (λ n. task.means hits 0 n t.1) end
-      (t.4 hits 0 (subst (λ c. AreHits task.job c hits) (sym x.2) h) (omega arith) was))
+      subst (λ v. task.means hits (64 * task.from) (64 * (span.last + 1)) v) same
+      (subst (λ n. task.means hits (64 * task.from) n t.1) end
+      (t.4 hits (64 * task.from) (subst (λ c. AreHits task.job c hits) (sym x.2) h) (omega (arith, low)) was))
 
   -- of all rows
   pub kept_swept : HaveTaken task.means task.job span rows 0 (length rows) before now
@@ -190,7 +190,7 @@ module _ {K : Type 0} (task : Task K) (rows : List ListedClass) (span : BlockSpa
   kept_swept taken = record {
     count = count ∙ found.count;
     each = λ hits k class n one ec ek h earlier.
-        subst (λ m. task.means hits 0 (64 * m) one)
+        subst (λ m. task.means hits (64 * task.from) (64 * m) one)
         (one_count 0 (span.last + 1) k (span.last + 1) n
         (done_high 0 (span.last + 1) k (omega arith)) earlier)
         (row_kept hits k class one ec ek h
@@ -212,14 +212,14 @@ module _ {K : Type 0} (task : Task K) (rows : List ListedClass) (span : BlockSpa
       go : (hits : ℕ → Bool) (k class n : ℕ) (one : K)
           → slice_get (classes_of rows) k ≡ Some class → slice_get now k ≡ Some one
           → AreHits task.job class hits → AreEarlier place span.first k n
-          → (k < place) ⊎ (place ≤ k) → task.means hits 0 (64 * n) one
+          → (k < place) ⊎ (place ≤ k) → task.means hits (64 * task.from) (64 * n) one
       go hits k class n one ec ek h earlier (inl lt) =
-          subst (λ m. task.means hits 0 (64 * m) one) (ap (λ m. m + 1) alone
+          subst (λ m. task.means hits (64 * task.from) (64 * m) one) (ap (λ m. m + 1) alone
           ∙ one_count place span.first k (span.first + 1) n (done_low place span.first k lt)
           earlier)
           (row_kept hits k class one ec ek h (λ row at. taken k row lt at))
       go hits k class n one ec ek h earlier (inr le) =
-          subst (λ m. task.means hits 0 (64 * m) one)
+          subst (λ m. task.means hits (64 * task.from) (64 * m) one)
           (one_count place span.first k span.first n (done_high place span.first k le) earlier)
           (found.each hits k class span.first one ec (sym (others k le) ∙ ek) h
           (done_high 0 span.first k (omega arith)))
@@ -247,5 +247,6 @@ firsts_kept job classes firsts b all found = record {
 
 -- none of them is settled by no test
 pub first_open : (job : Parts) → IsOpenAtFirst (first_tests job)
-first_open job None hits h = refl
-first_open job (Some t) hits h = let low = h.1 in absurd (omega (arith, low))
+first_open job None hits at h = refl
+first_open job (Some t) hits at h =
+    let low = h.0 in let high = h.1 in absurd (omega (arith, low, high))

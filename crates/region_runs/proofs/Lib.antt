@@ -18,7 +18,10 @@ mod SharedStretches
 mod WindowTests
 mod WindowWords
 mod FittingWords
-mod WindowFirsts
+mod Joins
+mod WindowValues
 mod WindowSteps
 mod PartRefusals
+mod GivenTests
+mod PartsApart
 pub mod Public

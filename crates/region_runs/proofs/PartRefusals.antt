@@ -1,7 +1,7 @@
 -- Errors of a run in parts whose gate lets every piece pass.
 use Rattle.std.proofs.Common.{◌≡◌, ◌≤◌, ◌/◌, List, ℕ, zero, suc, arith, length, subst}
 use Rattle.std.proofs.Math.Nat.{div-add-mod, div-zero, mul-le-mul_right, suc-mul}
-use Rattle.std.specs.Prelude.{⊤}
+use Rattle.std.specs.Prelude.{⊤, Bool}
 use Rattle.patterns.specs.Tests.{blocks}
 use Rattle.block_sim.specs.Parts.{Parts}
 use Rattle.workers.specs.declared.RunFault.{RunFault}
@@ -10,9 +10,8 @@ use Rattle.workers.specs.Refused.{IsRunFault}
 use Rattle.workers.specs.Stops.{Stops, no_stop}
 use Rattle.region_sim.specs.ClassOrder.{AreAllByRegion}
 use Rattle.region_runs.specs.Cut.{IsCutOf}
-use Rattle.region_runs.specs.StretchRuns.{StretchesWaitFor}
 use Rattle.region_runs.specs.Part.{ArePartOf, stretch_size, stretches_for}
-use Rattle.region_runs.specs.Tasks.{Task, first_tests}
+use Rattle.region_runs.specs.Tasks.{Task, first_tests, task_of}
 use Rattle.region_runs.specs.Refused.{IsGoalFault, IsOpenFault, IsPartFault, IsPartsFault}
 use Rattle.region_runs.specs.Refused.{IsStretchesFault}
 
@@ -48,48 +47,34 @@ open_fault {K} task size classes parts workers run_fault.Threads h = h
 open_fault {K} task size classes parts workers (run_fault.Unfinished class block) h = absurd
     (h.4 tt)
 
--- the class that waits, under other names of the stretches
-waits_under : {K : Type 0} (task : Task K) (count parts size : ℕ) (classes cut : List ℕ)
-    (workers : ℕ) (S : Stops) (class block : ℕ) → IsCutOf task.job count size cut → count ≡ parts
-    → cut ≡ classes → StretchesWaitFor task size cut count workers S class block
-    → StretchesWaitFor task (stretch_size (length classes) parts) classes parts workers S class
-    block
-waits_under {K} task count parts size classes cut workers S class block is e same waits =
-    subst (λ n. StretchesWaitFor task (stretch_size (length classes) n) classes n workers S class
-    block) e
-    (subst (λ l. StretchesWaitFor task (stretch_size (length l) count) l count workers S class
-    block) same
-    (subst (λ n. StretchesWaitFor task n cut count workers S class block) is.size_is waits))
+-- the errors of stretches under other names of these
+pub fault_under : {K : Type 0} (job : Parts) (wants : K → Bool)
+    (means : (ℕ → Bool) → ℕ → ℕ → K → Type 0) (at from count parts size : ℕ)
+    (cut classes : List ℕ) (workers : ℕ) (P : Type 0) (S : Stops) (f : RunFault) → at ≡ from
+    → IsCutOf job at count size cut → count ≡ parts → cut ≡ classes
+    → IsStretchesFault (task_of job at wants means) size cut count workers P S f
+    → IsStretchesFault (task_of job from wants means) (stretch_size (length classes) parts) classes
+    parts workers P S f
+fault_under {K} job wants means at from count parts size cut classes workers P S f q is e same h =
+    let task = task_of job from wants means in
+    subst (λ n. IsStretchesFault task (stretch_size (length classes) n) classes n workers P S f) e
+    (subst (λ l. IsStretchesFault task (stretch_size (length l) count) l count workers P S f) same
+    (subst (λ n. IsStretchesFault task n cut count workers P S f) is.size_is
+    (subst (λ n. IsStretchesFault (task_of job n wants means) size cut count workers P S f) q h)))
 
 -- the errors of stretches of all classes
-pub goal_fault : {K : Type 0} (task : Task K) (parts size count workers : ℕ)
-    (classes cut : List ℕ) (P : Type 0) (S : Stops) (f : RunFault)
-    → AreAllByRegion task.job classes → IsCutOf task.job count size cut → count ≡ parts
-    → cut ≡ classes → IsStretchesFault task size cut count workers P S f
+pub goal_fault : {K : Type 0} (task : Task K) (parts workers : ℕ) (classes : List ℕ) (P : Type 0)
+    (S : Stops) (f : RunFault) → AreAllByRegion task.job classes
+    → IsStretchesFault task (stretch_size (length classes) parts) classes parts workers P S f
     → IsGoalFault task parts workers P S f
-goal_fault {K} task parts size count workers classes cut P S run_fault.NoWorkers all is e same h =
-    absurd h
-goal_fault {K} task parts size count workers classes cut P S run_fault.TooManyWorkers all is e same
-    h = absurd h
-goal_fault {K} task parts size count workers classes cut P S (run_fault.NoSuchMove index) all is e
-    same h = absurd h
-goal_fault {K} task parts size count workers classes cut P S run_fault.TooManyPieces all is e same h
-    = absurd h
-goal_fault {K} task parts size count workers classes cut P S run_fault.Memory all is e same h = h
-goal_fault {K} task parts size count workers classes cut P S run_fault.Threads all is e same h = h
-goal_fault {K} task parts size count workers classes cut P S (run_fault.Unfinished class block) all
-    is e same h = (
-      h.0,
-      h.1,
-      h.2,
-      h.3,
-      h.4,
-      (
-        classes,
-        all,
-        waits_under task count parts size classes cut workers S class block is e same h.5,
-      ),
-    )
+goal_fault {K} task parts workers classes P S run_fault.NoWorkers all h = absurd h
+goal_fault {K} task parts workers classes P S run_fault.TooManyWorkers all h = absurd h
+goal_fault {K} task parts workers classes P S (run_fault.NoSuchMove index) all h = absurd h
+goal_fault {K} task parts workers classes P S run_fault.TooManyPieces all h = absurd h
+goal_fault {K} task parts workers classes P S run_fault.Memory all h = h
+goal_fault {K} task parts workers classes P S run_fault.Threads all h = h
+goal_fault {K} task parts workers classes P S (run_fault.Unfinished class block) all h =
+    (h.0, h.1, h.2, h.3, h.4, (classes, all, h.5))
 
 -- the errors of a run for first tests
 pub firsts_fault : (job : Parts) (parts workers : ℕ) (P : Type 0) (S : Stops) (f : RunFault)
@@ -113,34 +98,40 @@ open_goal_fault {K} task parts workers run_fault.Memory h = h
 open_goal_fault {K} task parts workers run_fault.Threads h = h
 open_goal_fault {K} task parts workers (run_fault.Unfinished class block) h = absurd (h.4 tt)
 
+-- the errors of a run under an open gate are errors of a run in parts
+pub open_parts_fault : (job : Parts) (parts workers : ℕ) (f : RunFault)
+    → IsOpenFault workers f → IsPartsFault job parts workers ⊤ no_stop f
+open_parts_fault job parts workers run_fault.NoWorkers h = h
+open_parts_fault job parts workers run_fault.TooManyWorkers h = h
+open_parts_fault job parts workers (run_fault.NoSuchMove index) h = h
+open_parts_fault job parts workers run_fault.TooManyPieces h = absurd h
+open_parts_fault job parts workers run_fault.Memory h = h
+open_parts_fault job parts workers run_fault.Threads h = h
+open_parts_fault job parts workers (run_fault.Unfinished class block) h = absurd h
+
 -- and of those of a part
-pub part_fault : (job : Parts) (parts part size count workers : ℕ) (classes cut : List ℕ)
-    (P : Type 0) (S : Stops) (f : RunFault) → ArePartOf job parts part classes
-    → IsCutOf job count size cut → count ≡ stretches_for (length classes) workers → cut ≡ classes
-    → IsStretchesFault (first_tests job) size cut count workers P S f
+part_fault : (job : Parts) (parts part workers : ℕ) (classes : List ℕ) (P : Type 0) (S : Stops)
+    (f : RunFault) → ArePartOf job parts part classes
+    → IsStretchesFault (first_tests job)
+    (stretch_size (length classes) (stretches_for (length classes) workers)) classes
+    (stretches_for (length classes) workers) workers P S f
     → IsPartFault job parts part workers P S f
-part_fault job parts part size count workers classes cut P S run_fault.NoWorkers own is e same h =
-    absurd h
-part_fault job parts part size count workers classes cut P S run_fault.TooManyWorkers own is e same
-    h = absurd h
-part_fault job parts part size count workers classes cut P S (run_fault.NoSuchMove index) own is e
-    same h = absurd h
-part_fault job parts part size count workers classes cut P S run_fault.TooManyPieces own is e same h
-    = absurd h
-part_fault job parts part size count workers classes cut P S run_fault.Memory own is e same h = h
-part_fault job parts part size count workers classes cut P S run_fault.Threads own is e same h = h
-part_fault job parts part size count workers classes cut P S (run_fault.Unfinished class block) own
-    is e same h = (
-      h.0,
-      h.1,
-      h.2,
-      h.3,
-      h.4,
-      (
-        classes,
-        own,
-        waits_under (first_tests job) count (stretches_for
-            (length classes) workers) size classes cut workers S class
-            block is e same h.5,
-      ),
-    )
+part_fault job parts part workers classes P S run_fault.NoWorkers own h = absurd h
+part_fault job parts part workers classes P S run_fault.TooManyWorkers own h = absurd h
+part_fault job parts part workers classes P S (run_fault.NoSuchMove index) own h = absurd h
+part_fault job parts part workers classes P S run_fault.TooManyPieces own h = absurd h
+part_fault job parts part workers classes P S run_fault.Memory own h = h
+part_fault job parts part workers classes P S run_fault.Threads own h = h
+part_fault job parts part workers classes P S (run_fault.Unfinished class block) own h =
+    (h.0, h.1, h.2, h.3, h.4, (classes, own, h.5))
+
+-- cut into a number of stretches that suits the workers
+pub fitting_part_fault : (job : Parts) (parts part workers n : ℕ) (classes : List ℕ) (P : Type 0)
+    (S : Stops) (f : RunFault) → ArePartOf job parts part classes
+    → n ≡ stretches_for (length classes) workers
+    → IsStretchesFault (first_tests job) (stretch_size (length classes) n) classes n workers P S f
+    → IsPartFault job parts part workers P S f
+fitting_part_fault job parts part workers n classes P S f own e h =
+    part_fault job parts part workers classes P S f own
+    (subst (λ k. IsStretchesFault (first_tests job) (stretch_size (length classes) k) classes k
+    workers P S f) e h)

@@ -218,7 +218,7 @@ append_kept {K} task (x ∷ xs) ys (y ∷ f) g a b =
     at : AreKept task (xs ++ ys) (f ++ g) → (hits : ℕ → Bool) (k class : ℕ) (one : K)
         → slice_get (x ∷ (xs ++ ys)) k ≡ Some class → slice_get (y ∷ (f ++ g)) k ≡ Some one
         → AreHits task.job class hits
-        → task.means hits 0 (64 * blocks (length task.job.tests.tests)) one
+        → task.means hits (64 * task.from) (64 * blocks (length task.job.tests.tests)) one
     at rest hits zero class one e v h = a.each hits 0 class one e v h
     at rest hits (suc k) class one e v h = rest.each hits k class one e v h
 
@@ -249,7 +249,7 @@ kept_more {K} task classes size part kept more was found =
 
 -- all stretches have all classes
 pub kept_all : {K : Type 0} (task : Task K) (parts size : ℕ) (classes : List ℕ) (kept : List K)
-    → IsCutOf task.job parts size classes → AreKeptBelow task classes (parts * size) kept
+    → IsCutOf task.job task.from parts size classes → AreKeptBelow task classes (parts * size) kept
     → AreKept task classes kept
 kept_all {K} task parts size classes kept cut found =
     subst (λ l. AreKept task l kept) (take_all (parts * size) classes long) found

@@ -63,68 +63,68 @@ none_open {K} task classes (Some w) is = absurd is.0
 -- ---- the runs in a table
 
 -- one more
-pub runs_push : {K : Type 0} (size : ℕ) (classes : List ℕ) (part : ℕ) (table : List (Option
+pub runs_push : {K : Type 0} (from size : ℕ) (classes : List ℕ) (part : ℕ) (table : List (Option
     (Done K)))
-    (place : Option (Done K)) → runs_from size classes part (table ++ place ∷ [])
-    ≡ runs_from size classes part table
-    ++ run_at (stretch size classes (part + length table)) place ∷ []
-runs_push {K} size classes part [] place =
+    (place : Option (Done K)) → runs_from from size classes part (table ++ place ∷ [])
+    ≡ runs_from from size classes part table
+    ++ run_at from (stretch size classes (part + length table)) place ∷ []
+runs_push {K} from size classes part [] place =
     let same : part ≡ part + 0 = omega arith in
-    ap (λ n. run_at (stretch size classes n) place ∷ []) same
-runs_push {K} size classes part (x ∷ table) place =
+    ap (λ n. run_at from (stretch size classes n) place ∷ []) same
+runs_push {K} from size classes part (x ∷ table) place =
     let same : part + 1 + length table ≡ part + suc (length table) = omega arith in
-    ap (λ l. run_at (stretch size classes part) x ∷ l)
-    (runs_push size classes (part + 1) table place
-    ∙ ap (λ n. runs_from size classes (part + 1) table
-    ++ run_at (stretch size classes n) place ∷ []) same)
+    ap (λ l. run_at from (stretch size classes part) x ∷ l)
+    (runs_push from size classes (part + 1) table place
+    ∙ ap (λ n. runs_from from size classes (part + 1) table
+    ++ run_at from (stretch size classes n) place ∷ []) same)
 
 -- as many as there are places
-pub runs_count : {K : Type 0} (size : ℕ) (classes : List ℕ) (part : ℕ) (table : List (Option
+pub runs_count : {K : Type 0} (from size : ℕ) (classes : List ℕ) (part : ℕ) (table : List (Option
     (Done K)))
-    → length (runs_from size classes part table) ≡ length table
-runs_count {K} size classes part [] = refl
-runs_count {K} size classes part (x ∷ table) = ap suc (runs_count size classes (part + 1) table)
+    → length (runs_from from size classes part table) ≡ length table
+runs_count {K} from size classes part [] = refl
+runs_count {K} from size classes part (x ∷ table) = ap suc (runs_count from size classes (part + 1) table)
 
 -- the run at a place
-run_from : {K : Type 0} (size : ℕ) (classes : List ℕ) (part : ℕ) (table : List (Option (Done K)))
+run_from : {K : Type 0} (from size : ℕ) (classes : List ℕ) (part : ℕ) (table : List (Option (Done K)))
     (k : ℕ)
     (place : Option (Done K)) → slice_get table k ≡ Some place
-    → slice_get (runs_from size classes part table) k
-    ≡ Some (run_at (stretch size classes (part + k)) place)
-run_from {K} size classes part [] k place e = let bad : None ≡ Some place = e in absurd (cc)
-run_from {K} size classes part (x ∷ table) zero place e =
+    → slice_get (runs_from from size classes part table) k
+    ≡ Some (run_at from (stretch size classes (part + k)) place)
+run_from {K} from size classes part [] k place e = let bad : None ≡ Some place = e in absurd (cc)
+run_from {K} from size classes part (x ∷ table) zero place e =
     let same : x ≡ place = cc in
     let here : part ≡ part + 0 = omega arith in
-    ap (λ p. Some (run_at (stretch size classes part) p)) same
-    ∙ ap (λ n. Some (run_at (stretch size classes n) place)) here
-run_from {K} size classes part (x ∷ table) (suc k) place e =
+    ap (λ p. Some (run_at from (stretch size classes part) p)) same
+    ∙ ap (λ n. Some (run_at from (stretch size classes n) place)) here
+run_from {K} from size classes part (x ∷ table) (suc k) place e =
     let here : part + 1 + k ≡ part + suc k = omega arith in
-    run_from size classes (part + 1) table k place e
-    ∙ ap (λ n. Some (run_at (stretch size classes n) place)) here
+    run_from from size classes (part + 1) table k place e
+    ∙ ap (λ n. Some (run_at from (stretch size classes n) place)) here
 
-pub run_there : {K : Type 0} (size : ℕ) (classes : List ℕ) (table : List (Option (Done K)))
+pub run_there : {K : Type 0} (from size : ℕ) (classes : List ℕ) (table : List (Option (Done K)))
     (part : ℕ)
     (place : Option (Done K)) → slice_get table part ≡ Some place
-    → slice_get (runs_from size classes 0 table) part
-    ≡ Some (run_at (stretch size classes part) place)
-run_there {K} size classes table part place e =
+    → slice_get (runs_from from size classes 0 table) part
+    ≡ Some (run_at from (stretch size classes part) place)
+run_there {K} from size classes table part place e =
     let here : 0 + part ≡ part = omega arith in
-    run_from size classes 0 table part place e
-    ∙ ap (λ n. Some (run_at (stretch size classes n) place)) here
+    run_from from size classes 0 table part place e
+    ∙ ap (λ n. Some (run_at from (stretch size classes n) place)) here
 
 -- and each is at a place
-pub run_back : {K : Type 0} (size : ℕ) (classes : List ℕ) (table : List (Option (Done K)))
+pub run_back : {K : Type 0} (from size : ℕ) (classes : List ℕ) (table : List (Option (Done K)))
     (part : ℕ)
-    (run : PartRun) → slice_get (runs_from size classes 0 table) part ≡ Some run
+    (run : PartRun) → slice_get (runs_from from size classes 0 table) part ≡ Some run
     → (place : Option (Done K)) × (slice_get table part ≡ Some place)
-    × (run ≡ run_at (stretch size classes part) place)
-run_back {K} size classes table part run at =
-    let lt = slice_get_within (runs_from size classes 0 table) part run at in
-    let n = runs_count size classes 0 table in
+    × (run ≡ run_at from (stretch size classes part) place)
+run_back {K} from size classes table part run at =
+    let lt = slice_get_within (runs_from from size classes 0 table) part run at in
+    let n = runs_count from size classes 0 table in
     let x = within_place table part (omega (arith, lt, n)) in
-    let there = run_there size classes table part x.0 x.1 in
-    let both : Some run ≡ Some (run_at (stretch size classes part) x.0) = sym at ∙ there in
-    let same : run ≡ run_at (stretch size classes part) x.0 = cc in
+    let there = run_there from size classes table part x.0 x.1 in
+    let both : Some run ≡ Some (run_at from (stretch size classes part) x.0) = sym at ∙ there in
+    let same : run ≡ run_at from (stretch size classes part) x.0 = cc in
     (x.0, x.1, same)
 
 -- the class that waits in one run more
@@ -208,27 +208,27 @@ open_within {K} task size part classes own (Some stop) class block all is x = (
 unbegun_so : {K : Type 0} (task : Task K) (size : ℕ) (classes : List ℕ) (workers : ℕ) (S : Stops)
     (runs : List PartRun) (own : List ℕ)
     → (0 < length own → AreAllStopped task size classes workers S runs)
-    → ((unbegun_run own).classes ≡ own)
-    × HasRunSo task size classes workers S runs (unbegun_run own) (unbegun_run own).worker
+    → ((unbegun_run task.from own).classes ≡ own)
+    × HasRunSo task size classes workers S runs (unbegun_run task.from own) (unbegun_run task.from own).worker
 unbegun_so {K} task size classes workers S runs [] stopped = (refl, (refl, stopped))
 unbegun_so {K} task size classes workers S runs (class ∷ own) stopped = (refl, (refl, stopped))
 
 -- a class of it waits only if it has one
 unbegun_open : {K : Type 0} (task : Task K) (own : List ℕ) (class block : ℕ)
-    → IsOpenIn task (unbegun_run own).classes (unbegun_run own).stop class block → 0 < length own
+    → IsOpenIn task (unbegun_run task.from own).classes (unbegun_run task.from own).stop class block → 0 < length own
 unbegun_open {K} task [] class block x = absurd x
 unbegun_open {K} task (c ∷ own) class block x = omega arith
 
 -- so none waits in one without a class
 pub unbegun_empty : {K : Type 0} (task : Task K) (own : List ℕ) → length own ≡ 0
-    → IsLowestIn task (unbegun_run own) None
+    → IsLowestIn task (unbegun_run task.from own) None
 unbegun_empty {K} task [] e = λ class block x. x
 unbegun_empty {K} task (class ∷ own) e = absurd (omega (arith, e))
 
 -- and in another the lowest class does
 pub unbegun_lowest : {K : Type 0} (task : Task K) (own : List ℕ) (lowest : Option Waiting)
-    → IsLowest (IsOpenIn task own (Some at_first)) lowest → IsLowestIn task (unbegun_run own) lowest
-unbegun_lowest {K} task [] lowest is = lowest_along (IsOpenIn task [] (Some at_first))
+    → IsLowest (IsOpenIn task own (Some (at_first task.from))) lowest → IsLowestIn task (unbegun_run task.from own) lowest
+unbegun_lowest {K} task [] lowest is = lowest_along (IsOpenIn task [] (Some (at_first task.from)))
     (IsOpenIn task [] None) lowest
     (λ class block x. let low = x.low in absurd (omega (arith, low)))
     (λ class block x. absurd x) is
@@ -236,8 +236,9 @@ unbegun_lowest {K} task (class ∷ own) lowest is = is
 
 -- and if it has one, it waits
 unbegun_waits : {K : Type 0} (task : Task K) → IsOpenAtFirst task → (own : List ℕ) → 0 < length own
-    → 0 < blocks (length task.job.tests.tests)
-    → (class : ℕ) × IsOpenIn task (unbegun_run own).classes (unbegun_run own).stop class 0
+    → task.from < blocks (length task.job.tests.tests)
+    → (class : ℕ) × IsOpenIn task (unbegun_run task.from own).classes
+    (unbegun_run task.from own).stop class task.from
 unbegun_waits {K} task first [] some block = absurd (omega (arith, some))
 unbegun_waits {K} task first (class ∷ own) some block = (
   class,
@@ -245,26 +246,26 @@ unbegun_waits {K} task first (class ∷ own) some block = (
     place = 0;
     low = some;
     at = refl;
-    block_is = done_high 0 0 0 (omega arith);
+    block_is = done_high 0 task.from 0 (omega arith);
     within = block;
-    still = λ hits one h means. first one hits means;
+    still = λ hits one h means. first one hits (64 * task.from) means;
   },
 )
 
 -- no worker ran a stretch that none began
-unbegun_none : (own : List ℕ) → (unbegun_run own).worker ≡ None
-unbegun_none [] = refl
-unbegun_none (class ∷ own) = refl
+unbegun_none : (from : ℕ) (own : List ℕ) → (unbegun_run from own).worker ≡ None
+unbegun_none from [] = refl
+unbegun_none from (class ∷ own) = refl
 
 -- the result of a worker for a stretch that it ran is at the stretch's place
-begun : {K : Type 0} (own : List ℕ) (place : Option (Done K)) (run : PartRun) (w : ℕ)
-    → run ≡ run_at own place
+begun : {K : Type 0} (from : ℕ) (own : List ℕ) (place : Option (Done K)) (run : PartRun) (w : ℕ)
+    → run ≡ run_at from own place
     → run.worker ≡ Some w
     → (done : Done K) × (place ≡ Some done) × (done.worker ≡ w) × (run.stop ≡ done.stop)
-begun {K} own None run w e q =
-    let bad : None ≡ Some w = sym (unbegun_none own) ∙ (sym (ap (λ (r : PartRun). r.worker) e) ∙ q)
+begun {K} from own None run w e q =
+    let bad : None ≡ Some w = sym (unbegun_none from own) ∙ (sym (ap (λ (r : PartRun). r.worker) e) ∙ q)
     in absurd (cc)
-begun {K} own (Some done) run w e q =
+begun {K} from own (Some done) run w e q =
     let both : Some done.worker ≡ Some w = sym (ap (λ (r : PartRun). r.worker) e) ∙ q in
     (done, refl, cc, ap (λ (r : PartRun). r.stop) e)
 
@@ -290,19 +291,19 @@ module _ {K : Type 0} (task : Task K) (size : ℕ) (classes : List ℕ) (workers
     (table : List (Option (Done K))) (found : AreFoundByPart task size classes workers P S table)
   where
     abbrev pub runs : List PartRun
-    runs = runs_from size classes 0 table
+    runs = runs_from task.from size classes 0 table
 
     -- the runs of a table are runs of the stretches
     pub runs_are : AreRunsOf task size classes workers S (length table) runs
     runs_are = record {
-      count = runs_count size classes 0 table;
-      each = λ part run at. let x = run_back size classes table part run at in
+      count = runs_count task.from size classes 0 table;
+      each = λ part run at. let x = run_back task.from size classes table part run at in
           go part run x.0 x.1 x.2;
       once = λ i k w a b s t ea eb wa wb sa sb.
-          let x = run_back size classes table i a ea in
-          let y = run_back size classes table k b eb in
-          let u = begun (stretch size classes i) x.0 a w x.2 wa in
-          let v = begun (stretch size classes k) y.0 b w y.2 wb in
+          let x = run_back task.from size classes table i a ea in
+          let y = run_back task.from size classes table k b eb in
+          let u = begun task.from (stretch size classes i) x.0 a w x.2 wa in
+          let v = begun task.from (stretch size classes k) y.0 b w y.2 wb in
           let iu : slice_get table i ≡ Some (Some u.0) = x.1 ∙ ap Some u.1 in
           let iv : slice_get table k ≡ Some (Some v.0) = y.1 ∙ ap Some v.1 in
           let p = stopped_waits task size classes u.0.worker P S u.0 s (found.each i u.0 iu).2
@@ -314,7 +315,7 @@ module _ {K : Type 0} (task : Task K) (size : ℕ) (classes : List ℕ) (workers
       where
         go : (part : ℕ) (run : PartRun) (place : Option (Done K))
             → slice_get table part ≡ Some place
-            → run ≡ run_at (stretch size classes part) place
+            → run ≡ run_at task.from (stretch size classes part) place
             → (run.classes ≡ stretch size classes part)
             × HasRunSo task size classes workers S runs run run.worker
         go part run (Some done) at e =
@@ -342,12 +343,12 @@ module _ {K : Type 0} (task : Task K) (size : ℕ) (classes : List ℕ) (workers
     -- a gate that lets all pass leaves no class open
     none_waits : P → (class block : ℕ) → WaitsIn task runs class block → ⊥
     none_waits p class block x =
-        let y = run_back size classes table x.0 x.1 x.2 in
+        let y = run_back task.from size classes table x.0 x.1 x.2 in
         go x.0 y.0 y.1 (subst (λ (r : PartRun). IsOpenIn task r.classes r.stop class block) y.2 x.3)
       where
         go : (part : ℕ) (place : Option (Done K)) → slice_get table part ≡ Some place
-            → IsOpenIn task (run_at (stretch size classes part) place).classes
-            (run_at (stretch size classes part) place).stop class block → ⊥
+            → IsOpenIn task (run_at task.from (stretch size classes part) place).classes
+            (run_at task.from (stretch size classes part) place).stop class block → ⊥
         go part (Some done) at still_open =
             let f = found.each part done at in
             subst (λ s. IsOpenIn task (stretch size classes part) s class block) (f.2.passed p)
@@ -357,7 +358,7 @@ module _ {K : Type 0} (task : Task K) (size : ℕ) (classes : List ℕ) (workers
             still_open)).0 p
 
     -- the lowest class that waits
-    pub stretches_wait : (parts class block : ℕ) → IsCutOf task.job parts size classes
+    pub stretches_wait : (parts class block : ℕ) → IsCutOf task.job task.from parts size classes
         → length table ≡ parts
         → IsLowest (WaitsIn task runs) (Some (record { class = class; block = block }))
         → (class < length task.job.classes.representative)
@@ -411,8 +412,8 @@ module _ {K : Type 0} (task : Task K) (size : ℕ) (classes : List ℕ) (workers
                 low in
                 absurd (none v.class v.block (
                   part,
-                  run_at (stretch size classes part) (Some done),
-                  run_there size classes table part (Some done) at,
+                  run_at task.from (stretch size classes part) (Some done),
+                  run_there task.from size classes table part (Some done) at,
                   own.0,
                 ))
         go None at = pick (length (stretch size classes part)) refl
@@ -424,10 +425,10 @@ module _ {K : Type 0} (task : Task K) (size : ℕ) (classes : List ℕ) (workers
                 let some : 0 < length (stretch size classes part) = omega (arith, e) in
                 let x = unbegun_waits task first (stretch size classes part) some
                 (found.none part at some).1 in
-                absurd (none x.0 0 (
+                absurd (none x.0 task.from (
                   part,
-                  run_at {K = K} (stretch size classes part) None,
-                  run_there size classes table part None at,
+                  run_at {K = K} task.from (stretch size classes part) None,
+                  run_there task.from size classes table part None at,
                   x.1,
                 ))
 

@@ -177,17 +177,17 @@ past_empty (suc size) k classes le =
     omega (arith, high, more, n, m, at)
 
 -- and one below it has some
-pub below_filled : (job : Parts) (parts size k : ℕ) (classes : List ℕ)
-    → IsCutOf job parts size classes → k < stretch_count size classes
+pub below_filled : (job : Parts) (from parts size k : ℕ) (classes : List ℕ)
+    → IsCutOf job from parts size classes → k < stretch_count size classes
     → 0 < length (stretch size classes k)
-below_filled job parts zero k classes cut lt =
+below_filled job from parts zero k classes cut lt =
     let whole = (div_ceil_times (length classes) parts cut.some).0 in
     let none : div_ceil (length classes) parts * parts ≡ 0 =
     ap (λ n. n * parts) (sym cut.size_is) ∙ zero-mul parts in
     let low = (div_ceil_times (length classes) (max zero 1) (omega arith)).1 in
     let one = mul-one (stretch_count zero classes) in
     absurd (omega (arith, whole, none, low, one, lt))
-below_filled job parts (suc size) k classes cut lt =
+below_filled job from parts (suc size) k classes cut lt =
     let one : 0 < max (suc size) 1 = omega arith in
     let low = (div_ceil_times (length classes) (max (suc size) 1) one).1 in
     let le : suc k ≤ stretch_count (suc size) classes = omega (arith, lt) in
@@ -199,15 +199,15 @@ below_filled job parts (suc size) k classes cut lt =
     omega (arith, low, more, n, m, at, suc-mul k (max (suc size) 1), is)
 
 -- they are no more than all stretches
-pub filled_few : (job : Parts) (parts size : ℕ) (classes : List ℕ)
-    → IsCutOf job parts size classes → stretch_count size classes ≤ parts
-filled_few job parts size classes cut = go (cases_lt parts (stretch_count size classes))
+pub filled_few : (job : Parts) (from parts size : ℕ) (classes : List ℕ)
+    → IsCutOf job from parts size classes → stretch_count size classes ≤ parts
+filled_few job from parts size classes cut = go (cases_lt parts (stretch_count size classes))
   where
     go : (parts < stretch_count size classes) ⊎ (stretch_count size classes ≤ parts)
         → stretch_count size classes ≤ parts
     go (inr le) = le
     go (inl lt) =
-        let some = below_filled job parts size parts classes cut lt in
+        let some = below_filled job from parts size parts classes cut lt in
         let n = length-take size (drop (parts * size) classes) in
         let m = length-drop (parts * size) classes in
         let whole = (div_ceil_times (length classes) parts cut.some).0 in
@@ -216,9 +216,9 @@ filled_few job parts size classes cut = go (cases_lt parts (stretch_count size c
         absurd (omega (arith, some, n, m, whole, is))
 
 -- nor more than the classes, of which a ledger takes as many as a job has
-pub filled_max : (job : Parts) (parts size : ℕ) (classes : List ℕ) → BelongTogether job
-    → IsCutOf job parts size classes → stretch_count size classes ≤ max_pieces
-filled_max job parts size classes b cut =
+pub filled_max : (job : Parts) (from parts size : ℕ) (classes : List ℕ) → BelongTogether job
+    → IsCutOf job from parts size classes → stretch_count size classes ≤ max_pieces
+filled_max job from parts size classes b cut =
     let few = ceil_le (length classes) (max size 1) in
     let reps = class_count job b in
     let own = count_by-le-length (λ f. is_none (next job.circuit f))
@@ -278,7 +278,7 @@ pieces n crew = mul-one n
 
 module _ {Z : Type 0} {K : Type 0} (task : Task K) (parts size : ℕ) (classes : List ℕ) (workers : ℕ)
     (P : Type 0) (S : Stops) (back : List (Vec (Done K) Z)) (table : List (Option (Done K)))
-    (face : ClosedFace) (cut : IsCutOf task.job parts size classes) (many : 0 < workers)
+    (face : ClosedFace) (cut : IsCutOf task.job task.from parts size classes) (many : 0 < workers)
     (given : AreGivenBack parts back table)
     (all : AreShared task size classes (shape_of_stretches (stretch_count size classes)
     (crew_of workers (stretch_count size classes))) P S back face) where
@@ -343,7 +343,7 @@ module _ {Z : Type 0} {K : Type 0} (task : Task K) (parts size : ℕ) (classes :
   -- if a worker was stopped in a stretch, its place in the table has that
   stopped_there : (w : ℕ) (own : Vec (Done K) Z) (k : ℕ) (done : Done K) (v : Waiting)
       → slice_get back w ≡ Some own → slice_get own.items k ≡ Some done → done.waiting ≡ Some v
-      → (P → ⊥) × IsStoppedAmong task S (runs_from size classes 0 table) w
+      → (P → ⊥) × IsStoppedAmong task S (runs_from task.from size classes 0 table) w
   stopped_there w own k done v at there e = go (slice_get table done.part) refl
     where
       held : held_by w h ≡ Some done.part
@@ -352,11 +352,11 @@ module _ {Z : Type 0} {K : Type 0} (task : Task K) (parts size : ℕ) (classes :
       low : done.part < length table
       low =
           let a = held_piece shape w done.part h all.legal held in
-          let few = filled_few task.job parts size classes cut in
+          let few = filled_few task.job task.from parts size classes cut in
           omega (arith, a, few, given.count, pieces n crew)
 
       by_place : (one : Done K) → slice_get table done.part ≡ Some (Some one)
-          → (P → ⊥) × IsStoppedAmong task S (runs_from size classes 0 table) w
+          → (P → ⊥) × IsStoppedAmong task S (runs_from task.from size classes 0 table) w
       by_place one stands = pick one.waiting refl
         where
           g : (one.part ≡ done.part) × (thread : ℕ) × (given : Vec (Done K) Z)
@@ -369,7 +369,7 @@ module _ {Z : Type 0} {K : Type 0} (task : Task K) (parts size : ℕ) (classes :
           d = own_done g.1 g.2 g.4 one g.3 g.5
 
           pick : (x : Option Waiting) → one.waiting ≡ x
-              → (P → ⊥) × IsStoppedAmong task S (runs_from size classes 0 table) w
+              → (P → ⊥) × IsStoppedAmong task S (runs_from task.from size classes 0 table) w
           pick None q =
               let clear : entry one.part h ≡ state.Clear = subst (Stands g.1 h one.part) q d.1 in
               let still_open : entry done.part h ≡ state.Open = held_open w done.part h held in
@@ -383,9 +383,9 @@ module _ {Z : Type 0} {K : Type 0} (task : Task K) (parts size : ℕ) (classes :
                 y.0,
                 (
                   done.part,
-                  run_at (stretch size classes done.part) (Some one),
+                  run_at task.from (stretch size classes done.part) (Some one),
                   y.1,
-                  run_there size classes table done.part (Some one) stands,
+                  run_there task.from size classes table done.part (Some one) stands,
                   ap Some (d.0.worker_is ∙ same),
                   y.2,
                   subst (λ v. IsStopAt task (stretch size classes done.part) v S y.1) same
@@ -394,7 +394,7 @@ module _ {Z : Type 0} {K : Type 0} (task : Task K) (parts size : ℕ) (classes :
               )
 
       go : (place : Option (Option (Done K))) → slice_get table done.part ≡ place
-          → (P → ⊥) × IsStoppedAmong task S (runs_from size classes 0 table) w
+          → (P → ⊥) × IsStoppedAmong task S (runs_from task.from size classes 0 table) w
       go None q =
           let x = within_place table done.part low in
           let bad = sym q ∙ x.1 in absurd (cc)
@@ -403,13 +403,13 @@ module _ {Z : Type 0} {K : Type 0} (task : Task K) (parts size : ℕ) (classes :
 
   -- and if no worker began one, each was stopped
   all_stopped : (part : ℕ) → slice_get table part ≡ Some None → part < n → (w : ℕ) → w < crew
-      → (P → ⊥) × IsStoppedAmong task S (runs_from size classes 0 table) w
+      → (P → ⊥) × IsStoppedAmong task S (runs_from task.from size classes 0 table) w
   all_stopped part none low w lt =
       let x = within_place back w (omega (arith, lt, all.count)) in
       go x.0 x.1 (all.each w x.0 x.1).1
     where
       go : (own : Vec (Done K) Z) → slice_get back w ≡ Some own → EndsServing shape h own.items
-          → (P → ⊥) × IsStoppedAmong task S (runs_from size classes 0 table) w
+          → (P → ⊥) × IsStoppedAmong task S (runs_from task.from size classes 0 table) w
       go own at (inl full) =
           let free = unclaimed part none in
           absurd (omega (arith, full, free, low, pieces n crew))
@@ -463,14 +463,14 @@ module _ {Z : Type 0} {K : Type 0} (task : Task K) (parts size : ℕ) (classes :
       closed : (p : ℕ) → p < piece_count shape → entry p h ≢ state.Open
       closed p lt e =
           let low : p < n = omega (arith, lt, pieces n crew) in
-          let few = filled_few task.job parts size classes cut in
+          let few = filled_few task.job task.from parts size classes cut in
           let x = within_place table p (omega (arith, low, few, given.count)) in
           go x.0 x.1 (whole p x.0 x.1)
         where
           go : (place : Option (Done K)) → slice_get table p ≡ Some place
               → IsWholeAt size classes p place → ⊥
           go None at none =
-              let some = below_filled task.job parts size p classes cut (omega (
+              let some = below_filled task.job task.from parts size p classes cut (omega (
                 arith,
                 lt,
                 pieces n crew,
@@ -608,7 +608,7 @@ by_stretches {K} {Z} task size classes workers P S back kept closed all finished
 
 -- the same under other names
 pub stretches_under : {K : Type 0} (task : Task K) (count parts size : ℕ) (cut classes : List ℕ)
-    (workers : ℕ) (kept : List K) (closed : ClosedFace) → IsCutOf task.job count size cut
+    (workers : ℕ) (kept : List K) (closed : ClosedFace) → IsCutOf task.job task.from count size cut
     → count ≡ parts → cut ≡ classes → AreByStretches task size cut workers kept closed
     → AreByStretches task (stretch_size (length classes) parts) classes workers kept closed
 stretches_under {K} task count parts size cut classes workers kept closed is e f of =

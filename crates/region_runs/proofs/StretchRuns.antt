@@ -112,12 +112,13 @@ one_count place block k n m p q = go (cases_lt n m) (cases_lt m n)
 pub kept_at_first : {K : Type 0} (task : Task K) (classes : List ℕ) (kept : List K)
     → length kept ≡ length classes → ((k : ℕ) (one : K) → slice_get kept k ≡ Some one
     → IsAtFirst task one)
-    → AreKeptUpTo task classes 0 0 kept
+    → AreKeptUpTo task classes 0 task.from kept
 kept_at_first {K} task classes kept count first = record {
   count = count;
   each = λ hits k class n one ec ek h up.
-      let none : 0 ≡ n = one_count 0 0 k 0 n (done_high 0 0 k (omega arith)) up in
-      subst (λ m. task.means hits 0 m one) (omega (arith, none)) (first k one ek hits);
+      subst (λ m. task.means hits (64 * task.from) (64 * m) one)
+      (one_count 0 task.from k task.from n (done_high 0 task.from k (omega arith)) up)
+      (first k one ek hits (64 * task.from));
 }
 
 -- the class at a place is open as long as what is kept there wants more
@@ -126,7 +127,7 @@ pub still_open : {K : Type 0} (task : Task K) → IsSound task → (classes : Li
     → slice_get kept k ≡ Some one → task.wants one ≡ true → AreEarlier place block k n
     → AreKeptUpTo task classes place block kept → IsOpenAfter task class n
 still_open {K} task sound classes place block k class n kept one ec ek wanted up was =
-    λ hits other h means. sound.agrees other one hits 0 (64 * n) means
+    λ hits other h means. sound.agrees other one hits (64 * task.from) (64 * n) means
     (was.each hits k class n one ec ek h up) ∙ wanted
 
 -- a class of the list is one of the job's

@@ -10,7 +10,7 @@ use Rattle.region_runs.specs.Tasks.{Task}
 
 -- A place of a table of stretches has a worker's result for the stretch of this number, and if it
 -- is empty no worker began the stretch. Then the stretch has no class, or the gate stopped each
--- worker in one of the runs, so it does not let all pass, and there is a block. A worker leaves a
+-- worker in one of the runs, so it does not let all pass, and there is a block to run. A worker leaves a
 -- class open in at most one stretch.
 pub record AreFoundByPart {K : Type 0} (task : Task K) (size : ℕ) (classes : List ℕ) (workers : ℕ)
     (passing : Type 0) (stops : Stops) (table : List (Option (Done K))) : Type 0 where
@@ -19,8 +19,8 @@ pub record AreFoundByPart {K : Type 0} (task : Task K) (size : ℕ) (classes : L
       × IsDone task size classes done.worker passing stops done
   pub none : (part : ℕ) → slice_get table part ≡ Some None
       → 0 < length (stretch size classes part)
-      → (¬ passing) × (0 < blocks (length task.job.tests.tests))
-      × AreAllStopped task size classes workers stops (runs_from size classes 0 table)
+      → (¬ passing) × (task.from < blocks (length task.job.tests.tests))
+      × AreAllStopped task size classes workers stops (runs_from task.from size classes 0 table)
   pub once : (i k : ℕ) (a b : Done K) (v w : Waiting) → slice_get table i ≡ Some (Some a)
       → slice_get table k ≡ Some (Some b) → a.worker ≡ b.worker
       → a.waiting ≡ Some v → b.waiting ≡ Some w → i ≡ k

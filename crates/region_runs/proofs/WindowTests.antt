@@ -1,7 +1,7 @@
 -- The tests of a window, and which of them detect a fault.
-use Rattle.std.proofs.Common.{◌≡◌, ◌⊎◌, ◌<◌, ◌≤◌, ◌+◌, ◌*◌, ◌-◌, ◌∙◌, inl, inr, ℕ, zero, suc, List}
-use Rattle.std.proofs.Common.{Option, Some, None, refl, sym, subst, arith, length}
-use Rattle.std.proofs.lemmas.Bool.{cases_lt, lt-ltb}
+use Rattle.std.proofs.Common.{◌≡◌, ◌⊎◌, ◌<◌, ◌+◌, ◌*◌, ◌-◌, ◌∙◌, inl, inr, ℕ, zero, suc, List}
+use Rattle.std.proofs.Common.{Some, refl, sym, subst, arith, length, true, false}
+use Rattle.std.proofs.lemmas.Bool.{false≢true}
 use Rattle.std.proofs.lemmas.Option.{slice_get_within}
 use Rattle.std.specs.Prelude.{Bool}
 use Rattle.bench_net.specs.Statement.{Statement}
@@ -11,9 +11,10 @@ use Rattle.fault_model.specs.declared.Model.TheVariants.{StuckAt, Transition, Tr
 use Rattle.fault_model.specs.Detection.{DetectsAt, IsInitialized, LooksBack}
 use Rattle.fault_model.specs.Fault.{Fault}
 use Rattle.fault_model.specs.Solution.{Test}
-use Rattle.block_sim.specs.First.{IsFirst}
-use Rattle.workers.specs.Verdict.{IsFirstBelow}
-use Rattle.region_runs.specs.Windows.{IsWindowOf, moved}
+use Rattle.patterns.specs.Tests.{TestList}
+use Rattle.block_sim.specs.Parts.{Parts, with_tests}
+use Rattle.region_sim.specs.Goals.{AreHits}
+use Rattle.region_runs.specs.Windows.{IsWindowOf}
 
 -- a test of the window initializes a line if the test of the list does
 initialized_up : (c : List Statement) (tests window : List Test) (from end : ℕ) (l : Line)
@@ -82,59 +83,33 @@ detects_down c tests window from end f h k of even lt after d = (
   looks_down c tests window from end f.model f.line f.stuck h k of even lt after d.3,
 )
 
--- a test of the list from the first new one on is one of the window
-missed : (c : List Statement) (tests window : List Test) (from first end t : ℕ) (f : Fault) (h : ℕ)
-    → IsWindowOf tests from end window → from ≡ 2 * h → (from ≡ 0) ⊎ (from < first)
-    → from ≤ first → first ≤ t → t < from + length window → DetectsAt c tests f t
-    → DetectsAt c window f (t - from)
-missed c tests window from first end t f h of even after low reach lt d =
-    let there : t ≡ from + (t - from) = omega (arith, low, reach) in
-    detects_down c tests window from end f h (t - from) of even (omega (arith, low, reach, lt))
-    (go after) (subst (DetectsAt c tests f) there d)
+-- a test of the window is a hit if it is one of the list, unless it is the first of the window and
+-- the test before isn't there
+pub same_hits : (job : Parts) (some : TestList) (from end h class t : ℕ) (hits own : ℕ → Bool)
+    → IsWindowOf job.tests.tests from end some.tests → from ≡ 2 * h → (from ≡ 0) ⊎ (0 < t)
+    → from + t < end → AreHits job class hits → AreHits (with_tests job some) class own
+    → own t ≡ hits (from + t)
+same_hits job some from end h class t hits own of even after lt all mine =
+    go (own t) (hits (from + t)) refl refl
   where
-    go : (from ≡ 0) ⊎ (from < first) → (from ≡ 0) ⊎ (0 < t - from)
-    go (inl e) = inl e
-    go (inr below) = inr (omega (arith, below, reach))
+    same : mine.0 ≡ all.0
+    same =
+        let both : Some mine.0 ≡ Some all.0 = sym mine.1 ∙ all.1 in
+        cc
 
--- no test below the window's first new one detects the fault, so its first test there is the first
--- of the list
-pub first_after : (c : List Statement) (tests window : List Test) (from first end : ℕ) (f : Fault)
-    (h : ℕ) (r : Option ℕ) → IsWindowOf tests from end window → from ≡ 2 * h
-    → (from ≡ 0) ⊎ (from < first) → from ≤ first → end < 4294967296
-    → IsFirstBelow c tests first f None → IsFirst c window f r
-    → IsFirstBelow c tests end f (moved from r)
-first_after c tests window from first end f h (Some k) of even after low few known is =
-    let d = is.0 in
-    let lt = slice_get_within window k d.0 d.1 in
-    let small : k + from < 4294967296 = omega (arith, lt, of.within, few) in
-    let turn : from + k ≡ k + from = omega arith in
-    let is-moved : moved from (Some k) ≡ Some (k + from) =
-    rw (lt-ltb (k + from) 4294967296 small) refl in
-    subst (IsFirstBelow c tests end f) (sym is-moved) (
-      omega (arith, lt, of.within),
-      subst (DetectsAt c tests f) turn (detects_up c tests window from end f h k of even d),
-      λ t below there. go t below there (cases_lt t first),
-    )
-  where
-    go : (t : ℕ) → t < k + from → DetectsAt c tests f t → (t < first) ⊎ (first ≤ t) → ⊥
-    go t below there (inl x) = known t x there
-    go t below there (inr x) =
-        let lt = slice_get_within window k is.0.0 is.0.1 in
-        is.1 (t - from) (omega (arith, below, low, x))
-        (missed c tests window from first end t f h of even after low x
-        (omega (arith, below, lt)) there)
-first_after c tests window from first end f h None of even after low few known is =
-    λ t below there. go t below there (cases_lt t first)
-  where
-    go : (t : ℕ) → t < end → DetectsAt c tests f t → (t < first) ⊎ (first ≤ t) → ⊥
-    go t below there (inl x) = known t x there
-    go t below there (inr x) =
-        is (t - from) (missed c tests window from first end t f h of even after low x
-        (of.all t there.0 below there.1) there)
-
--- with no test past the number, the first test below it is the first
-pub first_of_all : (c : List Statement) (tests : List Test) (end : ℕ) (f : Fault) (r : Option ℕ)
-    → length tests ≤ end → IsFirstBelow c tests end f r → IsFirst c tests f r
-first_of_all c tests end f (Some t) all is = (is.1, is.2)
-first_of_all c tests end f None all is =
-    λ t d. is t (omega (arith, slice_get_within tests t d.0 d.1, all)) d
+    go : (a b : Bool) → own t ≡ a → hits (from + t) ≡ b → own t ≡ hits (from + t)
+    go true true e f = e ∙ sym f
+    go false false e f = e ∙ sym f
+    go true false e f =
+        let up = detects_up job.circuit job.tests.tests some.tests from end mine.0 h t of even
+        ((mine.2 t).0 e) in
+        let hit = (all.2 (from + t)).1
+        (subst (λ r. DetectsAt job.circuit job.tests.tests r (from + t)) same up) in
+        absurd (false≢true (sym f ∙ hit))
+    go false true e f =
+        let d = (all.2 (from + t)).0 f in
+        let within = of.all (from + t) d.0 lt d.1 in
+        let down = detects_down job.circuit job.tests.tests some.tests from end all.0 h t of even
+        (omega (arith, within)) after d in
+        let hit = (mine.2 t).1 (subst (λ r. DetectsAt job.circuit some.tests r t) (sym same) down) in
+        absurd (false≢true (sym e ∙ hit))

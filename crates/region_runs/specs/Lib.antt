@@ -7,5 +7,7 @@ pub mod BlockSweeps
 pub mod Stretches
 pub mod ListRunners
 pub mod Windows
+pub mod Joins
 pub mod WindowLedgers
+pub mod RunJobs
 pub mod Tasks

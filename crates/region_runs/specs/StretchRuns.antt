@@ -1,5 +1,6 @@
--- The run of one worker by itself over a list of classes: block after block, and on each block in
--- the order of the list. A class that more tests can't change is left out.
+-- The run of one worker by itself over a list of classes: block after block, from the first block
+-- whose tests count, and on each block in the order of the list. A class that more tests can't
+-- change is left out.
 use Rattle.std.specs.Prelude.{◌≡◌, ◌≢◌, ◌⊎◌, ◌↔◌, ◌<◌, ◌≤◌, ◌+◌, ◌*◌, ⊤, ℕ, Bool, List, [], ◌∷◌}
 use Rattle.std.specs.Prelude.{length, slice_get, true, All, Option, Some, None}
 use Rattle.std.specs.declared.vec.Vec.{Vec}
@@ -29,18 +30,19 @@ pub record AreKeptUpTo {K : Type 0} (task : Task K) (classes : List ℕ) (place 
   pub count : length kept ≡ length classes
   pub each : (hits : ℕ → Bool) (k class n : ℕ) (one : K) → slice_get classes k ≡ Some class
       → slice_get kept k ≡ Some one → AreHits task.job class hits → AreEarlier place block k n
-      → task.means hits 0 (64 * n) one
+      → task.means hits (64 * task.from) (64 * n) one
 
 -- more tests than those of the first n blocks can change what is kept of the class
 abbrev pub IsOpenAfter : {K : Type 0} → Task K → ℕ → ℕ → Type 0
 IsOpenAfter {K} task class n = (hits : ℕ → Bool) (one : K) → AreHits task.job class hits
-    → task.means hits 0 (64 * n) one → task.wants one ≡ true
+    → task.means hits (64 * task.from) (64 * n) one → task.wants one ≡ true
 
 -- the gate may stop the worker at a class of the list that the earlier blocks leave open
 pub record IsStopAt {K : Type 0} (task : Task K) (classes : List ℕ) (worker : ℕ) (stops : Stops)
     (stop : Stop) : Type 0 where
   pub class : ℕ
   pub at : slice_get classes stop.place ≡ Some class
+  pub low : task.from ≤ stop.block
   pub within : stop.block < blocks (length task.job.tests.tests)
   pub stopped : stops.may worker class stop.block
   pub still : IsOpenAfter task class stop.block
@@ -49,7 +51,8 @@ pub record IsStopAt {K : Type 0} (task : Task K) (classes : List ℕ) (worker : 
 -- open, so it surely stops the worker at none of these.
 abbrev pub ArePassed : {K : Type 0} → Task K → List ℕ → ℕ → Stops → ℕ → ℕ → Type 0
 ArePassed task classes worker stops place block = (k class b : ℕ) → slice_get classes k ≡ Some class
-    → IsEarlier k b place block → IsOpenAfter task class b → ¬ stops.must worker class b
+    → task.from ≤ b → IsEarlier k b place block → IsOpenAfter task class b
+    → ¬ stops.must worker class b
 
 -- the gate let it pass so up to the end of its run: at a piece, or after the last block
 abbrev pub HasPassed : {K : Type 0} → Task K → List ℕ → ℕ → Stops → Option Stop → Type 0
@@ -151,27 +154,27 @@ pub record PartRun : Type 0 where
   pub stop : Option Stop
 
 -- the point where the run of a stretch ended that no worker began
-abbrev pub at_first : Stop
-at_first = record { place = 0; block = 0 }
+abbrev pub at_first : ℕ → Stop
+at_first from = record { place = 0; block = from }
 
 -- the run of a stretch that no worker began: it ended before its first piece, if it has one
-abbrev pub unbegun_run : List ℕ → PartRun
-unbegun_run [] = record { classes = []; worker = None; stop = None }
-unbegun_run (class ∷ classes) =
-    record { classes = class ∷ classes; worker = None; stop = Some at_first }
+abbrev pub unbegun_run : ℕ → List ℕ → PartRun
+unbegun_run from [] = record { classes = []; worker = None; stop = None }
+unbegun_run from (class ∷ classes) =
+    record { classes = class ∷ classes; worker = None; stop = Some (at_first from) }
 
 -- the run of a stretch by a place of a table of stretches: a worker has this result, or none began
 -- it
-abbrev pub run_at : {K : Type 0} → List ℕ → Option (Done K) → PartRun
-run_at classes None = unbegun_run classes
-run_at classes (Some done) =
+abbrev pub run_at : {K : Type 0} → ℕ → List ℕ → Option (Done K) → PartRun
+run_at from classes None = unbegun_run from classes
+run_at from classes (Some done) =
     record { classes = classes; worker = Some done.worker; stop = done.stop }
 
--- the runs of the stretches in a table, from this stretch on
-abbrev pub runs_from : {K : Type 0} → ℕ → List ℕ → ℕ → List (Option (Done K)) → List PartRun
-runs_from size classes part [] = []
-runs_from size classes part (place ∷ table) =
-    run_at (stretch size classes part) place ∷ runs_from size classes (part + 1) table
+-- the runs of the stretches in a table, from this stretch on, if a run begins with this block
+abbrev pub runs_from : {K : Type 0} → ℕ → ℕ → List ℕ → ℕ → List (Option (Done K)) → List PartRun
+runs_from from size classes part [] = []
+runs_from from size classes part (place ∷ table) = run_at from (stretch size classes part) place
+    ∷ runs_from from size classes (part + 1) table
 
 -- the gate stopped this worker in one of the runs
 abbrev pub IsStoppedAmong : {K : Type 0} → Task K → Stops → List PartRun → ℕ → Type 0
@@ -193,7 +196,7 @@ abbrev pub HasRunSo : {K : Type 0} → Task K → ℕ → List ℕ → ℕ → S
 HasRunSo task size classes workers stops runs run (Some w) = (w < workers)
     × ((stop : Stop) → run.stop ≡ Some stop → IsStopAt task run.classes w stops stop)
     × HasPassed task run.classes w stops run.stop
-HasRunSo task size classes workers stops runs run None = (run ≡ unbegun_run run.classes)
+HasRunSo task size classes workers stops runs run None = (run ≡ unbegun_run task.from run.classes)
     × (0 < length run.classes → AreAllStopped task size classes workers stops runs)
 
 -- the runs of n stretches of classes; a worker is stopped in at most one of them
@@ -229,10 +232,10 @@ AreAllKept {K} task size classes table = (part : ℕ) (place : Option (Done K))
     → slice_get table part ≡ Some place → IsKeptAt task (stretch size classes part) place
 
 -- A place of a table of stretches has the lowest class of its stretch that isn't settled. An empty
--- place is right if there is a block, or the stretch has no class.
+-- place is right if there is a block to run, or the stretch has no class.
 abbrev pub IsLowestAt : {K : Type 0} → Task K → List ℕ → Option (Done K) → Type 0
-IsLowestAt task own None = 0 < length own → 0 < blocks (length task.job.tests.tests)
-IsLowestAt task own (Some done) = IsLowestIn task (run_at own (Some done)) done.waiting
+IsLowestAt task own None = 0 < length own → task.from < blocks (length task.job.tests.tests)
+IsLowestAt task own (Some done) = IsLowestIn task (run_at task.from own (Some done)) done.waiting
 
 -- all do
 abbrev pub AreAllLowest : {K : Type 0} → Task K → ℕ → List ℕ → List (Option (Done K)) → Type 0

@@ -1,64 +1,69 @@
 -- The ledgers of a run window by window: each window has one, which hands out stretches of the
--- classes that no window before detects.
-use Rattle.std.specs.Prelude.{◌≡◌, ◌*◌, ℕ, List, [], Option, None, All, map, filter, is_none, zip}
-use Rattle.std.specs.Prelude.{Some, length, slice_get, slice_index_or}
+-- classes that more tests can change.
+use Rattle.std.specs.Prelude.{◌≡◌, ◌*◌, ◌-◌, ℕ, Bool, List, [], Option, All, map, filter, zip}
+use Rattle.std.specs.Prelude.{Some, length, slice_get}
 use Rattle.patterns.specs.Tests.{TestList, blocks}
 use Rattle.block_sim.specs.Parts.{Parts, with_tests}
 use Rattle.fault_ledger.specs.Seats.{ClosedFace}
 use Rattle.workers.specs.Verdict.{VerdictList}
 use Rattle.region_runs.specs.declared.parts.PartVerdict.{PartVerdict}
-use Rattle.region_runs.specs.declared.parts.PartVerdict.TheVariants.{First, OtherPart}
+use Rattle.region_runs.specs.declared.parts.PartVerdict.TheVariants.{First}
 use Rattle.region_runs.specs.declared.windows.Window.{Window}
 use Rattle.region_sim.specs.ClassOrder.{AreAllByRegion}
-use Rattle.region_runs.specs.Part.{AreClassVerdicts, ArePartOf, stretch_size}
-use Rattle.region_runs.specs.Part.{stretches_for}
-use Rattle.region_runs.specs.Stretches.{AreOfStretches}
-use Rattle.region_runs.specs.Windows.{GoesOnFrom, IsWindowOf, advanced}
+use Rattle.region_runs.specs.Joins.{AreJoined}
+use Rattle.region_runs.specs.Part.{ArePartOf, stretch_size, stretches_for}
+use Rattle.region_runs.specs.Stretches.{AreByStretches}
+use Rattle.region_runs.specs.Tasks.{IsAtFirst, Task, first_tests}
+use Rattle.region_runs.specs.Windows.{GoesOnFrom, IsWindowOf}
 
--- the classes of a list that have no first test beside them
-abbrev pub open_classes : List ℕ → List (Option ℕ) → List ℕ
-open_classes classes firsts =
-    map (λ at. at.0) (filter (λ at. is_none at.1) (zip classes firsts))
+-- the classes of a list of which more tests can change what is kept
+abbrev pub open_classes : {K : Type 0} → (K → Bool) → List ℕ → List K → List ℕ
+open_classes wants classes kept = map (λ at. at.0) (filter (λ at. wants at.1) (zip classes kept))
 
--- The first tests of the classes of a list on the tests of a job were found stretch by stretch, in
--- a number of stretches that suits the workers.
-abbrev pub AreFoundByLedger : Parts → ℕ → List ℕ → List (Option ℕ) → ClosedFace → Type 0
-AreFoundByLedger job workers classes firsts ledger =
-    AreOfStretches job (stretch_size (length classes) (stretches_for (length classes) workers))
-    classes workers firsts ledger
+-- the task of a window: its own tests, from the block on that no window before has
+abbrev pub window_task : {K : Type 0} → Task K → TestList → Window → Task K
+window_task task tests window = record {
+  job = with_tests task.job tests;
+  from = window.first - window.from;
+  wants = task.wants;
+  means = task.means;
+}
 
--- A window ran the classes of a list that had no first test, on its own tests: a closed ledger of
--- their stretches shows a legal and finished history, in which each report stands for its stretch's
--- first tests. A class then has the first test that it had, or else that of the window.
-pub record HasRunWindow (job : Parts) (workers : ℕ) (classes : List ℕ) (window : Window)
-    (before after : List (Option ℕ)) : Type 0 where
+-- What is kept of the classes of a list was found stretch by stretch, in a number of stretches that
+-- suits the workers.
+abbrev pub AreFoundByLedger : {K : Type 0} → Task K → ℕ → List ℕ → List K → ClosedFace → Type 0
+AreFoundByLedger task workers classes kept ledger = AreByStretches task
+    (stretch_size (length classes) (stretches_for (length classes) workers)) classes workers kept
+    ledger
+
+-- A window ran the classes of a list that more tests could change, on its own tests: a closed
+-- ledger of their stretches shows a legal and finished history, in which each report stands for
+-- what is kept of its stretch. This was joined with what was kept before.
+pub record HasRunWindow {K : Type 0} (task : Task K) (workers : ℕ) (classes : List ℕ)
+    (window : Window) (before after : List K) : Type 0 where
   pub tests : TestList
-  pub are : IsWindowOf job.tests.tests (64 * window.from) (64 * window.end) tests.tests
-  pub firsts : List (Option ℕ)
+  pub are : IsWindowOf task.job.tests.tests (64 * window.from) (64 * window.end) tests.tests
+  pub found : List K
   pub ledger : ClosedFace
-  pub found : AreFoundByLedger (with_tests job tests) workers (open_classes classes before) firsts
-      ledger
-  pub table : List PartVerdict
-  pub by : AreClassVerdicts (length job.classes.representative) (open_classes classes before) firsts
-      (length (open_classes classes before)) table
-  pub after_is : after ≡ map (λ at. advanced (64 * window.from) at.1
-      (slice_index_or table at.0 OtherPart)) (zip classes before)
+  pub by : AreFoundByLedger (window_task task tests window) workers
+      (open_classes task.wants classes before) found ledger
+  pub joined : AreJoined task.wants task.means (64 * window.from) before found after
 
--- The first tests of the classes of a list on the blocks below one, found window by window: there
--- are none at first. Each window goes on from the block at which the one before it ends. Once no
--- class is open, no window runs any more.
-pub data AreOfWindows (job : Parts) (workers : ℕ) (classes : List ℕ) :
-    ℕ → List (Option ℕ) → Type 0 where
-  begins : (firsts : List (Option ℕ)) → length firsts ≡ length classes
-      → All (λ first. first ≡ None) firsts → AreOfWindows job workers classes 0 firsts
-  goes_on : (first : ℕ) (window : Window) (before after : List (Option ℕ))
-      → GoesOnFrom (blocks (length job.tests.tests)) first window
-      → AreOfWindows job workers classes first before
-      → HasRunWindow job workers classes window before after
-      → AreOfWindows job workers classes window.end after
-  settled : (block later : ℕ) (firsts : List (Option ℕ))
-      → AreOfWindows job workers classes block firsts → open_classes classes firsts ≡ []
-      → AreOfWindows job workers classes later firsts
+-- What is kept of the classes of a list, of the tests of the blocks below one, found window by
+-- window: at first that of no test. Each window goes on from the block at which the one before it
+-- ends. Once no test can change anything, no window runs any more.
+pub data AreOfWindows {K : Type 0} (task : Task K) (workers : ℕ) (classes : List ℕ) :
+    ℕ → List K → Type 0 where
+  begins : (kept : List K) → length kept ≡ length classes → All (λ one. IsAtFirst task one) kept
+      → AreOfWindows task workers classes 0 kept
+  goes_on : (first : ℕ) (window : Window) (before after : List K)
+      → GoesOnFrom (blocks (length task.job.tests.tests)) first window
+      → AreOfWindows task workers classes first before
+      → HasRunWindow task workers classes window before after
+      → AreOfWindows task workers classes window.end after
+  settled : (block later : ℕ) (kept : List K)
+      → AreOfWindows task workers classes block kept → open_classes task.wants classes kept ≡ []
+      → AreOfWindows task workers classes later kept
 
 -- The verdicts were found window by window, of all classes: the verdict on a fault is one that was
 -- found of its class.
@@ -66,7 +71,7 @@ pub record IsOfWindows (job : Parts) (workers : ℕ) (v : VerdictList) : Type 0 
   pub classes : List ℕ
   pub are : AreAllByRegion job classes
   pub firsts : List (Option ℕ)
-  pub of : AreOfWindows job workers classes (blocks (length job.tests.tests)) firsts
+  pub of : AreOfWindows (first_tests job) workers classes (blocks (length job.tests.tests)) firsts
   pub each : (i class : ℕ) (first : Option ℕ) → slice_get job.classes.class_of i ≡ Some class
       → slice_get v.firsts i ≡ Some first
       → (k : ℕ) × (slice_get classes k ≡ Some class) × (slice_get firsts k ≡ Some first)
@@ -78,7 +83,7 @@ pub record IsPartOfWindows (job : Parts) (parts part workers : ℕ)
   pub classes : List ℕ
   pub are : ArePartOf job parts part classes
   pub firsts : List (Option ℕ)
-  pub of : AreOfWindows job workers classes (blocks (length job.tests.tests)) firsts
+  pub of : AreOfWindows (first_tests job) workers classes (blocks (length job.tests.tests)) firsts
   pub each : (i class : ℕ) (first : Option ℕ) → slice_get job.classes.class_of i ≡ Some class
       → slice_get verdicts i ≡ Some (First first)
       → (k : ℕ) × (slice_get classes k ≡ Some class) × (slice_get firsts k ≡ Some first)

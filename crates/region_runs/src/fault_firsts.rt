@@ -1,7 +1,6 @@
 //! The verdicts of all faults, from the first tests of their classes in some order.
 
 ghost use Rattle.std.specs.Prelude.{◌≡◌, ◌+◌, ◌≤◌, ◌<◌, ◌^◌, IfOk, length, slice_index};
-ghost use Rattle.patterns.specs.Tests.{blocks};
 ghost use Rattle.workers.specs.Verdict.{blocks_after, pieces_after};
 ghost use Rattle.region_runs.specs.FaultFirsts.{AreFirstsFrom, HasFirsts, HaveFirsts, ServesFaults};
 ghost use Rattle.region_runs.specs.FaultFirsts.{first_at, firsts_of_faults};
@@ -249,12 +248,14 @@ fn blocks_after(first: Option<u32>, blocks: u32) -> u32
     }
 }
 
-/// Returns the verdicts of a run of all classes, by at most this number of threads.
+/// Returns the verdicts of a run of all classes on this number of blocks, by at most this number of
+/// threads.
 pub(crate) fn verdicts_in<R: Threads + Wait>(
     rt: &R,
     alloc: Global,
     job: &Job,
     ordered: &OrderedFirsts,
+    blocks: u32,
     workers: u32,
 ) -> Result<Verdicts, AllocError>
     requires serves { ServesFaults job.now ordered.now.positions.items ordered.now.firsts.items }
@@ -262,10 +263,9 @@ pub(crate) fn verdicts_in<R: Threads + Wait>(
     ensures firsts { IfOk result (λ v. v.firsts ≡ firsts_of_faults job.now
         ordered.now.positions.items ordered.now.firsts.items) }
     ensures skipped { IfOk result (λ v. v.skipped
-        ≡ pieces_after (blocks (length job.now.tests.tests)) ordered.now.firsts.items) }
+        ≡ pieces_after blocks ordered.now.firsts.items) }
 {
     let _faults = fault_count(job);
-    let blocks = job.tests().blocks();
     let skipped = skipped_after(&ordered.firsts, blocks);
     let firsts = first_tests(rt, alloc, job, ordered, workers)?;
     Ok(Verdicts::of(firsts, skipped))

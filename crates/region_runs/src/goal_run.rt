@@ -8,8 +8,7 @@ ghost use Rattle.region_runs.specs.Refused.{IsGoalFault};
 ghost use Rattle.region_runs.specs.Stretches.{AreByStretches};
 ghost use Rattle.region_runs.specs.Tasks.{AreKept, IsOpenAtFirst, task_of};
 
-use crate::parts::{Gathered, gather};
-use crate::stretches::Cut;
+use crate::parts::{ListRun, run_list_for};
 use block_sim::Job;
 use fault_ledger::Closed;
 use region_sim::Goal;
@@ -52,32 +51,30 @@ pub fn run_goal<A: Goal + Sync, G: Gate + Sync, R: Threads + Wait>(
 where
     A::Kept: Send,
     requires parts { 0 < parts }
-    requires wanted { IsOpenAtFirst (task_of job.now (A.wants goal.now) (A.means goal.now)) }
+    requires wanted { IsOpenAtFirst (task_of job.now 0 (A.wants goal.now) (A.means goal.now)) }
     ensures classes { IfOk result (λ run. AreAllByRegion job.now run.classes.items) }
     ensures positions { IfOk result (λ run.
         ArePositions run.classes.items run.positions.items) }
     ensures count { IfOk result (λ run.
         length run.positions.items ≡ length job.now.classes.representative) }
-    ensures kept { IfOk result (λ run. AreKept (task_of job.now (A.wants goal.now)
+    ensures kept { IfOk result (λ run. AreKept (task_of job.now 0 (A.wants goal.now)
         (A.means goal.now)) run.classes.items run.kept.items) }
     ensures workers { OnOk result ((0 < workers) × (workers ≤ 64)) }
-    ensures stretches { IfOk result (λ run. AreByStretches (task_of job.now (A.wants goal.now)
+    ensures stretches { IfOk result (λ run. AreByStretches (task_of job.now 0 (A.wants goal.now)
         (A.means goal.now)) (stretch_size (length run.classes.items) parts) run.classes.items
         workers run.kept.items run.ledger) }
-    ensures refused { IfErr result (IsGoalFault (task_of job.now (A.wants goal.now)
+    ensures refused { IfErr result (IsGoalFault (task_of job.now 0 (A.wants goal.now)
         (A.means goal.now)) parts workers (G.passing gate.now) (G.stops gate.now)) }
 {
     check_workers(workers)?;
     let order = class_order(alloc, job)?;
     let ClassOrder { classes, positions } = order;
-    let cut = Cut::new(job, classes, parts);
-    let gathered = gather(rt, alloc, job, &cut, workers, goal, gate)?;
-    let Gathered { kept, ledger } = gathered;
-    let Cut {
+    let done = run_list_for(rt, alloc, job, 0, classes, parts, workers, goal, gate)?;
+    let ListRun {
         classes,
-        parts: _parts,
-        size: _size,
-    } = cut;
+        kept,
+        ledger,
+    } = done;
     Ok(GoalRun {
         classes,
         positions,

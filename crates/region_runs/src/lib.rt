@@ -9,7 +9,7 @@
 //! [`run_in_parts`] runs all classes in some number of stretches, and [`run_open`] in a number that
 //! suits the workers. [`run_goal`] runs them for any [`region_sim::Goal`]. [`run_part`] runs the
 //! classes of one part of a run that several machines share. [`run_in_windows`] and
-//! [`run_part_in_windows`] do so on some blocks at a time. A [`ListRunner`] runs lists of classes
+//! [`run_part_in_windows`] do so on some blocks at a time, and a [`RunJob`] as its tests want it. A [`ListRunner`] runs lists of classes
 //! in its caller's thread.
 #![tactic(auto)]
 
@@ -20,9 +20,11 @@ mod list_runner;
 mod open_classes;
 mod open_run;
 mod parts;
+mod run_job;
 mod stretch_run;
 mod stretch_workers;
 mod stretches;
+mod window_goal;
 mod windows;
 
 pub use goal_run::{GoalRun, run_goal};
@@ -31,5 +33,9 @@ pub use open_run::{run_classes, run_open};
 pub use parts::{
     LedgerRun, PartVerdict, in_one_part, part_of, run_in_parts, run_over_ledger, run_part,
 };
+pub use run_job::RunJob;
 pub use stretches::{parts_for, stretches_for};
-pub use windows::{run_in_windows, run_part_in_windows, window_blocks, without_first};
+pub use window_goal::WindowGoal;
+pub use windows::{
+    WindowRun, run_goal_in_windows, run_in_windows, run_part_in_windows, window_blocks,
+};

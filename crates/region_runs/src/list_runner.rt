@@ -153,7 +153,7 @@ fn run_alone(
     let next = open.as_mut_slice();
     let found = firsts.as_mut_slice();
     let _stop = run_list(
-        job, listed, 0, simulation, &FirstTest, &OpenGate, next, found,
+        job, 0, listed, 0, simulation, &FirstTest, &OpenGate, next, found,
     );
     Ok(firsts)
 }

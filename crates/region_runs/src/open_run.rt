@@ -10,8 +10,8 @@ ghost use Rattle.region_runs.specs.Refused.{IsOpenFault};
 ghost use Rattle.region_runs.specs.Stretches.{IsOfStretches};
 
 use crate::class_order::count_in;
-use crate::parts::{Gathered, gather, run_in_parts};
-use crate::stretches::{Cut, parts_for, stretches_for};
+use crate::parts::{ListRun, run_in_parts, run_list_for};
+use crate::stretches::{parts_for, stretches_for};
 use block_sim::Job;
 use region_sim::FirstTest;
 use std::alloc::Global;
@@ -67,11 +67,14 @@ pub fn run_classes<R: Threads + Wait>(
 {
     check_workers(workers)?;
     let own = Vec::from_slice(alloc, classes)?;
-    let cut = Cut::new(job, own, stretches_for(count_in(job, classes), workers));
-    let gathered = gather(rt, alloc, job, &cut, workers, &FirstTest, &OpenGate)?;
-    let Gathered {
+    let stretches = stretches_for(count_in(job, classes), workers);
+    let done = run_list_for(
+        rt, alloc, job, 0, own, stretches, workers, &FirstTest, &OpenGate,
+    )?;
+    let ListRun {
+        classes: _classes,
         kept: firsts,
         ledger: _ledger,
-    } = gathered;
+    } = done;
     Ok(firsts)
 }

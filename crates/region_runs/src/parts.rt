@@ -5,13 +5,13 @@ ghost use Rattle.std.specs.Prelude.{OnOk, Some, length, map, slice_index_or, vec
 ghost use Rattle.patterns.specs.Tests.{blocks, max_pieces};
 ghost use Rattle.block_sim.specs.Parts.{BelongTogether, Parts};
 ghost use Rattle.fault_ledger.specs.Seats.{ClosedFace, Closes, Sitter, newcomers};
-ghost use Rattle.workers.specs.Verdict.{AreAfterHits, AreClassFirsts, AreFirsts};
+ghost use Rattle.workers.specs.Verdict.{AreAfterHits, AreFirsts};
 ghost use Rattle.workers.specs.Verdict.{blocks_after, pieces_after};
 ghost use Rattle.region_runs.specs.StretchRuns.{AreAllKept, AreAllLowest, AreGivenBack, ArePut};
 ghost use Rattle.region_runs.specs.StretchRuns.{IsLowest, IsLowestAt, IsLowestIn, WaitsIn, run_at};
 ghost use Rattle.region_runs.specs.StretchRuns.{runs_from};
 ghost use Rattle.region_runs.specs.Part.{AreClassVerdicts, ArePartVerdicts, IsInOnePart};
-ghost use Rattle.region_runs.specs.Part.{IsOfPart, first_in, stretch, stretch_count};
+ghost use Rattle.region_runs.specs.Part.{IsOfPart, first_in, stretch, stretch_count, stretch_size};
 ghost use Rattle.region_runs.specs.Cut.{IsCutOf};
 ghost use Rattle.region_runs.specs.Refused.{ArePartsWithin, IsPartFault, IsPartsFault};
 ghost use Rattle.region_runs.specs.Refused.{IsPartWithin};
@@ -172,11 +172,11 @@ pub fn run_part<G: Gate + Sync, R: Threads + Wait>(
     let own = part_classes(alloc, job, part, parts)?;
     let few = count_in(job, own.as_slice());
     check_pieces(job, few)?;
-    let cut = Cut::new(job, own, stretches_for(few, workers));
-    let gathered = gather(rt, alloc, job, &cut, workers, &FirstTest, gate)?;
+    let stretches = stretches_for(few, workers);
+    let done = run_list_for(rt, alloc, job, 0, own, stretches, workers, &FirstTest, gate)?;
     let count = job.classes().count();
-    let found = gathered.kept.as_slice();
-    let table = by_class(alloc, count, cut.classes.as_slice(), found)?;
+    let found = done.kept.as_slice();
+    let table = by_class(alloc, count, done.classes.as_slice(), found)?;
     let verdicts = of_faults(alloc, job, table.as_slice())?;
     Ok(verdicts)
 }
@@ -278,7 +278,8 @@ pub fn run_over_ledger<G: Gate + Sync, R: Threads + Wait>(
         ledger,
     } = done;
     let ordered = OrderedFirsts { positions, firsts };
-    let verdicts = verdicts_in(rt, alloc, job, &ordered, workers)?;
+    let blocks = job.tests().blocks();
+    let verdicts = verdicts_in(rt, alloc, job, &ordered, blocks, workers)?;
     Ok(LedgerRun { verdicts, ledger })
 }
 
@@ -342,11 +343,11 @@ fn joined<A: Goal>(
     goal: &A,
     table: Vec<Option<Done<A::Kept>>>,
 ) -> Result<Vec<A::Kept>, AllocError>
-    requires cut { IsCutOf job.now cut.now.parts cut.now.size cut.now.classes.items }
+    requires cut { IsCutOf job.now cut.now.from cut.now.parts cut.now.size cut.now.classes.items }
     requires count { vec_len table ≡ cut.now.parts }
-    requires kept { AreAllKept (task_of job.now (A.wants goal.now) (A.means goal.now))
+    requires kept { AreAllKept (task_of job.now cut.now.from (A.wants goal.now) (A.means goal.now))
         cut.now.size cut.now.classes.items table.items }
-    ensures { IfOk result (λ kept. AreKept (task_of job.now (A.wants goal.now) (A.means goal.now))
+    ensures { IfOk result (λ kept. AreKept (task_of job.now cut.now.from (A.wants goal.now) (A.means goal.now))
         cut.now.classes.items kept.items) }
 {
     let (_job, _goal) = (job, goal);
@@ -381,11 +382,11 @@ fn waiting_in<A: Goal>(
     goal: &A,
     place: Option<Done<A::Kept>>,
 ) -> Result<Option<Waiting>, AllocError>
-    requires cut { IsCutOf job.now cut.now.parts cut.now.size cut.now.classes.items }
-    requires lowest { IsLowestAt (task_of job.now (A.wants goal.now) (A.means goal.now))
+    requires cut { IsCutOf job.now cut.now.from cut.now.parts cut.now.size cut.now.classes.items }
+    requires lowest { IsLowestAt (task_of job.now cut.now.from (A.wants goal.now) (A.means goal.now))
         (stretch cut.now.size cut.now.classes.items part) place }
-    ensures { IfOk result (IsLowestIn (task_of job.now (A.wants goal.now) (A.means goal.now))
-        (run_at (stretch cut.now.size cut.now.classes.items part) place)) }
+    ensures { IfOk result (IsLowestIn (task_of job.now cut.now.from (A.wants goal.now) (A.means goal.now))
+        (run_at cut.now.from (stretch cut.now.size cut.now.classes.items part) place)) }
 {
     match place {
         Some(done) => Ok(done.waiting),
@@ -401,12 +402,12 @@ fn lowest_waiting<A: Goal>(
     goal: &A,
     table: Vec<Option<Done<A::Kept>>>,
 ) -> Result<Option<Waiting>, AllocError>
-    requires cut { IsCutOf job.now cut.now.parts cut.now.size cut.now.classes.items }
+    requires cut { IsCutOf job.now cut.now.from cut.now.parts cut.now.size cut.now.classes.items }
     requires count { vec_len table ≡ cut.now.parts }
-    requires lowest { AreAllLowest (task_of job.now (A.wants goal.now) (A.means goal.now))
+    requires lowest { AreAllLowest (task_of job.now cut.now.from (A.wants goal.now) (A.means goal.now))
         cut.now.size cut.now.classes.items table.items }
-    ensures { IfOk result (IsLowest (WaitsIn (task_of job.now (A.wants goal.now) (A.means goal.now))
-        (runs_from cut.now.size cut.now.classes.items 0 table.items))) }
+    ensures { IfOk result (IsLowest (WaitsIn (task_of job.now cut.now.from (A.wants goal.now) (A.means goal.now))
+        (runs_from cut.now.from cut.now.size cut.now.classes.items 0 table.items))) }
 {
     let mut lowest = None;
     let mut part = 0;
@@ -506,11 +507,11 @@ fn hand_out<A: Goal + Sync, G: Gate + Sync, R: Threads + Wait>(
 ) -> Result<Handed<A::Kept>, RunFault>
 where
     A::Kept: Send,
-    requires cut { IsCutOf job.now cut.now.parts cut.now.size cut.now.classes.items }
+    requires cut { IsCutOf job.now cut.now.from cut.now.parts cut.now.size cut.now.classes.items }
     requires workers { (0 < workers) × (workers ≤ 64) }
     ensures shared { IfOk result (λ handed.
         let stretches = stretch_count cut.now.size cut.now.classes.items in
-        AreShared (task_of job.now (A.wants goal.now) (A.means goal.now)) cut.now.size
+        AreShared (task_of job.now cut.now.from (A.wants goal.now) (A.means goal.now)) cut.now.size
         cut.now.classes.items (shape_of_stretches stretches (crew_of workers stretches))
         (G.passing gate.now) (G.stops gate.now) handed.dones.items handed.ledger) }
     ensures refused { IfErr result (λ fault.
@@ -526,13 +527,13 @@ where
 
 /// What is kept of classes that ran in stretches, and the closed ledger of these.
 #[derive(Drop)]
-pub(crate) struct Gathered<K> {
-    pub(crate) kept: Vec<K>,
-    pub(crate) ledger: Closed,
+struct Gathered<K> {
+    kept: Vec<K>,
+    ledger: Closed,
 }
 
 /// Runs all stretches, each by one worker. The closed ledger shows whether all classes are settled.
-pub(crate) fn gather<A: Goal + Sync, G: Gate + Sync, R: Threads + Wait>(
+fn gather<A: Goal + Sync, G: Gate + Sync, R: Threads + Wait>(
     rt: &R,
     alloc: Global,
     job: &Job,
@@ -543,17 +544,17 @@ pub(crate) fn gather<A: Goal + Sync, G: Gate + Sync, R: Threads + Wait>(
 ) -> Result<Gathered<A::Kept>, RunFault>
 where
     A::Kept: Send,
-    requires cut { IsCutOf job.now cut.now.parts cut.now.size cut.now.classes.items }
+    requires cut { IsCutOf job.now cut.now.from cut.now.parts cut.now.size cut.now.classes.items }
     requires workers { (0 < workers) × (workers ≤ 64) }
-    requires wanted { IsOpenAtFirst (task_of job.now (A.wants goal.now) (A.means goal.now)) }
+    requires wanted { IsOpenAtFirst (task_of job.now cut.now.from (A.wants goal.now) (A.means goal.now)) }
     ensures kept { IfOk result (λ gathered. AreKept
-        (task_of job.now (A.wants goal.now) (A.means goal.now)) cut.now.classes.items
+        (task_of job.now cut.now.from (A.wants goal.now) (A.means goal.now)) cut.now.classes.items
         gathered.kept.items) }
     ensures stretches { IfOk result (λ gathered. AreByStretches
-        (task_of job.now (A.wants goal.now) (A.means goal.now)) cut.now.size
+        (task_of job.now cut.now.from (A.wants goal.now) (A.means goal.now)) cut.now.size
         cut.now.classes.items workers gathered.kept.items gathered.ledger) }
     ensures refused { IfErr result (IsStretchesFault
-        (task_of job.now (A.wants goal.now) (A.means goal.now)) cut.now.size
+        (task_of job.now cut.now.from (A.wants goal.now) (A.means goal.now)) cut.now.size
         cut.now.classes.items cut.now.parts workers (G.passing gate.now) (G.stops gate.now)) }
 {
     let _tests = job.tests();
@@ -573,4 +574,63 @@ where
             None => unreachable!(),
         },
     }
+}
+
+/// The run of a list of classes for a goal.
+#[derive(Drop)]
+pub(crate) struct ListRun<K> {
+    /// The classes.
+    pub(crate) classes: Vec<u32>,
+    /// What the goal keeps of each.
+    pub(crate) kept: Vec<K>,
+    /// The closed ledger that handed out the stretches.
+    pub(crate) ledger: Closed,
+}
+
+/// Runs a list of classes for a goal, on the blocks from one on and in a number of stretches, which
+/// workers claim at a ledger that all share.
+pub(crate) fn run_list_for<A: Goal + Sync, G: Gate + Sync, R: Threads + Wait>(
+    rt: &R,
+    alloc: Global,
+    job: &Job,
+    from: u32,
+    classes: Vec<u32>,
+    stretches: u32,
+    workers: u32,
+    goal: &A,
+    gate: &G,
+) -> Result<ListRun<A::Kept>, RunFault>
+where
+    A::Kept: Send,
+    requires from { from ≤ blocks (length job.now.tests.tests) }
+    requires some { 0 < stretches }
+    requires few { length classes.items ≤ length job.now.classes.representative }
+    requires within { All (λ class. class < length job.now.classes.representative)
+        classes.items }
+    requires workers { (0 < workers) × (workers ≤ 64) }
+    requires wanted { IsOpenAtFirst (task_of job.now from (A.wants goal.now) (A.means goal.now)) }
+    ensures classes { IfOk result (λ run. run.classes.items ≡ classes.items) }
+    ensures kept { IfOk result (λ run. AreKept (task_of job.now from (A.wants goal.now)
+        (A.means goal.now)) classes.items run.kept.items) }
+    ensures stretches { IfOk result (λ run. AreByStretches (task_of job.now from
+        (A.wants goal.now) (A.means goal.now)) (stretch_size (length classes.items) stretches)
+        classes.items workers run.kept.items run.ledger) }
+    ensures refused { IfErr result (IsStretchesFault (task_of job.now from (A.wants goal.now)
+        (A.means goal.now)) (stretch_size (length classes.items) stretches) classes.items
+        stretches workers (G.passing gate.now) (G.stops gate.now)) }
+{
+    let cut = Cut::new(job, from, classes, stretches);
+    let gathered = gather(rt, alloc, job, &cut, workers, goal, gate)?;
+    let Gathered { kept, ledger } = gathered;
+    let Cut {
+        from: _from,
+        classes,
+        parts: _parts,
+        size: _size,
+    } = cut;
+    Ok(ListRun {
+        classes,
+        kept,
+        ledger,
+    })
 }

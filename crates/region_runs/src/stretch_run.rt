@@ -36,11 +36,12 @@ pub(crate) struct Waiting {
     pub(crate) block: u32,
 }
 
-/// Simulates the classes of a list on every block, one block after another, until the gate stops
-/// the worker. It skips a class that more tests can't change. If the gate lets every piece pass, it
+/// Simulates the classes of a list on every block from one on, one block after another, until the
+/// gate stops the worker. It skips a class that more tests can't change. If the gate lets every piece pass, it
 /// leaves out the dead classes at the end of the list.
 pub(crate) fn run_list<A: Goal, G: Gate>(
     job: &Job,
+    from: u32,
     rows: &[ListedClass],
     worker: u32,
     simulation: &mut RegionSimulation,
@@ -49,26 +50,27 @@ pub(crate) fn run_list<A: Goal, G: Gate>(
     next: &mut [usize],
     kept: &mut [A::Kept],
 ) -> Option<Stop>
+    requires from { from ≤ blocks (length job.now.tests.tests) }
     requires rows { All (IsListed job.now) rows.now }
     requires serves { ServesRegions simulation.old job.now (length rows.now) }
-    requires none { AreKeptUpTo (task_of job.now (A.wants goal.now) (A.means goal.now))
-        (classes_of rows.now) 0 0 kept.old }
+    requires none { AreKeptUpTo (task_of job.now from (A.wants goal.now) (A.means goal.now))
+        (classes_of rows.now) 0 from kept.old }
     requires next { AreSuccessors next.old }
     requires places { length next.old ≡ length rows.now }
-    ensures ended { HasEnded (task_of job.now (A.wants goal.now) (A.means goal.now))
+    ensures ended { HasEnded (task_of job.now from (A.wants goal.now) (A.means goal.now))
         (classes_of rows.now) worker (G.stops gate.now) result kept.new }
     ensures passing { G.passing gate.now → result ≡ None }
     ensures serves { ServesRegions simulation.new job.now 0 }
 {
     if !gate.lets_all_pass() {
-        return run_rows(job, rows, worker, simulation, goal, gate, next, kept);
+        return run_rows(job, from, rows, worker, simulation, goal, gate, next, kept);
     }
     let blocks = job.tests().blocks();
     let (live, dead) = rows.split_at(live_end(job, rows));
     let (open, _dead) = next.split_at_mut(live.len());
     let (found, _dead) = kept.split_at_mut(live.len());
-    let stop = run_rows(job, live, worker, simulation, goal, gate, open, found);
-    ask_dead(dead, worker, blocks, gate);
+    let stop = run_rows(job, from, live, worker, simulation, goal, gate, open, found);
+    ask_dead(dead, worker, from, blocks, gate);
     stop
 }
 
@@ -85,14 +87,15 @@ fn live_end(job: &Job, rows: &[ListedClass]) -> usize
     end
 }
 
-/// Asks the gate, which lets every piece pass, for the dead classes of a list on this number of
-/// blocks. A gate that draws the progress takes them for a part of their own.
-fn ask_dead<G: Gate>(rows: &[ListedClass], worker: u32, blocks: u32, gate: &G)
+/// Asks the gate, which lets every piece pass, for the dead classes of a list on the blocks from
+/// one up to another, which is not included. A gate that draws the progress takes them for a part
+/// of their own.
+fn ask_dead<G: Gate>(rows: &[ListedClass], worker: u32, from: u32, blocks: u32, gate: &G)
     requires { G.passing gate.now }
-    ensures { (block : ℕ) → block < blocks
+    ensures { (block : ℕ) → from ≤ block → block < blocks
         → AreAllNotStopped rows.now worker (G.stops gate.now) block (length rows.now) }
 {
-    for block in 0..blocks {
+    for block in from..blocks {
         ask_rows(rows, worker, block, gate);
     }
 }
@@ -113,6 +116,7 @@ fn ask_rows<G: Gate>(rows: &[ListedClass], worker: u32, block: u32, gate: &G)
 /// these are simulated. A gate that may stop the worker gets one block at a time.
 fn run_rows<A: Goal, G: Gate>(
     job: &Job,
+    from: u32,
     rows: &[ListedClass],
     worker: u32,
     simulation: &mut RegionSimulation,
@@ -121,18 +125,19 @@ fn run_rows<A: Goal, G: Gate>(
     next: &mut [usize],
     kept: &mut [A::Kept],
 ) -> Option<Stop>
+    requires from { from ≤ blocks (length job.now.tests.tests) }
     requires rows { All (IsListed job.now) rows.now }
     requires serves { ServesRegions simulation.old job.now (length rows.now) }
-    requires none { AreKeptUpTo (task_of job.now (A.wants goal.now) (A.means goal.now))
-        (classes_of rows.now) 0 0 kept.old }
+    requires none { AreKeptUpTo (task_of job.now from (A.wants goal.now) (A.means goal.now))
+        (classes_of rows.now) 0 from kept.old }
     requires next { AreSuccessors next.old }
     requires places { length next.old ≡ length rows.now }
-    ensures ended { HasEnded (task_of job.now (A.wants goal.now) (A.means goal.now))
+    ensures ended { HasEnded (task_of job.now from (A.wants goal.now) (A.means goal.now))
         (classes_of rows.now) worker (G.stops gate.now) result kept.new }
     ensures passing { G.passing gate.now → result ≡ None }
     ensures serves { ServesRegions simulation.new job.now 0 }
 {
-    let mut block = 0;
+    let mut block = from;
     while block < job.tests().blocks() {
         let span = span_from(job, block, gate);
         let place = ask_open(rows, worker, block, goal, gate, next, kept);
@@ -302,17 +307,19 @@ fn row_at(rows: &[ListedClass], place: usize) -> ListedClass
 pub(crate) fn lowest_open<A: Goal>(
     job: &Job,
     classes: &[u32],
+    from: u32,
     stop: Stop,
     goal: &A,
     kept: &[A::Kept],
 ) -> Option<Waiting>
     requires classes { All (λ class. class < length job.now.classes.representative) classes.now }
-    requires found { AreKeptUpTo (task_of job.now (A.wants goal.now) (A.means goal.now))
+    requires found { AreKeptUpTo (task_of job.now from (A.wants goal.now) (A.means goal.now))
         classes.now stop.place stop.block kept.now }
     requires block { stop.block < blocks (length job.now.tests.tests) }
-    ensures { IsLowest (IsOpenIn (task_of job.now (A.wants goal.now) (A.means goal.now))
+    ensures { IsLowest (IsOpenIn (task_of job.now from (A.wants goal.now) (A.means goal.now))
         classes.now (Some stop)) result }
 {
+    let _from = from;
     let blocks = job.tests().blocks();
     let mut lowest = None;
     for place in 0..classes.len() {

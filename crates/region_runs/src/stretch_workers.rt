@@ -74,9 +74,9 @@ pub(crate) fn run_alone<A: Goal, G: Gate>(
     goal: &A,
     gate: &G,
 ) -> Result<Done<A::Kept>, AllocError>
-    requires cut { IsCutOf job.now cut.now.parts cut.now.size cut.now.classes.items }
+    requires cut { IsCutOf job.now cut.now.from cut.now.parts cut.now.size cut.now.classes.items }
     requires serves { ServesRegions member.old.simulation job.now 0 }
-    ensures done { IfOk result (IsDone (task_of job.now (A.wants goal.now) (A.means goal.now))
+    ensures done { IfOk result (IsDone (task_of job.now cut.now.from (A.wants goal.now) (A.means goal.now))
         cut.now.size cut.now.classes.items member.old.number (G.passing gate.now)
         (G.stops gate.now)) }
     ensures part { IfOk result (λ done. done.part ≡ part) }
@@ -93,9 +93,12 @@ pub(crate) fn run_alone<A: Goal, G: Gate>(
     let listed = rows.as_slice();
     let next = open.as_mut_slice();
     let found = kept.as_mut_slice();
-    let stop = run_list(job, listed, worker, simulation, goal, gate, next, found);
+    let from = cut.from;
+    let stop = run_list(
+        job, from, listed, worker, simulation, goal, gate, next, found,
+    );
     let waiting = match stop {
-        Some(stop) => lowest_open(job, own, stop, goal, kept.as_slice()),
+        Some(stop) => lowest_open(job, own, from, stop, goal, kept.as_slice()),
         None => None,
     };
     Ok(Done {
@@ -114,8 +117,8 @@ pub(crate) fn starts<A: Goal>(
     count: usize,
 ) -> Result<Vec<A::Kept>, AllocError>
     ensures count { IfOk result (λ kept. vec_len kept ≡ count) }
-    ensures first { IfOk result (λ kept. All (λ one. (hits : ℕ → Bool)
-        → A.means goal.now hits 0 0 one) kept.items) }
+    ensures first { IfOk result (λ kept. All (λ one. (hits : ℕ → Bool) (at : ℕ)
+        → A.means goal.now hits at at one) kept.items) }
 {
     let mut kept = Vec::with_capacity(alloc, count)?;
     for _place in 0..count {
@@ -124,8 +127,8 @@ pub(crate) fn starts<A: Goal>(
     Ok(kept)
 }
 
-/// Returns the lowest class of a stretch that no worker began, which waits for block 0; none if the
-/// stretch has no class.
+/// Returns the lowest class of a stretch that no worker began, which waits for the first block of
+/// the run; none if the stretch has no class.
 pub(crate) fn not_begun<A: Goal>(
     alloc: Global,
     job: &Job,
@@ -133,19 +136,23 @@ pub(crate) fn not_begun<A: Goal>(
     part: u32,
     goal: &A,
 ) -> Result<Option<Waiting>, AllocError>
-    requires cut { IsCutOf job.now cut.now.parts cut.now.size cut.now.classes.items }
+    requires cut { IsCutOf job.now cut.now.from cut.now.parts cut.now.size cut.now.classes.items }
     requires block { 0 < length (stretch cut.now.size cut.now.classes.items part)
-        → 0 < blocks (length job.now.tests.tests) }
-    ensures { IfOk result (IsLowestIn (task_of job.now (A.wants goal.now) (A.means goal.now))
-        (unbegun_run (stretch cut.now.size cut.now.classes.items part))) }
+        → cut.now.from < blocks (length job.now.tests.tests) }
+    ensures { IfOk result (IsLowestIn (task_of job.now cut.now.from (A.wants goal.now) (A.means goal.now))
+        (unbegun_run cut.now.from (stretch cut.now.size cut.now.classes.items part))) }
 {
     let own = cut.stretch(part);
     if own.is_empty() {
         return Ok(None);
     }
     let kept = starts(alloc, goal, own.len())?;
-    let stop = Stop { place: 0, block: 0 };
-    Ok(lowest_open(job, own, stop, goal, kept.as_slice()))
+    let from = cut.from;
+    let stop = Stop {
+        place: 0,
+        block: from,
+    };
+    Ok(lowest_open(job, own, from, stop, goal, kept.as_slice()))
 }
 
 /// The result of a worker: its seat, and its results for the stretches that it claimed.
@@ -204,11 +211,11 @@ fn run_held<A: Goal, G: Gate>(
     goal: &A,
     gate: &G,
 ) -> Result<Done<A::Kept>, AllocError>
-    requires cut { IsCutOf job.now cut.now.parts cut.now.size cut.now.classes.items }
+    requires cut { IsCutOf job.now cut.now.from cut.now.parts cut.now.size cut.now.classes.items }
     requires place { seat.old.place ≡ ledger.now }
     requires holding { held_by seat.old.worker seat.old.seen ≡ Some part }
     requires serves { ServesRegions member.old.simulation job.now 0 }
-    ensures done { IfOk result (IsDone (task_of job.now (A.wants goal.now) (A.means goal.now))
+    ensures done { IfOk result (IsDone (task_of job.now cut.now.from (A.wants goal.now) (A.means goal.now))
         cut.now.size cut.now.classes.items member.old.number (G.passing gate.now)
         (G.stops gate.now)) }
     ensures part { IfOk result (λ done. done.part ≡ part) }
@@ -233,11 +240,11 @@ fn serve_seat<A: Goal, G: Gate>(
     gate: &G,
     seat: &mut Seat,
 ) -> Result<Vec<Done<A::Kept>>, AllocError>
-    requires cut { IsCutOf job.now cut.now.parts cut.now.size cut.now.classes.items }
+    requires cut { IsCutOf job.now cut.now.from cut.now.parts cut.now.size cut.now.classes.items }
     requires stretches { ledger.now.shape.tests ≡ 64 }
     requires new { seat.old ≡ newcomer ledger.now seat.old.worker }
     ensures { IfOk result (λ dones. HasServed
-        (task_of job.now (A.wants goal.now) (A.means goal.now)) cut.now.size
+        (task_of job.now cut.now.from (A.wants goal.now) (A.means goal.now)) cut.now.size
         cut.now.classes.items ledger.now seat.old.worker (G.passing gate.now) (G.stops gate.now)
         seat.new dones.items) }
 {
@@ -267,11 +274,11 @@ fn serve<A: Goal, G: Gate>(
     gate: &G,
     seat: Seat,
 ) -> Result<Served<A::Kept>, AllocError>
-    requires cut { IsCutOf job.now cut.now.parts cut.now.size cut.now.classes.items }
+    requires cut { IsCutOf job.now cut.now.from cut.now.parts cut.now.size cut.now.classes.items }
     requires stretches { ledger.now.shape.tests ≡ 64 }
     requires new { seat ≡ newcomer ledger.now seat.worker }
     ensures { IfOk result (λ served. HasServed
-        (task_of job.now (A.wants goal.now) (A.means goal.now)) cut.now.size
+        (task_of job.now cut.now.from (A.wants goal.now) (A.means goal.now)) cut.now.size
         cut.now.classes.items ledger.now seat.worker (G.passing gate.now) (G.stops gate.now)
         served.seat served.dones.items) }
 {
@@ -301,7 +308,7 @@ where
     ghost use Rattle.region_runs.specs.Tasks.{task_of};
 
     ghost kept_by = { λ p r. IfOk r (λ served.
-        HasServed (task_of p.job.value (A.wants p.goal.value) (A.means p.goal.value))
+        HasServed (task_of p.job.value p.cut.value.from (A.wants p.goal.value) (A.means p.goal.value))
         p.cut.value.size p.cut.value.classes.items p.ledger.value p.worker
         (G.passing p.gate.value) (G.stops p.gate.value) served.seat served.dones.items) };
 }
@@ -319,11 +326,11 @@ pub(crate) fn take_parts<A: Goal + Sync, G: Gate + Sync, R: Threads + Wait>(
 ) -> Result<Vec<Result<Served<A::Kept>, AllocError>>, RunFault>
 where
     A::Kept: Send,
-    requires cut { IsCutOf job.now cut.now.parts cut.now.size cut.now.classes.items }
+    requires cut { IsCutOf job.now cut.now.from cut.now.parts cut.now.size cut.now.classes.items }
     requires stretches { ledger.now.shape.tests ≡ 64 }
     requires new { seats.items ≡ newcomers ledger.now }
     ensures served { IfOk result (λ back.
-        AreServed (task_of job.now (A.wants goal.now) (A.means goal.now)) cut.now.size
+        AreServed (task_of job.now cut.now.from (A.wants goal.now) (A.means goal.now)) cut.now.size
         cut.now.classes.items ledger.now (G.passing gate.now) (G.stops gate.now) back.items) }
     ensures refused { IfErr result (λ fault.
         (fault ≡ RunFault.Memory) ⊎ (fault ≡ RunFault.Threads)) }
@@ -332,11 +339,11 @@ where
         thread::scope_env(),
         rt,
         |scope| -> Result<Vec<Result<Served<A::Kept>, AllocError>>, RunFault>
-            requires cut { IsCutOf job.now cut.now.parts cut.now.size cut.now.classes.items }
+            requires cut { IsCutOf job.now cut.now.from cut.now.parts cut.now.size cut.now.classes.items }
             requires stretches { ledger.now.shape.tests ≡ 64 }
             requires new { seats.items ≡ newcomers ledger.now }
             ensures served { IfOk result (λ back.
-                AreServed (task_of job.entry.now (A.wants goal.entry.now) (A.means goal.entry.now))
+                AreServed (task_of job.entry.now cut.entry.now.from (A.wants goal.entry.now) (A.means goal.entry.now))
                 cut.entry.now.size cut.entry.now.classes.items ledger.entry.now
                 (G.passing gate.entry.now) (G.stops gate.entry.now) back.items) }
             ensures refused { IfErr result (λ fault.

@@ -1,7 +1,7 @@
 //! The stretches into which the classes of a run are cut.
 
 ghost use Rattle.std.specs.Prelude.{◌≡◌, ◌<◌, ◌≤◌, All, length};
-ghost use Rattle.patterns.specs.Tests.{max_pieces};
+ghost use Rattle.patterns.specs.Tests.{blocks, max_pieces};
 ghost use Rattle.region_runs.specs.Part.{parts_for, stretch, stretch_count, stretches_for};
 ghost use Rattle.region_runs.specs.Cut.{IsCutOf};
 
@@ -42,10 +42,12 @@ pub fn parts_for(job: &Job, workers: u32) -> u32
     stretches_for(job.classes().count(), workers)
 }
 
-/// Classes of a job, cut into stretches of one size. The last stretches have fewer classes, or
-/// none.
+/// Classes of a job, cut into stretches of one size, to be run from a block on. The last stretches
+/// have fewer classes, or none.
 #[derive(Drop)]
 pub(crate) struct Cut {
+    /// The block with which the run begins.
+    pub(crate) from: u32,
     /// The numbers of the classes.
     pub(crate) classes: Vec<u32>,
     /// The number of stretches.
@@ -55,18 +57,21 @@ pub(crate) struct Cut {
 }
 
 impl Cut {
-    /// Cuts classes of a job into this number of stretches.
-    pub(crate) fn new(job: &Job, classes: Vec<u32>, parts: u32) -> Cut
+    /// Cuts classes of a job, to be run from a block on, into this number of stretches.
+    pub(crate) fn new(job: &Job, from: u32, classes: Vec<u32>, parts: u32) -> Cut
+        requires from { from ≤ blocks (length job.now.tests.tests) }
         requires parts { 0 < parts }
         requires few { length classes.items ≤ length job.now.classes.representative }
         requires within { All (λ class. class < length job.now.classes.representative)
             classes.items }
-        ensures cut { IsCutOf job.now result.parts result.size result.classes.items }
+        ensures cut { IsCutOf job.now result.from result.parts result.size result.classes.items }
+        ensures from { result.from ≡ from }
         ensures classes { result.classes.items ≡ classes.items }
         ensures parts { result.parts ≡ parts }
     {
         let size = count_in(job, classes.as_slice()).div_ceil(parts);
         Cut {
+            from,
             classes,
             parts,
             size,
@@ -86,7 +91,7 @@ impl Cut {
 
 /// Returns how many of the stretches have a class: the first ones.
 pub(crate) fn filled(job: &Job, cut: &Cut) -> u32
-    requires { IsCutOf job.now cut.now.parts cut.now.size cut.now.classes.items }
+    requires { IsCutOf job.now cut.now.from cut.now.parts cut.now.size cut.now.classes.items }
     ensures count { result ≡ stretch_count cut.now.size cut.now.classes.items }
     ensures few { result ≤ max_pieces }
 {

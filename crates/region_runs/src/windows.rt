@@ -4,35 +4,35 @@
 //! has only those of some blocks at a time: it runs all classes on the blocks of the first window,
 //! then those that no test detects yet on the next, and so on.
 
-ghost use Rattle.std.specs.Prelude.{◌-◌, ◌≡◌, ◌⊎◌, ◌<◌, ◌≤◌, ◌+◌, ◌*◌, ◌^◌, All, IfErr, IfOk};
-ghost use Rattle.std.specs.Prelude.{[], IsTrue, List, None, OnOk, Option, vec_len};
-ghost use Rattle.std.specs.Prelude.{⊤, ℕ, length, map, min, slice_index_or, zip};
+ghost use Rattle.std.specs.Prelude.{◌≡◌, ◌⊎◌, ◌<◌, ◌≤◌, ◌+◌, ◌*◌, ◌-◌, ◌^◌, All, IfErr, IfOk};
+ghost use Rattle.std.specs.Prelude.{[], IsTrue, OnOk, ⊤, ℕ, length, min};
 ghost use Rattle.bench_net.specs.Scan.{sources};
 ghost use Rattle.patterns.specs.Tests.{IsTestList, TestList, blocks};
-ghost use Rattle.block_sim.specs.Parts.{with_tests};
-ghost use Rattle.counting_sort.specs.SortedPlaces.{AreSortedPlaces};
+ghost use Rattle.block_sim.specs.Parts.{BelongTogether, with_tests};
+ghost use Rattle.counting_sort.specs.SortedPlaces.{ArePositions, AreSortedPlaces};
 ghost use Rattle.fault_ledger.specs.Seats.{ClosedFace};
 ghost use Rattle.workers.specs.Stops.{no_stop};
-ghost use Rattle.workers.specs.Verdict.{AreAfterHits, AreClassFirsts, AreFirsts};
+ghost use Rattle.workers.specs.Verdict.{AreAfterHits, AreFirsts};
 ghost use Rattle.region_sim.specs.ClassOrder.{AreAllByRegion};
-ghost use Rattle.region_runs.specs.Part.{AreClassVerdicts, ArePartVerdicts};
-ghost use Rattle.region_runs.specs.Refused.{ArePartsWithin, IsPartFault, IsPartsFault};
+ghost use Rattle.region_runs.specs.Part.{ArePartVerdicts};
+ghost use Rattle.region_runs.specs.Refused.{ArePartsWithin, IsOpenFault, IsPartFault, IsPartsFault};
 ghost use Rattle.region_runs.specs.Refused.{IsPartWithin};
+ghost use Rattle.region_runs.specs.Tasks.{AreKept, IsOpenAtFirst, task_of};
 ghost use Rattle.region_runs.specs.WindowLedgers.{AreFoundByLedger, AreOfWindows};
-ghost use Rattle.region_runs.specs.WindowLedgers.{IsOfWindows, IsPartOfWindows, open_classes};
-ghost use Rattle.region_runs.specs.Windows.{AreFirstsBelow, AreWordsFrom, GoesOnFrom};
-ghost use Rattle.region_runs.specs.Windows.{IsWindowOf, advanced, moved};
+ghost use Rattle.region_runs.specs.WindowLedgers.{IsOfWindows, IsPartOfWindows};
+ghost use Rattle.region_runs.specs.Windows.{AreKeptBelow, AreWordsFrom, GoesOnFrom, IsWindowOf};
 
-use crate::class_order::{all_classes, count_in, part_classes};
-use crate::parts::{
-    PartVerdict, by_class, first_in, firsts_of_faults, gather, of_faults, skipped_after, verdict_on,
-};
-use crate::stretches::{Cut, stretches_for};
+use crate::class_order::{count_in, part_classes};
+use crate::fault_firsts::{OrderedFirsts, verdicts_in};
+use crate::parts::{ListRun, PartVerdict, by_class, of_faults, run_list_for};
+use crate::stretch_workers::starts;
+use crate::stretches::stretches_for;
+use crate::window_goal::{WindowGoal, join_window, open_classes};
 use block_sim::Job;
 use counting_sort::{SortedPlaces, sorted_places};
 use patterns::{BLOCK_SIZE, MAX_TESTS, Tests, WordsFault};
 use region_sim::FirstTest;
-use region_sim::class_order::visits_of;
+use region_sim::class_order::{ClassOrder, class_order, visits_of};
 use std::alloc::{AllocError, Global};
 use std::sync::Wait;
 use std::thread;
@@ -140,62 +140,6 @@ fn made_of(alloc: Global, tests: &Tests, window: Window, words: &[u64]) -> Resul
     }
 }
 
-/// Returns the classes of a list that have no first test beside them.
-pub fn without_first(
-    alloc: Global,
-    classes: &[u32],
-    firsts: &[Option<u32>],
-) -> Result<Vec<u32>, AllocError>
-    ensures { IfOk result (λ left. left.items ≡ open_classes classes.now firsts.now) }
-{
-    classes
-        .iter()
-        .zip(firsts)
-        .filter(|(_class, first)| first.is_none())
-        .map(|(class, _first)| *class)
-        .collect(alloc)
-}
-
-/// Returns a test of a window by its number in the whole list, if the window begins with this test.
-fn moved(first: Option<u32>, from: u32) -> Option<u32>
-    ensures { result ≡ moved from first }
-{
-    match first {
-        Some(test) => test.checked_add(from),
-        None => None,
-    }
-}
-
-/// Returns the first test of a class after a window, from its verdict there.
-fn advanced(first: Option<u32>, verdict: PartVerdict, from: u32) -> Option<u32>
-    ensures { result ≡ advanced from first verdict }
-{
-    match first {
-        Some(test) => Some(test),
-        None => moved(first_in(verdict), from),
-    }
-}
-
-/// Returns the first tests of the classes of a list after a window, from the verdicts of the window
-/// by class.
-fn advanced_firsts(
-    alloc: Global,
-    classes: &[u32],
-    firsts: &[Option<u32>],
-    verdicts: &[PartVerdict],
-    from: u32,
-) -> Result<Vec<Option<u32>>, AllocError>
-    ensures { IfOk result (λ next. next.items ≡ map (λ at.
-        advanced from at.1 (slice_index_or verdicts.now at.0 PartVerdict.OtherPart))
-        (zip classes.now firsts.now)) }
-{
-    classes
-        .iter()
-        .zip(firsts)
-        .map(|(class, first)| advanced(*first, verdict_on(verdicts, *class), from))
-        .collect(alloc)
-}
-
 /// A gate as a run on a window asks it: with the numbers of blocks of the whole list.
 #[derive(Drop)]
 struct Shifted<'g, G> {
@@ -222,35 +166,46 @@ impl<G: Gate> Gate for Shifted<'_, G> {
     }
 }
 
-/// Runs classes on all tests of a job. Returns the verdict of each class of the job.
-fn run_classes_left<G: Gate + Sync, R: Threads + Wait>(
+/// Runs classes on the tests of a job from a block on, in a number of stretches that suits the
+/// workers. Returns what a goal keeps of each.
+fn run_open_classes<A: WindowGoal + Sync, G: Gate + Sync, R: Threads + Wait>(
     rt: &R,
     alloc: Global,
     job: &Job,
+    from: u32,
     classes: Vec<u32>,
     workers: u32,
+    goal: &A,
     gate: &G,
-) -> Result<Vec<PartVerdict>, RunFault>
+) -> Result<Vec<A::Kept>, RunFault>
+where
+    A::Kept: Send,
     requires passing { G.passing gate.now }
+    requires wanted { IsOpenAtFirst (task_of job.now from (A.wants goal.now) (A.means goal.now)) }
+    requires from { from ≤ blocks (length job.now.tests.tests) }
     requires workers { (0 < workers) × (workers ≤ 64) }
     requires few { length classes.items ≤ length job.now.classes.representative }
     requires within { All (λ class. class < length job.now.classes.representative)
         classes.items }
-    ensures found { IfOk result (λ table. (firsts : List (Option ℕ))
-        × AreClassFirsts job.now.list.model job.now.circuit job.now.tests.tests classes.items firsts
-        × AreClassVerdicts (length job.now.classes.representative) classes.items firsts
-        (length classes.items) table.items × ((ledger : ClosedFace)
-        × AreFoundByLedger job.now workers classes.items firsts ledger)) }
+    ensures kept { IfOk result (λ kept. AreKept (task_of job.now from (A.wants goal.now)
+        (A.means goal.now)) classes.items kept.items) }
+    ensures ledger { IfOk result (λ kept. (ledger : ClosedFace) × AreFoundByLedger
+        (task_of job.now from (A.wants goal.now) (A.means goal.now)) workers classes.items
+        kept.items ledger) }
     ensures refused { IfErr result (λ fault.
         (fault ≡ RunFault.Memory) ⊎ (fault ≡ RunFault.Threads)) }
+    ensures together { BelongTogether job.now }
 {
     let stretches = stretches_for(count_in(job, classes.as_slice()), workers);
-    let cut = Cut::new(job, classes, stretches);
-    let gathered = gather(rt, alloc, job, &cut, workers, &FirstTest, gate)?;
-    let firsts = gathered.kept.as_slice();
-    let count = job.classes().count();
-    let table = by_class(alloc, count, cut.classes.as_slice(), firsts)?;
-    Ok(table)
+    let done = run_list_for(
+        rt, alloc, job, from, classes, stretches, workers, goal, gate,
+    )?;
+    let ListRun {
+        classes: _classes,
+        kept,
+        ledger: _ledger,
+    } = done;
+    Ok(kept)
 }
 
 /// Gives a job no tests, so that its fault-free words take no memory.
@@ -342,8 +297,7 @@ fn have_window<R: Threads + Wait>(
     take_window(rt, alloc, job, tests, window, workers)
 }
 
-/// Returns all classes of a job in the order of [`region_sim::class_order::class_order`], and
-/// whether it has the tests of the first window now: with a second worker a thread sorts the
+/// Returns all classes of a job in order, as [`class_order`] does, and whether it has the tests of the first window now: with a second worker a thread sorts the
 /// classes while the job takes them.
 fn classes_and_window<R: Threads + Wait>(
     rt: &R,
@@ -352,11 +306,14 @@ fn classes_and_window<R: Threads + Wait>(
     tests: &Tests,
     step: u32,
     workers: u32,
-) -> Result<(Vec<u32>, bool), RunFault>
+) -> Result<(ClassOrder, bool), RunFault>
     requires list { IsTestList tests.now }
     requires width { tests.now.width ≡ length (sources job.old.circuit) }
     requires step { (0 < step) × (step ≤ 2047) }
-    ensures classes { IfOk result (λ r. AreAllByRegion job.old r.0.items) }
+    ensures classes { IfOk result (λ r. AreAllByRegion job.old r.0.classes.items) }
+    ensures positions { IfOk result (λ r. ArePositions r.0.classes.items r.0.positions.items) }
+    ensures count { IfOk result (λ r.
+        length r.0.positions.items ≡ length job.old.classes.representative) }
     ensures ready { IfOk result (λ r. IsTrue r.1 → IsWindowOf tests.now.tests 0
         (64 * min step (blocks (length tests.now.tests))) job.new.tests.tests) }
     ensures refused { IfErr result (λ fault. fault ≡ RunFault.Memory) }
@@ -364,18 +321,19 @@ fn classes_and_window<R: Threads + Wait>(
 {
     let blocks = tests.blocks();
     if workers < 2 || blocks == 0 {
-        return Ok((all_classes(alloc, job)?, false));
+        return Ok((class_order(alloc, job)?, false));
     }
     let visits = visits_of(alloc, job)?;
     let signals = job.circuit().signals();
     let window = Window::new(0, step, blocks);
     let (sorted, taken) = sort_and_take(rt, alloc, &visits, signals, job, tests, window, workers);
     taken?;
-    let SortedPlaces {
-        places,
-        positions: _positions,
-    } = sorted?;
-    Ok((places, true))
+    let SortedPlaces { places, positions } = sorted?;
+    let order = ClassOrder {
+        classes: places,
+        positions,
+    };
+    Ok((order, true))
 }
 
 /// Sorts keys below a bound while a job takes the tests of a window.
@@ -395,6 +353,9 @@ fn sort_and_take<R: Threads + Wait>(
     requires width { tests.now.width ≡ length (sources job.old.circuit) }
     requires window { (first : ℕ) × GoesOnFrom (blocks (length tests.now.tests)) first window }
     ensures sorted { IfOk result.0 (λ sorted. AreSortedPlaces keys.now sorted.places.items) }
+    ensures positions { IfOk result.0 (λ sorted.
+        ArePositions sorted.places.items sorted.positions.items) }
+    ensures count { IfOk result.0 (λ sorted. length sorted.positions.items ≡ length keys.now) }
     ensures tests { OnOk result.1 (IsWindowOf tests.now.tests (64 * window.from)
         (64 * window.end) job.new.tests.tests) }
     ensures refused { IfErr result.1 (λ fault. fault ≡ RunFault.Memory) }
@@ -405,22 +366,26 @@ fn sort_and_take<R: Threads + Wait>(
     thread::join_mut(rt, &mut sort, &mut take)
 }
 
-/// Runs the classes of a list that have no first test yet on a window, whose tests the job has if
-/// it is ready. Returns the first tests of all of them after it. The job has the tests of the
-/// window then.
-fn run_window<G: Gate + Sync, R: Threads + Wait>(
+/// Runs the classes of a list that more tests can change on a window, whose tests the job has if it
+/// is ready. Returns what a goal keeps of all of them after it. The job has the tests of the window
+/// then.
+fn run_window<A: WindowGoal + Sync, G: Gate + Sync, R: Threads + Wait>(
     rt: &R,
     alloc: Global,
     job: &mut Job,
     tests: &Tests,
     window: Window,
     classes: &[u32],
-    firsts: Vec<Option<u32>>,
+    kept: Vec<A::Kept>,
     ready: bool,
     workers: u32,
+    goal: &A,
     gate: &G,
-) -> Result<Vec<Option<u32>>, RunFault>
+) -> Result<Vec<A::Kept>, RunFault>
+where
+    A::Kept: Send,
     requires passing { G.passing gate.now }
+    requires wanted { IsOpenAtFirst (task_of job.old 0 (A.wants goal.now) (A.means goal.now)) }
     requires list { IsTestList tests.now }
     requires ready { IsTrue ready → IsWindowOf tests.now.tests (64 * window.from)
         (64 * window.end) job.old.tests.tests }
@@ -429,20 +394,21 @@ fn run_window<G: Gate + Sync, R: Threads + Wait>(
     requires few { length classes.now ≤ length job.old.classes.representative }
     requires within { All (λ class. class < length job.old.classes.representative) classes.now }
     requires window { GoesOnFrom (blocks (length tests.now.tests)) window.first window }
-    requires firsts { AreFirstsBelow job.old.list.model job.old.circuit tests.now.tests
-        (64 * window.first) classes.now firsts.items }
-    ensures firsts { IfOk result (λ next. AreFirstsBelow job.old.list.model job.old.circuit
-        tests.now.tests (64 * window.end) classes.now next.items) }
-    ensures ledgers { AreOfWindows (with_tests job.old tests.now) workers classes.now window.first
-        firsts.items → IfOk result (λ next. AreOfWindows (with_tests job.old tests.now) workers
-        classes.now window.end next.items) }
+    requires kept { AreKeptBelow (task_of (with_tests job.old tests.now) 0 (A.wants goal.now)
+        (A.means goal.now)) (64 * window.first) classes.now kept.items }
+    ensures kept { IfOk result (λ next. AreKeptBelow (task_of (with_tests job.old tests.now) 0
+        (A.wants goal.now) (A.means goal.now)) (64 * window.end) classes.now next.items) }
+    ensures ledgers { AreOfWindows (task_of (with_tests job.old tests.now) 0 (A.wants goal.now)
+        (A.means goal.now)) workers classes.now window.first kept.items
+        → IfOk result (λ next. AreOfWindows (task_of (with_tests job.old tests.now) 0
+        (A.wants goal.now) (A.means goal.now)) workers classes.now window.end next.items) }
     ensures refused { IfErr result (λ fault.
         (fault ≡ RunFault.Memory) ⊎ (fault ≡ RunFault.Threads)) }
-    ensures kept { (some : TestList) × (job.new ≡ with_tests job.old some) }
+    ensures job { (some : TestList) × (job.new ≡ with_tests job.old some) }
 {
-    let left = without_first(alloc, classes, firsts.as_slice())?;
+    let left = open_classes(alloc, goal, classes, kept.as_slice())?;
     if left.is_empty() {
-        return Ok(firsts);
+        return Ok(kept);
     }
     have_window(rt, alloc, job, tests, window, ready, workers)?;
     gate.opens(window.first, window.end);
@@ -450,15 +416,16 @@ fn run_window<G: Gate + Sync, R: Threads + Wait>(
         gate,
         from: window.from,
     };
-    let table = run_classes_left(rt, alloc, job, left, workers, &shifted)?;
-    let from = BLOCK_SIZE * window.from;
-    let next = advanced_firsts(alloc, classes, firsts.as_slice(), table.as_slice(), from)?;
-    Ok(next)
+    let from = window.first - window.from;
+    let found = run_open_classes(rt, alloc, job, from, left, workers, goal, &shifted)?;
+    let start = BLOCK_SIZE * window.from;
+    let mut kept = kept;
+    join_window(goal, kept.as_mut_slice(), found.as_slice(), start);
+    Ok(kept)
 }
 
-/// Runs classes on a list of tests, window by window. Returns for each the first test that detects
-/// its faults, or none.
-fn run_windows<G: Gate + Sync, R: Threads + Wait>(
+/// Runs classes on a list of tests, window by window. Returns what a goal keeps of each.
+fn run_windows<A: WindowGoal + Sync, G: Gate + Sync, R: Threads + Wait>(
     rt: &R,
     alloc: Global,
     job: &mut Job,
@@ -467,9 +434,13 @@ fn run_windows<G: Gate + Sync, R: Threads + Wait>(
     classes: &[u32],
     ready: bool,
     workers: u32,
+    goal: &A,
     gate: &G,
-) -> Result<Vec<Option<u32>>, RunFault>
+) -> Result<Vec<A::Kept>, RunFault>
+where
+    A::Kept: Send,
     requires passing { G.passing gate.now }
+    requires wanted { IsOpenAtFirst (task_of job.old 0 (A.wants goal.now) (A.means goal.now)) }
     requires list { IsTestList tests.now }
     requires width { tests.now.width ≡ length (sources job.old.circuit) }
     requires step { (0 < step) × (step ≤ 2047) }
@@ -478,68 +449,91 @@ fn run_windows<G: Gate + Sync, R: Threads + Wait>(
     requires workers { (0 < workers) × (workers ≤ 64) }
     requires few { length classes.now ≤ length job.old.classes.representative }
     requires within { All (λ class. class < length job.old.classes.representative) classes.now }
-    ensures firsts { IfOk result (λ firsts. AreClassFirsts job.old.list.model job.old.circuit
-        tests.now.tests classes.now firsts.items) }
-    ensures ledgers { IfOk result (λ firsts. AreOfWindows (with_tests job.old tests.now) workers
-        classes.now (blocks (length tests.now.tests)) firsts.items) }
+    ensures kept { IfOk result (λ kept. AreKept (task_of (with_tests job.old tests.now) 0
+        (A.wants goal.now) (A.means goal.now)) classes.now kept.items) }
+    ensures ledgers { IfOk result (λ kept. AreOfWindows (task_of (with_tests job.old tests.now) 0
+        (A.wants goal.now) (A.means goal.now)) workers classes.now
+        (blocks (length tests.now.tests)) kept.items) }
     ensures none { OnOk result (job.new.tests.tests ≡ []) }
     ensures refused { IfErr result (λ fault.
         (fault ≡ RunFault.Memory) ⊎ (fault ≡ RunFault.Threads)) }
-    ensures kept { (some : TestList) × (job.new ≡ with_tests job.old some) }
+    ensures job { (some : TestList) × (job.new ≡ with_tests job.old some) }
 {
     let blocks = tests.blocks();
-    let mut firsts = no_firsts(alloc, classes.len())?;
+    let mut kept = starts(alloc, goal, classes.len())?;
     for number in 0..blocks.div_ceil(step) {
         let window = Window::new(number, step, blocks);
         let ready = ready && number == 0;
-        firsts = run_window(
-            rt, alloc, job, tests, window, classes, firsts, ready, workers, gate,
+        kept = run_window(
+            rt, alloc, job, tests, window, classes, kept, ready, workers, goal, gate,
         )?;
     }
     forget_tests(alloc, job)?;
-    Ok(firsts)
+    Ok(kept)
 }
 
-/// Runs all classes of a job on a list of tests, window by window. Returns the classes, region by
-/// region, and for each the first test that detects its faults, or none.
-fn run_all_classes<G: Gate + Sync, R: Threads + Wait>(
+/// What a goal keeps of all classes of a job.
+#[derive(Drop)]
+pub struct WindowRun<K> {
+    /// The classes, region by region, in the order of the visits.
+    pub classes: Vec<u32>,
+    /// For each class, by its number, its position in this order.
+    pub positions: Vec<u32>,
+    /// At each position, what the goal keeps of the class there, of all tests.
+    pub kept: Vec<K>,
+}
+
+/// Runs all classes of a job for a goal on a list of tests that is not its own, window by window, as
+/// [`run_in_windows`] does for first tests. The classes and blocks have no limit here.
+///
+/// # Errors
+///
+/// [`RunFault::NoWorkers`]; [`RunFault::TooManyWorkers`] above 64 workers; [`RunFault::Memory`] or
+/// [`RunFault::Threads`] if memory runs out or a thread doesn't start. The job then has its own
+/// tests, those of some window, or none.
+pub fn run_goal_in_windows<A: WindowGoal + Sync, G: Gate + Sync, R: Threads + Wait>(
     rt: &R,
     alloc: Global,
     job: &mut Job,
     tests: &Tests,
     blocks_of_window: u32,
     workers: u32,
+    goal: &A,
     gate: &G,
-) -> Result<(Vec<u32>, Vec<Option<u32>>), RunFault>
+) -> Result<WindowRun<A::Kept>, RunFault>
+where
+    A::Kept: Send,
     requires passing { G.passing gate.now }
+    requires wanted { IsOpenAtFirst (task_of job.old 0 (A.wants goal.now) (A.means goal.now)) }
     requires list { IsTestList tests.now }
     requires width { tests.now.width ≡ length (sources job.old.circuit) }
     requires window { 0 < blocks_of_window }
-    requires workers { (0 < workers) × (workers ≤ 64) }
-    ensures classes { IfOk result (λ r. AreAllByRegion job.old r.0.items) }
-    ensures firsts { IfOk result (λ r. AreClassFirsts job.old.list.model job.old.circuit
-        tests.now.tests r.0.items r.1.items) }
-    ensures ledgers { IfOk result (λ r. AreOfWindows (with_tests job.old tests.now) workers
-        r.0.items (blocks (length tests.now.tests)) r.1.items) }
+    ensures classes { IfOk result (λ run. AreAllByRegion job.old run.classes.items) }
+    ensures positions { IfOk result (λ run.
+        ArePositions run.classes.items run.positions.items) }
+    ensures count { IfOk result (λ run.
+        length run.positions.items ≡ length job.old.classes.representative) }
+    ensures kept { IfOk result (λ run. AreKept (task_of (with_tests job.old tests.now) 0
+        (A.wants goal.now) (A.means goal.now)) run.classes.items run.kept.items) }
+    ensures workers { OnOk result ((0 < workers) × (workers ≤ 64)) }
+    ensures ledgers { IfOk result (λ run. AreOfWindows (task_of (with_tests job.old tests.now) 0
+        (A.wants goal.now) (A.means goal.now)) workers run.classes.items
+        (blocks (length tests.now.tests)) run.kept.items) }
     ensures none { OnOk result (job.new.tests.tests ≡ []) }
-    ensures refused { IfErr result (λ fault.
-        (fault ≡ RunFault.Memory) ⊎ (fault ≡ RunFault.Threads)) }
-    ensures kept { (some : TestList) × (job.new ≡ with_tests job.old some) }
+    ensures refused { IfErr result (IsOpenFault workers) }
+    ensures job { (some : TestList) × (job.new ≡ with_tests job.old some) }
 {
+    check_workers(workers)?;
     let step = blocks_of_window.min(MAX_TESTS / BLOCK_SIZE);
-    let (all, ready) = classes_and_window(rt, alloc, job, tests, step, workers)?;
-    let firsts = run_windows(
-        rt,
-        alloc,
-        job,
-        tests,
-        step,
-        all.as_slice(),
-        ready,
-        workers,
-        gate,
-    )?;
-    Ok((all, firsts))
+    let (order, ready) = classes_and_window(rt, alloc, job, tests, step, workers)?;
+    let ClassOrder { classes, positions } = order;
+    let all = classes.as_slice();
+    let kept = run_windows(rt, alloc, job, tests, step, all, ready, workers, goal, gate)?;
+    Ok(WindowRun {
+        classes,
+        positions,
+        kept,
+    })
 }
 
 /// Runs all classes of a job on a list of tests that is not its own, window by window: on this
@@ -586,11 +580,24 @@ pub fn run_in_windows<G: Gate + Sync, R: Threads + Wait>(
     let count = job.classes().count();
     let blocks = tests.blocks();
     check_pieces_of(count.div_ceil(parts), blocks)?;
-    let (all, firsts) = run_all_classes(rt, alloc, job, tests, blocks_of_window, workers, gate)?;
-    let table = by_class(alloc, count, all.as_slice(), firsts.as_slice())?;
-    let skipped = skipped_after(table.as_slice(), blocks);
-    let found = firsts_of_faults(alloc, job, table.as_slice())?;
-    Ok(Verdicts::of(found, skipped))
+    let done = run_goal_in_windows(
+        rt,
+        alloc,
+        job,
+        tests,
+        blocks_of_window,
+        workers,
+        &FirstTest,
+        gate,
+    )?;
+    let WindowRun {
+        classes: _classes,
+        positions,
+        kept: firsts,
+    } = done;
+    let ordered = OrderedFirsts { positions, firsts };
+    let verdicts = verdicts_in(rt, alloc, job, &ordered, blocks, workers)?;
+    Ok(verdicts)
 }
 
 /// Runs the classes of a part, counted from 0, of this number of parts, on a list of tests that is
@@ -640,22 +647,11 @@ pub fn run_part_in_windows<G: Gate + Sync, R: Threads + Wait>(
         own.as_slice(),
         false,
         workers,
+        &FirstTest,
         gate,
     )?;
     let count = job.classes().count();
     let table = by_class(alloc, count, own.as_slice(), firsts.as_slice())?;
     let verdicts = of_faults(alloc, job, table.as_slice())?;
     Ok(verdicts)
-}
-
-/// Returns no first test for each of this number of classes.
-fn no_firsts(alloc: Global, count: usize) -> Result<Vec<Option<u32>>, AllocError>
-    ensures count { IfOk result (λ firsts. vec_len firsts ≡ count) }
-    ensures none { IfOk result (λ firsts. All (λ first. first ≡ None) firsts.items) }
-{
-    let mut firsts = Vec::with_capacity(alloc, count)?;
-    for _place in 0..count {
-        firsts.push(None)?;
-    }
-    Ok(firsts)
 }

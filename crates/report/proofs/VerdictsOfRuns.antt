@@ -15,7 +15,7 @@ use Rattle.workers.specs.Refused.{IsScheduleFault}
 use Rattle.workers.specs.Verdict.{AreFirsts, VerdictList}
 use Rattle.job_loading.specs.declared.fault.SimFault.TheVariants as fault
 use Rattle.job_loading.specs.Jobs.{IsJobWithin}
-use Rattle.job_loading.specs.RunJobs.{AreByLedgers}
+use Rattle.region_runs.specs.RunJobs.{AreByLedgers}
 use Rattle.report.specs.declared.contents.Contents.{Contents}
 use Rattle.report.specs.EndToEnd.{IsReportByLedgers, IsReportOfJob, IsScheduleTextFault}
 use Rattle.report.specs.Report.{whole_report}

@@ -24,7 +24,7 @@ use Rattle.job_loading.specs.declared.fault.SimFault.TheVariants as fault
 use Rattle.job_loading.specs.declared.split.Split.{Split}
 use Rattle.job_loading.specs.declared.split.Split.TheVariants as split
 use Rattle.job_loading.specs.Jobs.{IsInputFault, IsJobFault, IsJobOf, IsJobWithin, IsReadFault}
-use Rattle.job_loading.specs.RunJobs.{AreByLedgers}
+use Rattle.region_runs.specs.RunJobs.{AreByLedgers}
 use Rattle.job_loading.specs.Splits.{IsSplitOf}
 use Rattle.byte_output.specs.Output.{Output, TakesAll, TakesFront}
 use Rattle.report.specs.declared.contents.Contents.{Contents}

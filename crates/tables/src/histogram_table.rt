@@ -7,7 +7,8 @@ ghost use Rattle.job_loading.specs.Splits.{HasSomePart};
 ghost use Rattle.analysis_reports.specs.Detected.{reached_count};
 ghost use Rattle.region_runs.specs.Refused.{IsOpenFault};
 ghost use Rattle.report.specs.EndToEnd.{IsJobReportFault, WritesOneOf};
-ghost use Rattle.analysis_reports.specs.Histogram.{IsCountedFault, histogram};
+ghost use Rattle.analysis_reports.specs.Detected.{IsCountedFault};
+ghost use Rattle.analysis_reports.specs.Histogram.{histogram};
 ghost use Rattle.tables.specs.HistogramTables.{IsHistogramTableOf, IsHistogramTableOfJob};
 ghost use Rattle.tables.specs.HistogramTables.{count_row, count_rows, counts_csv, counts_json};
 ghost use Rattle.tables.specs.HistogramTables.{csv_count, histogram_table, json_count};
@@ -15,13 +16,12 @@ ghost use Rattle.tables.specs.HistogramTables.{csv_count, histogram_table, json_
 use crate::curve_table::add_sums;
 use crate::json_table::{add_pieces, without_first};
 use crate::table::{Format, put_text};
-use analysis_reports::histogram_of;
-use block_sim::Job;
+use analysis_reports::{detections_watched, histogram_of};
 use fault_model::Model;
 use itoa::Buffer;
-use job_loading::split_job_of;
-use n_detect::detections;
-use report::{Out, RunFault, SimFault, Split};
+use job_loading::split_run_of;
+use region_runs::RunJob;
+use report::{Out, RunFault, SimFault, Split, Watch};
 use std::alloc::{AllocError, Global};
 use std::sync::Wait;
 use std::thread::Threads;
@@ -32,7 +32,7 @@ use std::thread::Threads;
 ///
 /// # Errors
 ///
-/// The errors of `analysis_reports::histogram_text_in`.
+/// The errors of `analysis_reports::histogram_text_watched`.
 ///
 /// # Examples
 ///
@@ -46,7 +46,7 @@ use std::thread::Threads;
 /// 2,0
 /// 3,1
 /// ```
-pub fn histogram_table_in<R: Threads + Wait, W: Out>(
+pub fn histogram_table_watched<R: Threads + Wait, G: Watch + Sync, W: Out>(
     rt: &R,
     alloc: Global,
     model: Model,
@@ -56,35 +56,43 @@ pub fn histogram_table_in<R: Threads + Wait, W: Out>(
     most: u32,
     workers: u32,
     format: Format,
+    gate: &G,
     out: &mut W,
 ) -> Result<(), SimFault>
-    requires { HasSomePart split }
+    requires split { HasSomePart split }
+    requires passing { G.passing gate.now }
     ensures written { WritesOneOf (IsHistogramTableOf model bench.now tests.now most format) result
         (W.seen out.old) (W.seen out.new) }
     ensures refused { IfErr result (IsCountedFault model bench.now tests.now split workers) }
     ensures workers { OnOk result ((0 < workers) × (workers ≤ 64)) }
 {
-    let (job, _parts) = split_job_of(rt, alloc, model, bench, tests, split, workers)?;
-    write_histogram(rt, alloc, &job, most, workers, format, out)
+    let (made, parts) = split_run_of(rt, alloc, model, bench, tests, split, true, workers)?;
+    let mut run = made;
+    write_histogram(rt, alloc, &mut run, most, parts, workers, format, gate, out)
 }
 
-/// Counts for a job, and writes the table of the histogram.
-fn write_histogram<R: Threads + Wait, W: Out>(
+/// Counts for a run, and writes the table of the histogram.
+fn write_histogram<R: Threads + Wait, G: Watch + Sync, W: Out>(
     rt: &R,
     alloc: Global,
-    job: &Job,
+    run: &mut RunJob,
     most: u32,
+    parts: u32,
     workers: u32,
     format: Format,
+    gate: &G,
     out: &mut W,
 ) -> Result<(), SimFault>
-    requires job { BelongTogether job.now }
-    ensures written { WritesOneOf (IsHistogramTableOfJob job.now most format) result
+    requires job { BelongTogether run.old.parts }
+    requires parts { 0 < parts }
+    requires passing { G.passing gate.now }
+    ensures written { WritesOneOf (IsHistogramTableOfJob run.old.parts most format) result
         (W.seen out.old) (W.seen out.new) }
     ensures refused { IfErr result (IsJobReportFault workers (IsOpenFault workers)) }
     ensures workers { OnOk result ((0 < workers) × (workers ≤ 64)) }
 {
-    let counts = detections(rt, alloc, job, most, workers)?;
+    let counts = detections_watched(rt, alloc, run, most, parts, workers, gate)?;
+    let job = run.job();
     let signals = job.circuit().signals();
     prove!(signals > 0);
     let total = job.faults().count();

@@ -17,7 +17,7 @@ mod summary;
 mod table;
 
 pub use curve_table::{curve_table_watched, write_curve_table_of_run};
-pub use histogram_table::histogram_table_in;
+pub use histogram_table::histogram_table_watched;
 pub use laws::merged_table;
 pub use merged::write_merged_table;
 pub use reasons::reasons_table_watched;

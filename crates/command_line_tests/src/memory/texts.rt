@@ -5,7 +5,7 @@ ghost use Rattle.std.specs.Prelude.{◌≤◌};
 use crate::memory::parts::{ORDER, is_want};
 use crate::memory::sweep::{Outcome, Trial, answered, refused};
 use crate::memory::written::{LISTING, REPORT};
-use analysis_reports::{compact_text_in, detections_text_in, responses_text_in};
+use analysis_reports::{compact_text_in, detections_text_watched, responses_text_in};
 use fault_model::Model;
 use report::{
     Contents, Lines, Out, OutFailed, RunFault, SimFault, curve_text_in, faults_text, schedule_text,
@@ -123,7 +123,7 @@ pub(crate) struct Written<'a, R> {
 impl<R: Threads + Wait> Written<'_, R> {
     fn write(&self, alloc: Global, screen: &mut Screen) -> Result<(), SimFault> {
         let (rt, tests, model) = (self.rt, self.tests, Model::StuckAt);
-        let all = Contents::of(Lines::All);
+        let (all, whole) = (Contents::of(Lines::All), Split::Whole);
         match self.call {
             TextCall::Simulate => simulate_text(rt, alloc, C17, tests, 2, true, screen),
             TextCall::InParts => {
@@ -133,7 +133,9 @@ impl<R: Threads + Wait> Written<'_, R> {
             TextCall::Faults => faults_text(alloc, C17, screen),
             TextCall::Curve => curve_text_in(rt, alloc, model, C17, tests, 2, screen),
             TextCall::Detections => {
-                detections_text_in(rt, alloc, model, C17, tests, 2, 2, false, screen)
+                detections_text_watched(
+                    rt, alloc, model, C17, tests, whole, 2, 2, false, &OpenGate, screen,
+                )
             }
             TextCall::Compact => compact_text_in(rt, alloc, model, C17, tests, 2, screen),
             TextCall::Responses => responses_text_in(alloc, C17, tests, screen),
@@ -161,7 +163,7 @@ impl<R: Threads + Wait> Trial for Written<'_, R> {
             TextCall::Schedule => "schedule_text",
             TextCall::Faults => "faults_text",
             TextCall::Curve => "curve_text_in",
-            TextCall::Detections => "detections_text_in",
+            TextCall::Detections => "detections_text_watched",
             TextCall::Compact => "compact_text_in",
             TextCall::Responses => "responses_text_in",
         }

@@ -16,7 +16,7 @@ close_over-requires-clause-some g c =
 
 pub close_over-requires-clause-places : goal.close_over-requires-clause-places
 close_over-requires-clause-places g c =
-    served_placed (task_of c.args.job.now (g.A.Goal.wants c.args.goal.now)
+    served_placed (task_of c.args.job.now c.args.cut.now.from (g.A.Goal.wants c.args.goal.now)
     (g.A.Goal.means c.args.goal.now)) c.args.cut.now.size c.args.cut.now.classes.items
     c.in_ok-ledger.ledger (g.G.Gate.passing c.args.gate.now) (g.G.Gate.stops c.args.gate.now)
     c.in_ok-back.back.items c.in_ok-back.ensures.served
@@ -31,12 +31,12 @@ returns-clause-shared g c =
       c.max-crew.ensures,
       c.min.ensures,
     ) in
-    shared_at (task_of c.args.job.now (g.A.Goal.wants c.args.goal.now)
+    shared_at (task_of c.args.job.now c.args.cut.now.from (g.A.Goal.wants c.args.goal.now)
     (g.A.Goal.means c.args.goal.now)) c.args.cut.now.size c.args.cut.now.classes.items
     c.in_ok-ledger.ledger.shape c.filled-stretches.result c.max-crew.result c.args.workers P S
     c.in_ok-handed.handed.dones.items c.in_ok-handed.handed.ledger c.in_ok-ledger.ensures.ledger
     c.filled-stretches.ensures.count crew
-    (shared (task_of c.args.job.now (g.A.Goal.wants c.args.goal.now)
+    (shared (task_of c.args.job.now c.args.cut.now.from (g.A.Goal.wants c.args.goal.now)
     (g.A.Goal.means c.args.goal.now)) c.args.cut.now.size c.args.cut.now.classes.items
     c.in_ok-ledger.ledger P
     S c.in_ok-back.back.items x.0 c.in_ok-handed.handed.dones.items c.in_ok-handed.handed.ledger

@@ -8,6 +8,6 @@ abbrev pub invariant-loop-place : goal.invariant-loop-place
 invariant-loop-place g l = record {
   order : l.yielded ++ into_iter_items l.place-iterator ≡ l.fn.table.items;
   left : length l.yielded + into_iter_len l.place-iterator ≡ l.cut.parts;
-  found : AreKeptBelow (task_of l.job (g.A.Goal.wants l.goal)
+  found : AreKeptBelow (task_of l.job l.cut.from (g.A.Goal.wants l.goal)
       (g.A.Goal.means l.goal)) l.cut.classes.items (length l.yielded * l.cut.size) l.kept.items;
 }

@@ -1,6 +1,6 @@
-use Rattle.std.proofs.Common.{◌∙◌, ap, arith, length, refl}
+use Rattle.std.proofs.Common.{◌∙◌, ap, arith, length}
 use Rattle.fault_model.specs.Collapse.{Collapsed}
-use Rattle.patterns.specs.Tests.{blocks}
+use Rattle.patterns.specs.Tests.{TestList, blocks}
 use Rattle.region_sim.proofs.Public.{all_within}
 use Rattle.std.proofs.lemmas.Result.{err_from_is_err_and}
 use Rattle.region_runs.proofs.FirstHits.{first_open, firsts_kept}
@@ -53,7 +53,8 @@ returns-clause-skipped g c =
     (all_within job classes c.in_ok-done.ensures.classes) c.in_ok-done.ensures.kept in
     hits_passed job classes positions firsts c.classes.ensures.together
     c.in_ok-done.ensures.positions c.in_ok-done.ensures.count known
-    (blocks (length job.tests.tests)) c.in_ok-verdicts.verdicts.skipped refl
+    c.blocks-blocks.result c.in_ok-verdicts.verdicts.skipped
+    (c.blocks-blocks.ensures ∙ ap (λ (t : TestList). blocks (length t.tests)) c.tests.ensures.part)
     c.in_ok-verdicts.ensures.skipped
 
 pub returns-clause-stretches : goal.returns-clause-stretches

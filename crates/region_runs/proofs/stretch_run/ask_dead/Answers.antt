@@ -4,11 +4,11 @@ use Rattle.region_runs.specs.BlockSweeps.{AreAllNotStopped}
 use Rattle.region_runs.proofs.stretch_run.ask_dead.Goals as goal
 
 pub loop-block-init : goal.loop-block-init
-loop-block-init g c = λ b below. absurd (omega (arith, below))
+loop-block-init g c = λ b up below. absurd (omega (arith, up, below))
 
 pub loop-block-preserved : goal.loop-block-preserved
-loop-block-preserved g c = λ b below. elim (cases_lt b c.loop-block.block) [
-  | inl x ↦ c.loop-block.invariant b x
+loop-block-preserved g c = λ b up below. elim (cases_lt b c.loop-block.block) [
+  | inl x ↦ c.loop-block.invariant b up x
   | inr x ↦ (let same : b ≡ c.loop-block.block = omega (arith, below, x) in
       subst (λ n. AreAllNotStopped c.args.rows.now c.args.worker
       (g.G.Gate.stops c.args.gate.now) n (length c.args.rows.now)) (sym same)
@@ -16,5 +16,5 @@ loop-block-preserved g c = λ b below. elim (cases_lt b c.loop-block.block) [
 ]
 
 pub returns : goal.returns
-returns g c = λ b below.
-    c.loop-block.invariant b (omega (arith, below, c.loop-block-test.false))
+returns g c = λ b up below.
+    c.loop-block.invariant b up (omega (arith, below, c.loop-block-test.false))

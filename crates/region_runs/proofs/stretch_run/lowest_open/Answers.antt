@@ -10,7 +10,7 @@ use Rattle.region_runs.proofs.stretch_run.lowest_open.Goals as goal
 pub loop-place-preserved-then-not-is_open : goal.loop-place-preserved-then-not-is_open
 loop-place-preserved-then-not-is_open g c =
     let goal = c.args.goal.now in
-    let task = task_of c.args.job.now (g.A.Goal.wants goal) (g.A.Goal.means goal) in
+    let task = task_of c.args.job.now c.args.from (g.A.Goal.wants goal) (g.A.Goal.means goal) in
     let kept = c.args.kept.now in
     let place = c.loop-place.place in
     let one = c.index-kept-place.result in
@@ -26,7 +26,7 @@ loop-place-preserved-then-block-blocks g c =
     let goal = c.args.goal.now in
     let n = c.blocks-blocks.ensures
     ∙ ap (λ (t : TestList). blocks (length t.tests)) c.tests.ensures.part in
-    open_past (task_of c.args.job.now (g.A.Goal.wants goal) (g.A.Goal.means goal))
+    open_past (task_of c.args.job.now c.args.from (g.A.Goal.wants goal) (g.A.Goal.means goal))
     c.args.classes.now c.args.stop c.loop-place.place c.done_before-block.result
     c.loop-place.lowest c.done_before-block.ensures
     (omega (arith, n, c.if-block-blocks.true)) c.loop-place.invariant
@@ -34,7 +34,7 @@ loop-place-preserved-then-block-blocks g c =
 pub loop-place-preserved : goal.loop-place-preserved
 loop-place-preserved g c =
     let goal = c.args.goal.now in
-    let task = task_of c.args.job.now (g.A.Goal.wants goal) (g.A.Goal.means goal) in
+    let task = task_of c.args.job.now c.args.from (g.A.Goal.wants goal) (g.A.Goal.means goal) in
     let sound : IsSound task = record {
       agrees = g.A.Goal.agrees goal;
       stays = g.A.Goal.stays goal;
@@ -58,6 +58,6 @@ loop-place-preserved g c =
 pub returns : goal.returns
 returns g c =
     let goal = c.args.goal.now in
-    let task = task_of c.args.job.now (g.A.Goal.wants goal) (g.A.Goal.means goal) in
+    let task = task_of c.args.job.now c.args.from (g.A.Goal.wants goal) (g.A.Goal.means goal) in
     subst (λ n. IsLowest (IsOpenBelow task c.args.classes.now c.args.stop n) c.loop-place.lowest)
     (omega (arith, c.loop-place-test.false, c.loop-place.auto)) c.loop-place.invariant

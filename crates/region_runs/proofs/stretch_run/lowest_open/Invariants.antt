@@ -4,5 +4,5 @@ use Rattle.region_runs.proofs.stretch_run.lowest_open.Given as goal
 
 abbrev pub invariant-loop-place : goal.invariant-loop-place
 invariant-loop-place g l = IsLowest (IsOpenBelow
-    (task_of l.job (g.A.Goal.wants l.goal) (g.A.Goal.means l.goal)) l.classes l.stop l.place)
+    (task_of l.job l.from (g.A.Goal.wants l.goal) (g.A.Goal.means l.goal)) l.classes l.stop l.place)
     l.lowest

@@ -11,20 +11,20 @@ use Rattle.region_runs.proofs.stretch_run.run_list.Goals as goal
 pub run_rows-stop-requires-clause-none : goal.run_rows-stop-requires-clause-none
 run_rows-stop-requires-clause-none g c =
     let goal = c.args.goal.now in
-    let task = task_of c.args.job.now (g.A.Goal.wants goal) (g.A.Goal.means goal) in
+    let task = task_of c.args.job.now c.args.from (g.A.Goal.wants goal) (g.A.Goal.means goal) in
     let live = c.split_at.result.0.now in
     let dead = c.split_at.result.1.now in
     live_none task live dead c.split_at_mut-found.result.0.now
     c.split_at_mut-found.result.1.now c.split_at_mut-found.ensures.front_len
-    (subst (AreKeptUpTo task (classes_of (live ++ dead)) 0 0) c.split_at_mut-found.ensures.value
-    (subst (λ l. AreKeptUpTo task (classes_of l) 0 0 c.args.kept.now)
+    (subst (AreKeptUpTo task (classes_of (live ++ dead)) 0 c.args.from) c.split_at_mut-found.ensures.value
+    (subst (λ l. AreKeptUpTo task (classes_of l) 0 c.args.from c.args.kept.now)
     c.split_at.ensures.by_index.0 c.requires.none))
 
 pub returns-clause-ended : goal.returns-clause-ended
 returns-clause-ended g c =
     let goal = c.args.goal.now in
     let job = c.args.job.now in
-    let task = task_of job (g.A.Goal.wants goal) (g.A.Goal.means goal) in
+    let task = task_of job c.args.from (g.A.Goal.wants goal) (g.A.Goal.means goal) in
     let sound : IsSound task = record {
       agrees = g.A.Goal.agrees goal;
       stays = g.A.Goal.stays goal;
@@ -45,9 +45,9 @@ returns-clause-ended g c =
     (subst (λ l. AreDeadFrom job l (length live)) is
     (subst (AreDeadFrom job rows) (sym c.split_at.ensures.front_len) c.live_end.ensures.dead))
     sound c.split_at_mut-found.result.0.now rest c.split_at_mut-found.ensures.front_len
-    (subst (AreKeptUpTo task (classes_of (live ++ dead)) 0 0) c.split_at_mut-found.ensures.value
-    (subst (λ l. AreKeptUpTo task (classes_of l) 0 0 c.args.kept.now) is c.requires.none))
-    c.args.worker (g.G.Gate.stops c.args.gate.now) c.run_rows-stop.result found
+    (subst (AreKeptUpTo task (classes_of (live ++ dead)) 0 c.args.from) c.split_at_mut-found.ensures.value
+    (subst (λ l. AreKeptUpTo task (classes_of l) 0 c.args.from c.args.kept.now) is c.requires.none))
+    c.requires.from c.args.worker (g.G.Gate.stops c.args.gate.now) c.run_rows-stop.result found
     (c.run_rows-stop.ensures.passing (c.lets_all_pass.ensures c.if-not-lets_all_pass.false))
     c.run_rows-stop.ensures.ended
-    (λ block lt. c.ask_dead.ensures block (omega (arith, lt, count))))
+    (λ block up lt. c.ask_dead.ensures block up (omega (arith, lt, count))))

@@ -21,7 +21,7 @@ pub loop-block-preserved : goal.loop-block-preserved
 loop-block-preserved g c =
     let goal = c.args.goal.now in
     let wants = g.A.Goal.wants goal in
-    let task = task_of c.args.job.now wants (g.A.Goal.means goal) in
+    let task = task_of c.args.job.now c.args.from wants (g.A.Goal.means goal) in
     let sound : IsSound task = record {
       agrees = g.A.Goal.agrees goal;
       stays = g.A.Goal.stays goal;
@@ -44,8 +44,10 @@ loop-block-preserved g c =
     let whole = subst (AreNotStopped wants rows kept c.args.worker S block) end
     c.ask_open-place.ensures.asked in
     record {
+      low = omega (arith, last.low, ordered);
       within = omega (arith, within);
-      found = kept_swept task rows span (omega (arith, first, ordered)) kept now
+      found = kept_swept task rows span (omega (arith, first, last.low)) (omega (arith, first, ordered))
+          kept now
           (subst (λ n. AreKeptUpTo task (classes_of rows) 0 n kept) (sym first) last.found)
           c.simulate.ensures.places c.simulate.ensures.taken;
       passed = rest_passed task sound together rows c.requires.rows c.args.worker S block span.last
@@ -63,7 +65,7 @@ pub returns-then-place-rows-clause-ended : goal.returns-then-place-rows-clause-e
 returns-then-place-rows-clause-ended g c =
     let goal = c.args.goal.now in
     let wants = g.A.Goal.wants goal in
-    let task = task_of c.args.job.now wants (g.A.Goal.means goal) in
+    let task = task_of c.args.job.now c.args.from wants (g.A.Goal.means goal) in
     let sound : IsSound task = record {
       agrees = g.A.Goal.agrees goal;
       stays = g.A.Goal.stays goal;
@@ -85,13 +87,14 @@ returns-then-place-rows-clause-ended g c =
       record {
         class = (at.0).class;
         at = class;
+        low = last.low;
         within = low;
         stopped = at.2;
         still = still_open task sound (classes_of rows) 0 block place (at.0).class block kept
             at.1.one class at.1.kept_is at.1.wanted (done_high 0 block place (omega arith))
             last.found;
       },
-      kept_before task rows (record { first = block; last = block }) (omega arith) kept
+      kept_before task rows (record { first = block; last = block }) last.low (omega arith) kept
           c.simulate_before.new.kept last.found c.simulate_before.ensures.places refl place
           c.simulate_before.ensures.taken c.simulate_before.ensures.others,
       before_passed task sound together rows c.requires.rows c.args.worker S block block kept

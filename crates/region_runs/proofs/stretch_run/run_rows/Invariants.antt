@@ -9,10 +9,11 @@ use Rattle.region_runs.proofs.stretch_run.run_rows.Given as goal
 
 abbrev pub invariant-loop-block : goal.invariant-loop-block
 invariant-loop-block g l = record {
+  low : l.from ≤ l.block;
   within : l.block ≤ blocks (length l.job.tests.tests);
-  found : AreKeptUpTo (task_of l.job (g.A.Goal.wants l.goal) (g.A.Goal.means l.goal))
+  found : AreKeptUpTo (task_of l.job l.from (g.A.Goal.wants l.goal) (g.A.Goal.means l.goal))
       (classes_of l.rows) 0 l.block l.kept;
-  passed : ArePassed (task_of l.job (g.A.Goal.wants l.goal) (g.A.Goal.means l.goal))
+  passed : ArePassed (task_of l.job l.from (g.A.Goal.wants l.goal) (g.A.Goal.means l.goal))
       (classes_of l.rows) l.worker (g.G.Gate.stops l.gate) 0 l.block;
   next : AreNextOpen (g.A.Goal.wants l.goal) l.kept l.next;
   serves : ServesRegions l.simulation l.job (length l.rows);

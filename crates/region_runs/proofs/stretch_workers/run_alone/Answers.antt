@@ -23,13 +23,13 @@ run_list-stop-requires-clause-rows g c =
 pub run_list-stop-requires-clause-none : goal.run_list-stop-requires-clause-none
 run_list-stop-requires-clause-none g c =
     let goal = c.args.goal.now in
-    let task = task_of c.args.job.now (g.A.Goal.wants goal) (g.A.Goal.means goal) in
+    let task = task_of c.args.job.now c.args.cut.now.from (g.A.Goal.wants goal) (g.A.Goal.means goal) in
     let sized = c.in_ok-kept.kept.ok.0 in
     let own = c.stretch-own.result.now in
     let same : classes_of c.as_slice-listed.result.now ≡ own =
     ap classes_of c.as_slice-listed.ensures.value ∙ c.in_ok-rows.ensures.same in
-    subst (λ l. AreKeptUpTo task l 0 0 c.as_mut_slice-found.result.now) (sym same)
-    (subst (AreKeptUpTo task own 0 0) (sym c.as_mut_slice-found.ensures.value)
+    subst (λ l. AreKeptUpTo task l 0 c.args.cut.now.from c.as_mut_slice-found.result.now) (sym same)
+    (subst (AreKeptUpTo task own 0 c.args.cut.now.from) (sym c.as_mut_slice-found.ensures.value)
     (starts_kept task own c.in_ok-kept.kept.items
     (omega (arith, sized, c.in_ok-kept.ensures.count)) c.in_ok-kept.ensures.first))
 

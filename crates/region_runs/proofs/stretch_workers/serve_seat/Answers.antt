@@ -10,7 +10,7 @@ use Rattle.region_runs.proofs.stretch_workers.serve_seat.Goals as goal
 use Rattle.region_runs.proofs.stretch_workers.serve_seat.Goals.{In_ok-push}
 
 -- the results of a worker with one stretch more
-more : (g : given.Over) (c : In_ok-push g) → Serving (task_of c.args.job.now
+more : (g : given.Over) (c : In_ok-push g) → Serving (task_of c.args.job.now c.args.cut.now.from
     (g.A.Goal.wants c.args.goal.now) (g.A.Goal.means c.args.goal.now)) c.args.cut.now.size
     c.args.cut.now.classes.items c.args.ledger.now c.args.seat.now.worker
     (g.G.Gate.passing c.args.gate.now) (g.G.Gate.stops c.args.gate.now) c.run_held.new.seat
@@ -18,10 +18,10 @@ more : (g : given.Over) (c : In_ok-push g) → Serving (task_of c.args.job.now
 more g c =
     let P = g.G.Gate.passing c.args.gate.now in
     let S = g.G.Gate.stops c.args.gate.now in
-    let own = subst (λ v. IsDone (task_of c.args.job.now (g.A.Goal.wants c.args.goal.now)
+    let own = subst (λ v. IsDone (task_of c.args.job.now c.args.cut.now.from (g.A.Goal.wants c.args.goal.now)
     (g.A.Goal.means c.args.goal.now)) c.args.cut.now.size c.args.cut.now.classes.items v P
     S c.in_ok-done.done) c.claims.invariant.number c.in_ok-done.ensures.done in
-    serving_more (task_of c.args.job.now (g.A.Goal.wants c.args.goal.now)
+    serving_more (task_of c.args.job.now c.args.cut.now.from (g.A.Goal.wants c.args.goal.now)
     (g.A.Goal.means c.args.goal.now)) c.args.cut.now.size c.args.cut.now.classes.items
     c.args.ledger.now
     c.args.seat.now.worker P S c.claims.seat c.claim_next.new.seat c.run_held.new.seat
@@ -31,7 +31,7 @@ more g c =
 
 pub returns-in-None : goal.returns-in-None
 returns-in-None g c =
-    served_all (task_of c.args.job.now (g.A.Goal.wants c.args.goal.now)
+    served_all (task_of c.args.job.now c.args.cut.now.from (g.A.Goal.wants c.args.goal.now)
     (g.A.Goal.means c.args.goal.now)) c.args.cut.now.size c.args.cut.now.classes.items
     c.args.ledger.now
     c.args.seat.now.worker (g.G.Gate.passing c.args.gate.now) (g.G.Gate.stops c.args.gate.now)
@@ -43,11 +43,11 @@ returns-then-stopped g c =
     let P = g.G.Gate.passing c.args.gate.now in
     let S = g.G.Gate.stops c.args.gate.now in
     let v = some_of c.in_ok-done.done.waiting (sym c.is_some-stopped.ensures ∙ c.if-stopped.true) in
-    subst (HasServed (task_of c.args.job.now (g.A.Goal.wants c.args.goal.now)
+    subst (HasServed (task_of c.args.job.now c.args.cut.now.from (g.A.Goal.wants c.args.goal.now)
     (g.A.Goal.means c.args.goal.now)) c.args.cut.now.size c.args.cut.now.classes.items
     c.args.ledger.now c.args.seat.now.worker P S c.run_held.new.seat)
     (sym c.in_ok-push.ensures.items)
-    (served_stopped (task_of c.args.job.now (g.A.Goal.wants c.args.goal.now)
+    (served_stopped (task_of c.args.job.now c.args.cut.now.from (g.A.Goal.wants c.args.goal.now)
     (g.A.Goal.means c.args.goal.now)) c.args.cut.now.size c.args.cut.now.classes.items
     c.args.ledger.now c.args.seat.now.worker P S c.run_held.new.seat c.claims.dones.items
     c.in_ok-done.done v.0 v.1 (more g (goal.at.returns-then-stopped g c).In_ok-push))
@@ -66,12 +66,12 @@ claims-preserved g c =
     record {
       number = c.in_ok-done.ensures.member ∙ c.claims.invariant.number;
       room = c.in_ok-done.ensures.serves;
-      serving = subst (Serving (task_of c.args.job.now (g.A.Goal.wants c.args.goal.now)
+      serving = subst (Serving (task_of c.args.job.now c.args.cut.now.from (g.A.Goal.wants c.args.goal.now)
           (g.A.Goal.means c.args.goal.now)) c.args.cut.now.size c.args.cut.now.classes.items
           c.args.ledger.now c.args.seat.now.worker P S c.run_held.new.seat)
           (sym c.in_ok-push.ensures.items)
           (more g (goal.at.claims-preserved g c).In_ok-push);
-      free = serving_free (task_of c.args.job.now (g.A.Goal.wants c.args.goal.now)
+      free = serving_free (task_of c.args.job.now c.args.cut.now.from (g.A.Goal.wants c.args.goal.now)
           (g.A.Goal.means c.args.goal.now)) c.args.cut.now.size c.args.cut.now.classes.items
           c.args.ledger.now c.args.seat.now.worker P S c.claims.seat c.claim_next.new.seat
           c.run_held.new.seat c.in-Some.part c.in_ok-done.done.waiting c.in-Some.ensures.claimed

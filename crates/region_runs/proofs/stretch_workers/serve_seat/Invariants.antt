@@ -9,7 +9,7 @@ abbrev pub invariant-claims : goal.invariant-claims
 invariant-claims g l = record {
   number : l.member.number ≡ l.fn.seat.worker;
   room : ServesRegions l.member.simulation l.job 0;
-  serving : Serving (task_of l.job (g.A.Goal.wants l.goal)
+  serving : Serving (task_of l.job l.cut.from (g.A.Goal.wants l.goal)
       (g.A.Goal.means l.goal)) l.cut.size l.cut.classes.items l.ledger l.fn.seat.worker
       (g.G.Gate.passing l.gate) (g.G.Gate.stops l.gate) l.seat l.dones.items;
   free : held_by l.seat.worker l.seat.seen ≡ None;

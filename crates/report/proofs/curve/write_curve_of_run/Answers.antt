@@ -1,7 +1,7 @@
 use Rattle.std.proofs.Common.{◌≡◌, ◌∙◌, ap, length, sym}
 use Rattle.std.proofs.lemmas.Result.{err_from_is_err_and}
 use Rattle.fault_model.specs.Fault.{FaultList}
-use Rattle.job_loading.specs.RunJobs.{RunParts}
+use Rattle.region_runs.specs.RunJobs.{RunParts}
 use Rattle.report.specs.Curve.{curve, curve_text}
 use Rattle.report.proofs.VerdictsOfRuns.{verdicts_counted}
 use Rattle.report.proofs.curve.write_curve_of_run.Goals as goal

@@ -2,7 +2,7 @@ use Rattle.std.proofs.Common.{◌∙◌, ap, length, sym}
 use Rattle.std.proofs.lemmas.Result.{err_from_is_err_and}
 use Rattle.fault_model.specs.Fault.{FaultList}
 use Rattle.byte_output.specs.Output.{TakesAll, TakesFront}
-use Rattle.job_loading.specs.RunJobs.{RunParts}
+use Rattle.region_runs.specs.RunJobs.{RunParts}
 use Rattle.report.proofs.VerdictsOfRuns.{taken_by_ledgers, taken_of_job, verdicts_counted}
 use Rattle.report.proofs.watched.write_report_of_run.Goals as goal
 

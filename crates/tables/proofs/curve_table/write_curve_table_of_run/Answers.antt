@@ -2,7 +2,7 @@ use Rattle.std.proofs.Common.{◌≡◌, ◌∙◌, ap, arith, false, length, re
 use Rattle.std.proofs.lemmas.Result.{err_from_is_err_and}
 use Rattle.bench_net.proofs.Public.{some_signal}
 use Rattle.fault_model.specs.Fault.{faults}
-use Rattle.job_loading.specs.RunJobs.{RunParts}
+use Rattle.region_runs.specs.RunJobs.{RunParts}
 use Rattle.report.specs.Curve.{curve}
 use Rattle.workers.specs.Verdict.{detected_count}
 use Rattle.tables.specs.CurveTables.{curve_table}

@@ -6,6 +6,7 @@ pub returns-clause-cut : goal.returns-clause-cut
 returns-clause-cut c =
     let count = c.count_in.ensures.count ∙ ap (λ (l : List ℕ). length l) c.as_slice.ensures.value in
     record {
+      from_within = c.requires.from;
       some = c.requires.parts;
       size_is = c.div_ceil-size.ensures ∙ ap (λ n. div_ceil n c.args.parts) count;
       few = c.requires.few;

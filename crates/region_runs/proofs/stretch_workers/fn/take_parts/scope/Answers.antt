@@ -113,7 +113,7 @@ returns g c =
             let low : w < vec_len c.loop-seat.handles = omega (arith, lt, sized, len) in
             let k = (c.in_ok-back.ensures.each w one low).1 in
             let i = was.each w k.handle low in
-            served_along (λ j v. task_of j (g.A.Goal.wants v) (g.A.Goal.means v))
+            served_along (λ j u v. task_of j u.from (g.A.Goal.wants v) (g.A.Goal.means v))
             (get_or c.in_ok-back.back.items w one) one
             k.handle.promise.job.value c.captures.job.now
             k.handle.promise.goal.value c.captures.goal.now
