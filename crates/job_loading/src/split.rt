@@ -13,7 +13,7 @@ ghost use Rattle.job_loading.specs.Splits.{IsSplitFaultFor, IsSplitFaultForSome,
 
 use crate::fault::SimFault;
 use crate::pieces::read_job_in_pieces;
-use crate::run_job::{RunJob, run_with_tests};
+use crate::run_job::run_with_tests;
 use crate::texts::{
     job_of_any_size_in_threads, job_of_in_threads, make_any_job_in_threads, read_inputs_in_threads,
 };
@@ -21,7 +21,7 @@ use bench_net::Circuit;
 use block_sim::{Job, JobFault, has_too_many_pieces};
 use fault_model::Model;
 use patterns::{MAX_PIECES, Tests};
-use region_runs::parts_for;
+use region_runs::{RunJob, parts_for};
 use std::alloc::Global;
 use std::io::Read;
 use std::sync::Wait;

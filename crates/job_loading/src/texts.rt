@@ -11,12 +11,13 @@ ghost use Rattle.job_loading.specs.Jobs.{AreTestsFor, IsInputFault, IsJobFault, 
 ghost use Rattle.job_loading.specs.Jobs.{IsGuessOf, IsPiecesFault, IsReadFault};
 
 use crate::fault::SimFault;
-use crate::run_job::{RunJob, make_run_in_threads};
+use crate::run_job::make_run_in_threads;
 use bench_net::{BenchFault, Circuit, read_bench};
 use bench_threads::read_bench_in_threads;
 use block_sim::Job;
 use fault_model::{Model, collapse, list_faults_in};
 use patterns::{TestFault, Tests, read_tests};
+use region_runs::RunJob;
 use std::alloc::{AllocError, Global};
 use std::sync::Wait;
 use std::thread;

@@ -5,10 +5,9 @@ ghost use Rattle.workers.specs.Verdict.{AreAfterHits, AreFirsts};
 ghost use Rattle.region_runs.specs.Refused.{ArePartsWithin, IsPartsFault};
 ghost use Rattle.region_runs.specs.RunJobs.{AreByLedgers};
 
-use crate::run_job::RunJob;
 use block_sim::Job;
 use patterns::Tests;
-use region_runs::run_in_parts;
+use region_runs::{RunJob, run_in_parts};
 use std::alloc::Global;
 use std::sync::Wait;
 use std::thread::Threads;
