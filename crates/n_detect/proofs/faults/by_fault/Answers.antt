@@ -10,18 +10,18 @@ use Rattle.n_detect.proofs.faults.by_fault.Goals as goal
 pub count_of-requires-clause-class : goal.count_of-requires-clause-class
 count_of-requires-clause-class c =
     let at =
-    ap (λ (x : Collapsed). slice_get x.class_of c.loop-fault.fault) (sym c.classes.ensures.part)
-    ∙ c.class_of-class.ensures in
-    class_within c.args.job.now c.loop-fault.fault c.class_of-class.result
-    c.classes.ensures.together at
+    ap (λ (x : Collapsed). slice_get x.class_of c.loop-fault.fault)
+    (sym (c.classes.ensures.part ∙ c.job-job.ensures.classes)) ∙ c.class_of-class.ensures in
+    class_within c.args.run.now.parts c.loop-fault.fault c.class_of-class.result
+    c.tests-tests.ensures.together at
 
 pub loop-fault-preserved : goal.loop-fault-preserved
 loop-fault-preserved c =
     let before = c.loop-fault.invariant in
-    let job = c.args.job.now in
+    let job = c.args.run.now.parts in
     let at =
-    ap (λ (x : Collapsed). slice_get x.class_of c.loop-fault.fault) (sym c.classes.ensures.part)
-    ∙ c.class_of-class.ensures in
+    ap (λ (x : Collapsed). slice_get x.class_of c.loop-fault.fault)
+    (sym (c.classes.ensures.part ∙ c.job-job.ensures.classes)) ∙ c.class_of-class.ensures in
     let place : c.loop-fault.fault ≡ length c.loop-fault.counts.items =
     omega (arith, before.count, c.loop-fault.counts.ok) in
     let there : slice_get job.classes.class_of (length c.loop-fault.counts.items)
@@ -43,8 +43,10 @@ loop-fault-preserved c =
 pub returns : goal.returns
 returns c =
     let before = c.loop-fault.invariant in
-    let number = ap (λ (x : FaultList). length x.list) c.faults.ensures.part in
-    counts_of_faults c.args.job.now c.args.most c.loop-fault.counts.items c.faults.ensures.together
+    let number =
+    ap (λ (x : FaultList). length x.list) (c.faults.ensures.part ∙ c.job-job.ensures.list) in
+    counts_of_faults c.args.run.now.parts c.args.most c.loop-fault.counts.items
+    c.tests-tests.ensures.together
     (omega (
       arith,
       before.count,

@@ -7,7 +7,7 @@ use Rattle.n_detect.proofs.faults.count_of.Goals as goal
 
 pub returns : goal.returns
 returns c =
-    let job = c.args.job.now in
+    let job = c.args.run.now.parts in
     let counted = c.requires.counted in
     let position = slice_index c.args.positions.now c.args.class in
     let there = slice_get-get_or c.args.kept.now position 0
