@@ -28,7 +28,7 @@ pub returns-in_err-write_both-clause-written : goal.returns-in_err-write_both-cl
 returns-in_err-write_both-clause-written g c =
     let p = err_from_is_err_and c.from_residual-in_err-write_both.result
     c.from_residual-in_err-write_both.ensures.1 in
-    let job = c.args.run'.now.parts in
+    let job = c.args.run.now.parts in
     let counts = c.in_ok-counts.counts.items in
     let made = rw (c.deref.ensures.value) at c.in-Ok.ensures in
     let wrote = rw (
@@ -48,7 +48,7 @@ returns-in_err-write_both-clause-written g c =
 
 pub returns-clause-written : goal.returns-clause-written
 returns-clause-written g c =
-    let job = c.args.run'.now.parts in
+    let job = c.args.run.now.parts in
     let counts = c.in_ok-counts.counts.items in
     let made = rw (c.deref.ensures.value) at c.in-Ok.ensures in
     let wrote = rw (
