@@ -8,8 +8,8 @@ use crate::memory::written::{LISTING, REPORT};
 use analysis_reports::{compact_text_in, detections_text_watched, responses_text_in};
 use fault_model::Model;
 use report::{
-    Contents, Lines, Out, OutFailed, RunFault, SimFault, curve_text_in, faults_text, schedule_text,
-    simulate_text, simulate_text_in_parts,
+    Contents, Lines, OpenGate, Out, OutFailed, RunFault, SimFault, Split, curve_text_in,
+    faults_text, schedule_text, simulate_text, simulate_text_in_parts,
 };
 use std::alloc::Global;
 use std::sync::Wait;
