@@ -1,4 +1,5 @@
 mod FirstLine
 mod Named
 mod ReadBack
+mod ShiftedRows
 mod SourceNames

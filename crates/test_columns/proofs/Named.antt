@@ -1,5 +1,5 @@
 -- The columns of a test file, and the first place at which two lists of names differ.
-use Rattle.std.proofs.Common.{◌≡◌, ◌∙◌, ◌<◌, ◌≤◌, ◌-◌, ◌⊎◌, ℕ, zero, suc, List, [], ◌∷◌}
+use Rattle.std.proofs.Common.{◌≡◌, ◌∙◌, ◌<◌, ◌≤◌, ◌-◌, ◌⊎◌, ℕ, suc, List, [], ◌∷◌}
 use Rattle.std.proofs.Common.{Result, Ok, Err}
 use Rattle.std.proofs.Common.{ap, arith, inl, inr, length, refl, sym}
 use Rattle.std.specs.Prelude.{◌≢◌, Some, None, IfErr, OnOk, option_and_then, option_map}

@@ -2,20 +2,22 @@
 //!
 //! For example, `# columns: a b q` names the columns of tests for a circuit with the inputs `a` and
 //! `b` and the flip-flop `q`. [`check_columns`] compares the names with those of a circuit, so that
-//! tests of another order don't go unnoticed. [`columns_line`] writes such a line. The readers of
-//! `patterns` see only a comment.
+//! tests of another order don't go unnoticed. [`columns_line`] writes such a line, and [`test_file`]
+//! a file that begins with it. The readers of `patterns` see only a comment.
 #![tactic(auto)]
 
 ghost use Rattle.std.specs.Prelude.{◌≡◌, ◌≢◌, IfErr, OnOk};
 ghost use Rattle.test_columns.specs.Columns.{AreInOrder, IsColumnFault};
 ghost use Rattle.test_columns.specs.declared.ColumnFault.TheVariants as fault;
 
+mod file;
 mod front;
 mod line;
 mod order;
 mod written;
 
 use bench_net::{BenchFault, one_answer, read_bench};
+pub use file::test_file;
 pub use front::read_front;
 use line::{find_columns, first_line};
 use order::compare_names;

@@ -15,7 +15,8 @@ returns-then-ends_front g c =
     behind_last (g.R.Read.remaining c.args.file.now) (g.R.Read.remaining c.loop.file)
     c.loop.front.items c.read_until.new.buf.items _ c.loop.invariant c.in-Ok.ensures.bytes
     (split_at c.loop.front.items c.read_until.new.buf.items c.deref.result.now c.len-start.result
-    (omega (arith, c.len-start.ensures, c.loop.front.ok)) c.deref.ensures.value c.read_until.ensures.appends)
+    (omega (arith, c.len-start.ensures, c.loop.front.ok)) c.deref.ensures.value
+    c.read_until.ensures.appends)
     (c.ends_front.ensures.yes c.if-ends_front.true)
 
 pub loop-preserved : goal.loop-preserved
@@ -24,5 +25,6 @@ loop-preserved g c =
     (g.R.Read.remaining c.read_until.new.self) c.loop.front.items c.read_until.new.buf.items _
     c.loop.invariant c.in-Ok.ensures.bytes c.in-Ok.ensures.rest
     (split_at c.loop.front.items c.read_until.new.buf.items c.deref.result.now c.len-start.result
-    (omega (arith, c.len-start.ensures, c.loop.front.ok)) c.deref.ensures.value c.read_until.ensures.appends)
+    (omega (arith, c.len-start.ensures, c.loop.front.ok)) c.deref.ensures.value
+    c.read_until.ensures.appends)
     (c.ends_front.ensures.no c.if-ends_front.false)

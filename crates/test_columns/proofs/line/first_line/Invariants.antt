@@ -1,4 +1,4 @@
-use Rattle.std.proofs.Common.{◌≡◌, ◌+◌, [], filter, length}
+use Rattle.std.proofs.Common.{◌≡◌, [], filter, length}
 use Rattle.std.specs.List.{enumerate_from}
 use Rattle.test_columns.specs.Columns.{is_written}
 use Rattle.test_columns.proofs.FirstLine.{given}

@@ -9,6 +9,7 @@ use Rattle.test_columns.proofs.ReadBack.{columns_read, found_name, rows_read, so
 use Rattle.test_columns.proofs.ReadBack.{spaced, spaced_more}
 use Rattle.test_columns.proofs.written.columns_line.Goals as goal
 use Rattle.test_columns.proofs.written.columns_line.Goals.{in_default}
+use Rattle.test_columns.proofs.written.columns_line.Goals.{}
 use Rattle.test_columns.proofs.written.columns_line.Goals.{in-Some+in_ok-push+in_ok-extend_from_slice-2}
 
 pub loop-place-preserved : goal.loop-place-preserved
