@@ -20,11 +20,6 @@ HasSomePart split.Whole = ⊤
 HasSomePart (split.Parts count) = 0 < count
 HasSomePart split.Fitting = ⊤
 
--- the least number of parts with which each is within the limit on pieces
-abbrev pub IsLeastSplit : Parts → ℕ → Type 0
-IsLeastSplit job parts = (0 < parts) × ArePartsWithin job parts
-    × ((other : ℕ) → 0 < other → ArePartsWithin job other → parts ≤ other)
-
 -- The number of parts into which a job is cut for a number of workers. A run as a whole has a
 -- number that suits them, and is within the limit itself. If the number is to fit, each part is
 -- within it.

@@ -9,18 +9,10 @@ use bench_net::Circuit;
 use block_sim::Job;
 use fault_model::Model;
 use patterns::Tests;
-use region_runs::{RunJob, window_blocks};
+use region_runs::RunJob;
 use std::alloc::{AllocError, Global};
 use std::sync::Wait;
 use std::thread::Threads;
-
-/// Returns whether the tests for a circuit stand apart from its job: if they may, and have more
-/// blocks than a window.
-fn stands_apart(circuit: &Circuit, tests: &Tests, apart: bool) -> bool
-    ensures { result ≡ true → apart ≡ true }
-{
-    apart && tests.blocks() > window_blocks(circuit.signals())
-}
 
 /// Makes the run of the job of a circuit and of tests for it under a model, for any number of
 /// pieces, in at most as many threads as there are workers.
@@ -56,10 +48,11 @@ pub(crate) fn run_with_tests<R: Threads + Wait>(
     ensures job { IfOk result (λ run. IsJobUnder job.list.model job.circuit tests run.parts) }
     ensures apart { IfOk result (λ run. run.apart ≡ true → apart ≡ true) }
 {
-    if stands_apart(job.circuit(), &tests, apart) {
-        return Ok(RunJob::apart(job, tests));
+    let mut run = RunJob::whole(job);
+    if apart {
+        run.set_tests(rt, alloc, tests, workers)?;
+    } else {
+        run.set_own_tests(rt, alloc, tests, workers)?;
     }
-    let mut job = job;
-    job.set_tests_of_any_size_in_threads(rt, alloc, tests, workers)?;
-    Ok(RunJob::whole(job))
+    Ok(run)
 }

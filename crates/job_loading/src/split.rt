@@ -8,15 +8,13 @@ ghost use Rattle.region_runs.specs.Refused.{ArePartsWithin};
 ghost use Rattle.block_sim.specs.JobParts.{IsJobUnder};
 ghost use Rattle.block_sim.specs.Parts.{BelongTogether, piece_count};
 ghost use Rattle.job_loading.specs.Jobs.{AreTestsFor, IsJobOf};
-ghost use Rattle.job_loading.specs.Splits.{HasSomePart, IsLeastSplit, IsSplitFault};
+ghost use Rattle.job_loading.specs.Splits.{HasSomePart, IsSplitFault};
 ghost use Rattle.job_loading.specs.Splits.{IsSplitFaultFor, IsSplitFaultForSome, IsSplitOf};
 
 use crate::fault::SimFault;
 use crate::pieces::read_job_in_pieces;
 use crate::run_job::run_with_tests;
-use crate::texts::{
-    job_of_any_size_in_threads, job_of_in_threads, make_any_job_in_threads, read_inputs_in_threads,
-};
+use crate::texts::{make_any_job_in_threads, read_inputs_in_threads};
 use bench_net::Circuit;
 use block_sim::{Job, JobFault, has_too_many_pieces};
 use fault_model::Model;
@@ -56,64 +54,12 @@ fn fewest_parts(classes: u32, blocks: u32) -> u32
     classes.div_ceil(classes_of_part).max(1)
 }
 
-/// Returns the least number of parts for which each part has at most [`patterns::MAX_PIECES`]
-/// pieces.
-pub fn least_parts(job: &Job) -> u32
-    ensures { IsLeastSplit job.now result }
-{
-    fewest_parts(job.classes().count(), job.tests().blocks())
-}
-
-/// Returns a number of parts that suits `workers` workers, or more if a part would exceed the
-/// limit.
-fn fitting_parts(job: &Job, workers: u32) -> u32
-    ensures some { 0 < result }
-    ensures within { ArePartsWithin job.now result }
-{
-    least_parts(job).max(parts_for(job, workers))
-}
-
-/// Reads the job of a bench file and a test file under a model. Returns it with the number of parts
-/// in which `workers` workers run it.
+/// Reads the job of a bench file and a test file under a model, for a run of all its classes.
+/// Returns it with the number of parts in which `workers` workers run it.
 ///
 /// It reads the files as [`crate::job_of_in_threads`] does. Only with [`Split::Whole`] does it
-/// check the number of pieces.
-pub fn split_job_of<R: Threads + Wait>(
-    rt: &R,
-    alloc: Global,
-    model: Model,
-    bench: &[u8],
-    tests: &[u8],
-    split: Split,
-    workers: u32,
-) -> Result<(Job, u32), SimFault>
-    requires { HasSomePart split }
-    ensures job { IfOk result (λ made. IsJobOf model bench.now tests.now made.0) }
-    ensures parts { IfOk result (λ made. IsSplitOf made.0 split workers made.1) }
-    ensures refused { IfErr result (IsSplitFault model bench.now tests.now split) }
-{
-    match split {
-        Split::Whole => {
-            let job = job_of_in_threads(rt, alloc, model, bench, tests, workers)?;
-            let parts = parts_for(&job, workers);
-            Ok((job, parts))
-        }
-        Split::Parts(parts) => {
-            let job = job_of_any_size_in_threads(rt, alloc, model, bench, tests, workers)?;
-            Ok((job, parts))
-        }
-        Split::Fitting => {
-            let job = job_of_any_size_in_threads(rt, alloc, model, bench, tests, workers)?;
-            let parts = fitting_parts(&job, workers);
-            Ok((job, parts))
-        }
-    }
-}
-
-/// Reads the job of a bench file and a test file under a model, for a run of all its classes.
-/// Returns it with the number of parts, as [`split_job_of`] does, with the same errors.
-///
-/// If `apart` is set, its tests may stand apart, so that it runs window by window.
+/// check the number of pieces. If `apart` is set, the tests may stand apart, so that the run goes
+/// window by window.
 pub fn split_run_of<R: Threads + Wait>(
     rt: &R,
     alloc: Global,
@@ -235,12 +181,13 @@ fn parts_of_split(run: &RunJob, split: Split, workers: u32) -> u32
     match split {
         Split::Whole => parts_for(run.job(), workers),
         Split::Parts(count) => count,
-        Split::Fitting => fitting_parts_of(run, workers),
+        Split::Fitting => fitting_parts(run, workers),
     }
 }
 
-/// Returns the number of parts of [`fitting_parts`] for a job whose tests may stand apart.
-fn fitting_parts_of(run: &RunJob, workers: u32) -> u32
+/// Returns a number of parts that suits `workers` workers, or more if a part would exceed the limit
+/// on pieces.
+fn fitting_parts(run: &RunJob, workers: u32) -> u32
     ensures some { 0 < result }
     ensures within { ArePartsWithin run.now.parts result }
 {

@@ -71,39 +71,9 @@ pub fn job_of_in_threads<R: Threads + Wait>(
     job_for_in_threads(rt, alloc, model, circuit, tests, workers)
 }
 
-/// Reads the job of a bench file and a test file under a model, for any number of pieces.
-pub fn job_of_any_size(
-    alloc: Global,
-    model: Model,
-    bench: &[u8],
-    tests: &[u8],
-) -> Result<Job, SimFault>
-    ensures job { IfOk result (IsJobOf model bench.now tests.now) }
-    ensures refused { IfErr result (IsReadFault bench.now tests.now) }
-{
-    let (circuit, tests) = read_inputs(alloc, bench, tests)?;
-    Ok(make_any_job(alloc, model, circuit, tests)?)
-}
-
-/// Reads the job as [`job_of_any_size`] does, with the same errors, in about as many threads as
-/// there are workers ([`read_inputs_in_threads`], [`Job::under_model_in_threads`]).
-pub fn job_of_any_size_in_threads<R: Threads + Wait>(
-    rt: &R,
-    alloc: Global,
-    model: Model,
-    bench: &[u8],
-    tests: &[u8],
-    workers: u32,
-) -> Result<Job, SimFault>
-    ensures job { IfOk result (IsJobOf model bench.now tests.now) }
-    ensures refused { IfErr result (IsReadFault bench.now tests.now) }
-{
-    let (circuit, tests) = read_inputs_in_threads(rt, alloc, bench, tests, workers)?;
-    Ok(make_any_job_in_threads(rt, alloc, model, circuit, tests, workers)?)
-}
-
-/// Reads the job as [`job_of_any_size_in_threads`] does, with the same errors, for a run. Its tests
-/// may stand apart if `apart` is set.
+/// Reads the job of a bench file and a test file under a model, for a run of any number of pieces,
+/// in about as many threads as there are workers ([`read_inputs_in_threads`],
+/// [`Job::under_model_in_threads`]). Its tests may stand apart if `apart` is set.
 pub fn run_of_any_size<R: Threads + Wait>(
     rt: &R,
     alloc: Global,
@@ -122,22 +92,8 @@ pub fn run_of_any_size<R: Threads + Wait>(
     Ok(run)
 }
 
-/// Makes the job of a circuit and of tests for it under a model, for any number of pieces.
-fn make_any_job(
-    alloc: Global,
-    model: Model,
-    circuit: Circuit,
-    tests: Tests,
-) -> Result<Job, AllocError>
-    requires { AreTestsFor circuit tests }
-    ensures { IfOk result (IsJobUnder model circuit tests) }
-{
-    let faults = list_faults_in(alloc, &circuit, model)?;
-    let classes = collapse(alloc, &circuit, &faults)?;
-    Job::of_any_size(alloc, circuit, faults, classes, tests)
-}
-
-/// Makes the job as [`make_any_job`] does, in threads.
+/// Makes the job of a circuit and of tests for it under a model, for any number of pieces, in at
+/// most as many threads as there are workers.
 pub(crate) fn make_any_job_in_threads<R: Threads + Wait>(
     rt: &R,
     alloc: Global,

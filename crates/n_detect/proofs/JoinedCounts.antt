@@ -1,5 +1,6 @@
 -- Counts of the hits before a window and of those in it.
-use Rattle.std.proofs.Common.{◌≡◌, ◌<◌, ◌≤◌, ◌+◌, ◌-◌, ◌∙◌, ℕ, zero, suc, Bool, ap, arith, cond, min}
+use Rattle.std.proofs.Common.{◌≡◌, ◌<◌, ◌≤◌, ◌+◌, ◌-◌, ◌∙◌, ℕ, zero, suc, Bool, ap, arith, cond}
+use Rattle.std.proofs.Common.{min}
 use Rattle.std.proofs.Common.{refl, sym}
 use Rattle.std.specs.Prelude.{count_by}
 use Rattle.patterns.specs.Least.{from_up}

@@ -6,12 +6,12 @@ ghost use Rattle.n_detect.specs.ClassTests.{AreClassTests, AreGroupsIn};
 ghost use Rattle.n_detect.specs.CountLaws.{always_wanted, groups_unchanged};
 
 use block_sim::Job;
-use region_runs::{GoalRun, run_goal};
+use region_runs::{GoalRun, Watch, run_goal};
 use region_sim::Goal;
 use std::alloc::{AllocError, Global};
 use std::sync::Wait;
 use std::thread::Threads;
-use workers::{OpenGate, RunFault};
+use workers::RunFault;
 
 /// The tests of a job that detect each class.
 #[derive(Drop)]
@@ -24,21 +24,23 @@ pub struct ClassTests {
 }
 
 /// Returns the tests that detect each class of a job. The run is one in `parts` parts
-/// ([`run_goal`]). Beside the rooms of the workers it takes 16 bytes for each class and group of
+/// ([`run_goal`]), under a gate that lets each piece pass. Beside the rooms of the workers it takes 16 bytes for each class and group of
 /// 128 tests.
 ///
 /// # Errors
 ///
 /// [`RunFault::NoWorkers`]; [`RunFault::TooManyWorkers`] above 64 workers; [`RunFault::Memory`] or
 /// [`RunFault::Threads`] if memory runs out or a thread doesn't start.
-pub fn class_tests<R: Threads + Wait>(
+pub fn class_tests<G: Watch + Sync, R: Threads + Wait>(
     rt: &R,
     alloc: Global,
     job: &Job,
     parts: u32,
     workers: u32,
+    gate: &G,
 ) -> Result<ClassTests, RunFault>
-    requires { 0 < parts }
+    requires passing { G.passing gate.now }
+    requires parts { 0 < parts }
     ensures tests { IfOk result (λ tests.
         AreClassTests job.now tests.positions.items tests.words.items) }
     ensures workers { OnOk result ((0 < workers) × (workers ≤ 64)) }
@@ -47,7 +49,9 @@ pub fn class_tests<R: Threads + Wait>(
     let goal = GroupTests {
         groups: job.tests().blocks().div_ceil(2),
     };
-    let done = run_goal(rt, alloc, job, parts, workers, &goal, &OpenGate)?;
+    gate.starts(job.classes().count(), job.tests().blocks());
+    let done = run_goal(rt, alloc, job, parts, workers, &goal, gate)?;
+    gate.ends();
     let GoalRun {
         classes: _classes,
         positions,

@@ -6,16 +6,16 @@ ghost use Rattle.n_detect.specs.Detections.{AreCounts, AreCountsAt, IsClassCount
 ghost use Rattle.n_detect.specs.HitCounts.{one_of};
 
 use crate::count::{Count, least};
-use region_runs::RunJob;
+use region_runs::{RunJob, Watch};
 use region_sim::FirstTest;
 use std::alloc::{AllocError, Global};
 use std::sync::Wait;
 use std::thread::Threads;
-use workers::{Gate, RunFault};
+use workers::RunFault;
 
-/// Counts, for each fault of the uncollapsed list of a job, the tests that detect it. The count ends
-/// at `most`, so more tests may detect a fault with `most`. Counts up to 1 take a run for first
-/// tests, which leaves out the lanes behind the first test of a class.
+/// Counts, for each fault of the uncollapsed list of a job, the tests that detect it. The count
+/// ends at `most`, so more tests may detect a fault with `most`. Counts up to 1 take a run for
+/// first tests, which leaves out the lanes behind the first test of a class.
 ///
 /// A transition fault is counted at the capture test of each pair that detects it. The classes run
 /// in stretches, which workers claim, each in a thread of its own ([`RunJob::run_goal`]); the
@@ -26,7 +26,7 @@ use workers::{Gate, RunFault};
 ///
 /// [`RunFault::NoWorkers`]; [`RunFault::TooManyWorkers`] above 64 workers; [`RunFault::Memory`] or
 /// [`RunFault::Threads`] if memory runs out or a thread doesn't start.
-pub fn detections<G: Gate + Sync, R: Threads + Wait>(
+pub fn detections<G: Watch + Sync, R: Threads + Wait>(
     rt: &R,
     alloc: Global,
     run: &mut RunJob,

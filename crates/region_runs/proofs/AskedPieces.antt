@@ -42,7 +42,8 @@ module _ {K : Type 0} (task : Task K) (sound : IsSound task) (b : BelongTogether
       go : (v : Bool) → task.wants one ≡ v → task.wants one ≡ true
       go true e = e
       go false e =
-          let later = sound.stays one h.0 (64 * task.from) (64 * from) (64 * block) e (omega (arith, le)) was in
+          let later = sound.stays one h.0 (64 * task.from) (64 * from) (64 * block) e
+          (omega (arith, le)) was in
           absurd (false≢true (sym e ∙ still h.0 one h.1 later))
 
   -- a class that is open after later blocks is open at its place

@@ -182,7 +182,8 @@ module _ {K : Type 0} (task : Task K) (rows : List ListedClass) (span : BlockSpa
       let end : 64 * span.last + 64 ≡ 64 * (span.last + 1) = omega arith in
       subst (λ v. task.means hits (64 * task.from) (64 * (span.last + 1)) v) same
       (subst (λ n. task.means hits (64 * task.from) n t.1) end
-      (t.4 hits (64 * task.from) (subst (λ c. AreHits task.job c hits) (sym x.2) h) (omega (arith, low)) was))
+      (t.4 hits (64 * task.from) (subst (λ c. AreHits task.job c hits) (sym x.2) h)
+      (omega (arith, low)) was))
 
   -- of all rows
   pub kept_swept : HaveTaken task.means task.job span rows 0 (length rows) before now

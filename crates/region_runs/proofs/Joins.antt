@@ -1,5 +1,6 @@
 -- What is kept of classes, joined with what was found of a window.
-use Rattle.std.proofs.Common.{◌≡◌, ◌≢◌, ◌⊎◌, ◌<◌, ◌≤◌, ◌+◌, ◌-◌, ◌++◌, ◌∙◌, inl, inr, ℕ, zero, suc, List, []}
+use Rattle.std.proofs.Common.{◌≡◌, ◌≢◌, ◌⊎◌, ◌<◌, ◌≤◌, ◌+◌, ◌-◌, ◌++◌, ◌∙◌, inl, inr, ℕ, zero, suc}
+use Rattle.std.proofs.Common.{List, []}
 use Rattle.std.proofs.Common.{◌∷◌, All, Bool, Option, Some, None, true, false, refl, sym, ap, subst}
 use Rattle.std.proofs.Common.{arith, cond, get_or, length}
 use Rattle.std.specs.Prelude.{count_by, is_some, slice_get, take}

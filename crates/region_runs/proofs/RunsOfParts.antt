@@ -83,10 +83,12 @@ pub runs_count : {K : Type 0} (from size : ℕ) (classes : List ℕ) (part : ℕ
     (Done K)))
     → length (runs_from from size classes part table) ≡ length table
 runs_count {K} from size classes part [] = refl
-runs_count {K} from size classes part (x ∷ table) = ap suc (runs_count from size classes (part + 1) table)
+runs_count {K} from size classes part (x ∷ table) =
+    ap suc (runs_count from size classes (part + 1) table)
 
 -- the run at a place
-run_from : {K : Type 0} (from size : ℕ) (classes : List ℕ) (part : ℕ) (table : List (Option (Done K)))
+run_from : {K : Type 0} (from size : ℕ) (classes : List ℕ) (part : ℕ)
+    (table : List (Option (Done K)))
     (k : ℕ)
     (place : Option (Done K)) → slice_get table k ≡ Some place
     → slice_get (runs_from from size classes part table) k
@@ -209,13 +211,15 @@ unbegun_so : {K : Type 0} (task : Task K) (size : ℕ) (classes : List ℕ) (wor
     (runs : List PartRun) (own : List ℕ)
     → (0 < length own → AreAllStopped task size classes workers S runs)
     → ((unbegun_run task.from own).classes ≡ own)
-    × HasRunSo task size classes workers S runs (unbegun_run task.from own) (unbegun_run task.from own).worker
+    × HasRunSo task size classes workers S runs (unbegun_run task.from own)
+    (unbegun_run task.from own).worker
 unbegun_so {K} task size classes workers S runs [] stopped = (refl, (refl, stopped))
 unbegun_so {K} task size classes workers S runs (class ∷ own) stopped = (refl, (refl, stopped))
 
 -- a class of it waits only if it has one
 unbegun_open : {K : Type 0} (task : Task K) (own : List ℕ) (class block : ℕ)
-    → IsOpenIn task (unbegun_run task.from own).classes (unbegun_run task.from own).stop class block → 0 < length own
+    → IsOpenIn task (unbegun_run task.from own).classes (unbegun_run task.from own).stop class block
+    → 0 < length own
 unbegun_open {K} task [] class block x = absurd x
 unbegun_open {K} task (c ∷ own) class block x = omega arith
 
@@ -227,7 +231,8 @@ unbegun_empty {K} task (class ∷ own) e = absurd (omega (arith, e))
 
 -- and in another the lowest class does
 pub unbegun_lowest : {K : Type 0} (task : Task K) (own : List ℕ) (lowest : Option Waiting)
-    → IsLowest (IsOpenIn task own (Some (at_first task.from))) lowest → IsLowestIn task (unbegun_run task.from own) lowest
+    → IsLowest (IsOpenIn task own (Some (at_first task.from))) lowest
+    → IsLowestIn task (unbegun_run task.from own) lowest
 unbegun_lowest {K} task [] lowest is = lowest_along (IsOpenIn task [] (Some (at_first task.from)))
     (IsOpenIn task [] None) lowest
     (λ class block x. let low = x.low in absurd (omega (arith, low)))
@@ -263,7 +268,8 @@ begun : {K : Type 0} (from : ℕ) (own : List ℕ) (place : Option (Done K)) (ru
     → run.worker ≡ Some w
     → (done : Done K) × (place ≡ Some done) × (done.worker ≡ w) × (run.stop ≡ done.stop)
 begun {K} from own None run w e q =
-    let bad : None ≡ Some w = sym (unbegun_none from own) ∙ (sym (ap (λ (r : PartRun). r.worker) e) ∙ q)
+    let bad : None ≡ Some w = sym (unbegun_none from own)
+    ∙ (sym (ap (λ (r : PartRun). r.worker) e) ∙ q)
     in absurd (cc)
 begun {K} from own (Some done) run w e q =
     let both : Some done.worker ≡ Some w = sym (ap (λ (r : PartRun). r.worker) e) ∙ q in

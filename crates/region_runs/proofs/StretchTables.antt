@@ -10,8 +10,8 @@ use Rattle.region_runs.specs.Tasks.{Task}
 
 -- A place of a table of stretches has a worker's result for the stretch of this number, and if it
 -- is empty no worker began the stretch. Then the stretch has no class, or the gate stopped each
--- worker in one of the runs, so it does not let all pass, and there is a block to run. A worker leaves a
--- class open in at most one stretch.
+-- worker in one of the runs, so it does not let all pass, and there is a block to run. A worker
+-- leaves a class open in at most one stretch.
 pub record AreFoundByPart {K : Type 0} (task : Task K) (size : ℕ) (classes : List ℕ) (workers : ℕ)
     (passing : Type 0) (stops : Stops) (table : List (Option (Done K))) : Type 0 where
   pub each : (part : ℕ) (done : Done K) → slice_get table part ≡ Some (Some done)

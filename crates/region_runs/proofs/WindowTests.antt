@@ -111,5 +111,6 @@ same_hits job some from end h class t hits own of even after lt all mine =
         let within = of.all (from + t) d.0 lt d.1 in
         let down = detects_down job.circuit job.tests.tests some.tests from end all.0 h t of even
         (omega (arith, within)) after d in
-        let hit = (mine.2 t).1 (subst (λ r. DetectsAt job.circuit some.tests r t) (sym same) down) in
+        let hit = (mine.2 t).1
+        (subst (λ r. DetectsAt job.circuit some.tests r t) (sym same) down) in
         absurd (false≢true (sym e ∙ hit))

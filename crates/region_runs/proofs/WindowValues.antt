@@ -1,5 +1,6 @@
 -- What is kept of the classes of a list after a window.
-use Rattle.std.proofs.Common.{◌≡◌, ◌⊎◌, ◌<◌, ◌≤◌, ◌*◌, ◌+◌, ◌-◌, ◌∙◌, All, inl, inr, ℕ, suc, List, []}
+use Rattle.std.proofs.Common.{◌≡◌, ◌⊎◌, ◌<◌, ◌≤◌, ◌*◌, ◌+◌, ◌-◌, ◌∙◌, All, inl, inr, ℕ, suc, List}
+use Rattle.std.proofs.Common.{[]}
 use Rattle.std.proofs.Common.{Bool, Some, None, arith, length, refl, sym, subst, ap, true, false}
 use Rattle.std.proofs.lemmas.Option.{get_or_from_slice_get, slice_get_within}
 use Rattle.std.specs.Prelude.{count_by, slice_get, take}
@@ -78,7 +79,8 @@ module _ {K : Type 0} (task : Task K) (sound : IsSound task) (tests some : TestL
     count = joined.count ∙ known.count;
     each = λ hits k class one at there h.
         let long = known.count in
-        let old = within_place before k (omega (arith, slice_get_within classes k class at, long)) in
+        let old = within_place before k
+        (omega (arith, slice_get_within classes k class at, long)) in
         go hits k class one old.0 at old.1 h
         (known.each hits k class old.0 at old.1 h) (joined.each k old.0 one old.1 there);
   }

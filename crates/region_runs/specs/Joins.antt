@@ -2,8 +2,8 @@
 use Rattle.std.specs.Prelude.{◌≡◌, ◌⊎◌, ◌+◌, ◌≤◌, ◌<◌, ℕ, Bool, List, Some, count_by, false}
 use Rattle.std.specs.Prelude.{length, slice_get, take, true}
 
--- What was kept of tests up to one, and of a window's tests from there on, is kept of both together.
--- The window numbers its tests from 0: its first one is test `start` of all.
+-- What was kept of tests up to one, and of a window's tests from there on, is kept of both
+-- together. The window numbers its tests from 0: its first one is test `start` of all.
 abbrev pub Joins : {K : Type 0} → ((ℕ → Bool) → ℕ → ℕ → K → Type 0) → ℕ → K → K → K → Type 0
 Joins means start old later new = (hits own : ℕ → Bool) (low mid high : ℕ)
     → low ≤ start + mid → mid ≤ high → start + high ≤ 65536

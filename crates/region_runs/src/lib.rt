@@ -9,8 +9,9 @@
 //! [`run_in_parts`] runs all classes in some number of stretches, and [`run_open`] in a number that
 //! suits the workers. [`run_goal`] runs them for any [`region_sim::Goal`]. [`run_part`] runs the
 //! classes of one part of a run that several machines share. [`run_in_windows`] and
-//! [`run_part_in_windows`] do so on some blocks at a time, and a [`RunJob`] as its tests want it. A [`ListRunner`] runs lists of classes
-//! in its caller's thread.
+//! [`run_part_in_windows`] do so on some blocks at a time, and a [`RunJob`] as its tests want it,
+//! under a gate that may observe the run ([`Watch`]). A [`ListRunner`] runs lists of classes in its
+//! caller's thread.
 #![tactic(auto)]
 
 mod class_order;
@@ -24,6 +25,7 @@ mod run_job;
 mod stretch_run;
 mod stretch_workers;
 mod stretches;
+mod watch;
 mod window_goal;
 mod windows;
 
@@ -35,6 +37,7 @@ pub use parts::{
 };
 pub use run_job::RunJob;
 pub use stretches::{parts_for, stretches_for};
+pub use watch::{ReasonCounts, Watch};
 pub use window_goal::WindowGoal;
 pub use windows::{
     WindowRun, run_goal_in_windows, run_in_windows, run_part_in_windows, window_blocks,

@@ -347,7 +347,8 @@ fn joined<A: Goal>(
     requires count { vec_len table ≡ cut.now.parts }
     requires kept { AreAllKept (task_of job.now cut.now.from (A.wants goal.now) (A.means goal.now))
         cut.now.size cut.now.classes.items table.items }
-    ensures { IfOk result (λ kept. AreKept (task_of job.now cut.now.from (A.wants goal.now) (A.means goal.now))
+    ensures { IfOk result (λ kept. AreKept (task_of job.now cut.now.from (A.wants goal.now)
+        (A.means goal.now))
         cut.now.classes.items kept.items) }
 {
     let (_job, _goal) = (job, goal);
@@ -383,9 +384,11 @@ fn waiting_in<A: Goal>(
     place: Option<Done<A::Kept>>,
 ) -> Result<Option<Waiting>, AllocError>
     requires cut { IsCutOf job.now cut.now.from cut.now.parts cut.now.size cut.now.classes.items }
-    requires lowest { IsLowestAt (task_of job.now cut.now.from (A.wants goal.now) (A.means goal.now))
+    requires lowest { IsLowestAt (task_of job.now cut.now.from (A.wants goal.now)
+        (A.means goal.now))
         (stretch cut.now.size cut.now.classes.items part) place }
-    ensures { IfOk result (IsLowestIn (task_of job.now cut.now.from (A.wants goal.now) (A.means goal.now))
+    ensures { IfOk result (IsLowestIn (task_of job.now cut.now.from (A.wants goal.now)
+        (A.means goal.now))
         (run_at cut.now.from (stretch cut.now.size cut.now.classes.items part) place)) }
 {
     match place {
@@ -404,9 +407,11 @@ fn lowest_waiting<A: Goal>(
 ) -> Result<Option<Waiting>, AllocError>
     requires cut { IsCutOf job.now cut.now.from cut.now.parts cut.now.size cut.now.classes.items }
     requires count { vec_len table ≡ cut.now.parts }
-    requires lowest { AreAllLowest (task_of job.now cut.now.from (A.wants goal.now) (A.means goal.now))
+    requires lowest { AreAllLowest (task_of job.now cut.now.from (A.wants goal.now)
+        (A.means goal.now))
         cut.now.size cut.now.classes.items table.items }
-    ensures { IfOk result (IsLowest (WaitsIn (task_of job.now cut.now.from (A.wants goal.now) (A.means goal.now))
+    ensures { IfOk result (IsLowest (WaitsIn (task_of job.now cut.now.from (A.wants goal.now)
+        (A.means goal.now))
         (runs_from cut.now.from cut.now.size cut.now.classes.items 0 table.items))) }
 {
     let mut lowest = None;
@@ -546,7 +551,8 @@ where
     A::Kept: Send,
     requires cut { IsCutOf job.now cut.now.from cut.now.parts cut.now.size cut.now.classes.items }
     requires workers { (0 < workers) × (workers ≤ 64) }
-    requires wanted { IsOpenAtFirst (task_of job.now cut.now.from (A.wants goal.now) (A.means goal.now)) }
+    requires wanted { IsOpenAtFirst (task_of job.now cut.now.from (A.wants goal.now)
+        (A.means goal.now)) }
     ensures kept { IfOk result (λ gathered. AreKept
         (task_of job.now cut.now.from (A.wants goal.now) (A.means goal.now)) cut.now.classes.items
         gathered.kept.items) }

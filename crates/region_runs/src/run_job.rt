@@ -16,13 +16,14 @@ ghost use Rattle.region_runs.specs.Tasks.{AreKept, IsOpenAtFirst, task_of};
 
 use crate::goal_run::{GoalRun, run_goal};
 use crate::parts::{PartVerdict, run_in_parts, run_part};
+use crate::watch::Watch;
 use crate::window_goal::WindowGoal;
 use crate::windows::{
     WindowRun, run_goal_in_windows, run_in_windows, run_part_in_windows, window_blocks,
 };
 use block_sim::{Job, SpentTests};
 use patterns::Tests;
-use std::alloc::Global;
+use std::alloc::{AllocError, Global};
 use std::marker;
 use std::sync::Wait;
 use std::thread::Threads;
@@ -71,11 +72,12 @@ impl RunJob {
         }
     }
 
-    /// Returns the job without regard to its tests.
+    /// Returns the job without regard to its tests, if they may stand apart.
     pub fn job(&self) -> &Job
         ensures circuit { result.now.circuit ≡ self.now.parts.circuit }
         ensures list { result.now.list ≡ self.now.parts.list }
         ensures classes { result.now.classes ≡ self.now.parts.classes }
+        ensures own { self.now.apart ≡ false → result.now ≡ self.now.parts }
     {
         &self.job
     }
@@ -90,6 +92,50 @@ impl RunJob {
             Some(tests) => tests,
             None => own,
         }
+    }
+
+    /// Takes other tests. They stand apart if they have more blocks than a window
+    /// ([`window_blocks`]). If not, at most as many threads as there are workers compute their
+    /// fault-free words. It fails only for memory, and then the run is as it was.
+    pub fn set_tests<R: Threads + Wait>(
+        &mut self,
+        rt: &R,
+        alloc: Global,
+        tests: Tests,
+        workers: u32,
+    ) -> Result<(), AllocError>
+        requires list { IsTestList tests }
+        requires width { tests.width ≡ length (sources self.old.parts.circuit) }
+        ensures tests { OnOk result (self.new.parts ≡ with_tests self.old.parts tests) }
+        ensures kept { IfErr result (λ fault. self.new ≡ self.old) }
+    {
+        if tests.blocks() <= window_blocks(self.job.circuit().signals()) {
+            return self.set_own_tests(rt, alloc, tests, workers);
+        }
+        let none = Tests::new(alloc, tests.width());
+        self.job.set_tests_of_any_size(alloc, none)?;
+        self.apart = Some(tests);
+        Ok(())
+    }
+
+    /// Takes other tests as [`RunJob::set_tests`] does, but they never stand apart.
+    pub fn set_own_tests<R: Threads + Wait>(
+        &mut self,
+        rt: &R,
+        alloc: Global,
+        tests: Tests,
+        workers: u32,
+    ) -> Result<(), AllocError>
+        requires list { IsTestList tests }
+        requires width { tests.width ≡ length (sources self.old.parts.circuit) }
+        ensures tests { OnOk result (self.new.parts ≡ with_tests self.old.parts tests) }
+        ensures own { OnOk result (self.new.apart ≡ false) }
+        ensures kept { IfErr result (λ fault. self.new ≡ self.old) }
+    {
+        let job = &mut self.job;
+        job.set_tests_of_any_size_in_threads(rt, alloc, tests, workers)?;
+        self.apart = None;
+        Ok(())
     }
 
     /// Returns the tests of the job and their fault-free words, so that another thread can free
@@ -108,8 +154,38 @@ impl RunJob {
 
     /// Runs all classes in a number of parts, by workers in threads of their own, with the verdicts
     /// and the errors of [`run_in_parts`]. If the tests stand apart, it runs window by
-    /// window ([`run_in_windows`]), under a gate that lets each piece pass.
-    pub fn run<R: Threads + Wait, G: Gate + Sync>(
+    /// window ([`run_in_windows`]), under a gate that lets each piece pass. It calls the gate when
+    /// the run begins, when all is settled, and with the verdicts.
+    pub fn run<R: Threads + Wait, G: Watch + Sync>(
+        &mut self,
+        rt: &R,
+        alloc: Global,
+        parts: u32,
+        workers: u32,
+        gate: &G,
+    ) -> Result<Verdicts, RunFault>
+        requires gate { self.old.apart ≡ true → G.passing gate.now }
+        requires parts { 0 < parts }
+        ensures firsts { IfOk result (λ v. AreFirsts self.old.parts.list.model
+            self.old.parts.circuit self.old.parts.tests.tests v.firsts) }
+        ensures skipped { IfOk result (λ v. AreAfterHits self.old.parts v.skipped) }
+        ensures workers { OnOk result ((0 < workers) × (workers ≤ 64)) }
+        ensures within { OnOk result (ArePartsWithin self.old.parts parts) }
+        ensures ledgers { IfOk result (AreByLedgers self.old.parts parts workers) }
+        ensures refused { IfErr result (IsPartsFault self.old.parts parts workers
+            (G.passing gate.now) (G.stops gate.now)) }
+        ensures kept { self.new ≡ self.old }
+    {
+        gate.starts(self.job.classes().count(), self.tests().blocks());
+        let verdicts = self.run_unwatched(rt, alloc, parts, workers, gate)?;
+        gate.ends();
+        gate.finds(&self.job, self.tests(), &verdicts);
+        Ok(verdicts)
+    }
+
+    /// Runs all classes as [`RunJob::run`] does, without a call of the gate beside those for
+    /// pieces.
+    fn run_unwatched<R: Threads + Wait, G: Gate + Sync>(
         &mut self,
         rt: &R,
         alloc: Global,
@@ -173,13 +249,51 @@ impl RunJob {
 
     /// Runs all classes for a goal, in a number of parts if the tests are the job's own
     /// ([`run_goal`]), and else window by window ([`run_goal_in_windows`]). The classes and blocks
-    /// have no limit. The gate lets each piece pass.
+    /// have no limit. The gate lets each piece pass. It learns when the run begins and when all is
+    /// settled.
     ///
     /// # Errors
     ///
     /// [`RunFault::NoWorkers`]; [`RunFault::TooManyWorkers`] above 64 workers; [`RunFault::Memory`]
     /// or [`RunFault::Threads`] if memory runs out or a thread doesn't start.
-    pub fn run_goal<A: WindowGoal + Sync, R: Threads + Wait, G: Gate + Sync>(
+    pub fn run_goal<A: WindowGoal + Sync, R: Threads + Wait, G: Watch + Sync>(
+        &mut self,
+        rt: &R,
+        alloc: Global,
+        parts: u32,
+        workers: u32,
+        goal: &A,
+        gate: &G,
+    ) -> Result<WindowRun<A::Kept>, RunFault>
+    where
+        A::Kept: Send,
+        requires passing { G.passing gate.now }
+        requires parts { 0 < parts }
+        requires wanted { IsOpenAtFirst
+            (task_of self.old.parts 0 (A.wants goal.now) (A.means goal.now)) }
+        ensures classes { IfOk result (λ run. AreAllByRegion self.old.parts run.classes.items) }
+        ensures positions { IfOk result (λ run.
+            ArePositions run.classes.items run.positions.items) }
+        ensures count { IfOk result (λ run.
+            length run.positions.items ≡ length self.old.parts.classes.representative) }
+        ensures kept { IfOk result (λ run. AreKept (task_of self.old.parts 0 (A.wants goal.now)
+            (A.means goal.now)) run.classes.items run.kept.items) }
+        ensures workers { OnOk result ((0 < workers) × (workers ≤ 64)) }
+        ensures ledgers { IfOk result (λ run. AreKeptByLedgers (task_of self.old.parts 0
+            (A.wants goal.now) (A.means goal.now)) parts workers run.classes.items
+            run.kept.items) }
+        ensures refused { IfErr result (IsOpenFault workers) }
+        ensures same { self.new ≡ self.old }
+    {
+        gate.starts(self.job.classes().count(), self.tests().blocks());
+        let run = self.run_goal_unwatched(rt, alloc, parts, workers, goal, gate)?;
+        gate.ends();
+        Ok(run)
+    }
+
+    /// Runs all classes for a goal as [`RunJob::run_goal`] does, without a call of the gate beside
+    /// those for pieces.
+    fn run_goal_unwatched<A: WindowGoal + Sync, R: Threads + Wait, G: Gate + Sync>(
         &mut self,
         rt: &R,
         alloc: Global,

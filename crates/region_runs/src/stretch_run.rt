@@ -37,8 +37,8 @@ pub(crate) struct Waiting {
 }
 
 /// Simulates the classes of a list on every block from one on, one block after another, until the
-/// gate stops the worker. It skips a class that more tests can't change. If the gate lets every piece pass, it
-/// leaves out the dead classes at the end of the list.
+/// gate stops the worker. It skips a class that more tests can't change. If the gate lets every
+/// piece pass, it leaves out the dead classes at the end of the list.
 pub(crate) fn run_list<A: Goal, G: Gate>(
     job: &Job,
     from: u32,

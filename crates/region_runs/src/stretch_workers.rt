@@ -76,7 +76,8 @@ pub(crate) fn run_alone<A: Goal, G: Gate>(
 ) -> Result<Done<A::Kept>, AllocError>
     requires cut { IsCutOf job.now cut.now.from cut.now.parts cut.now.size cut.now.classes.items }
     requires serves { ServesRegions member.old.simulation job.now 0 }
-    ensures done { IfOk result (IsDone (task_of job.now cut.now.from (A.wants goal.now) (A.means goal.now))
+    ensures done { IfOk result (IsDone (task_of job.now cut.now.from (A.wants goal.now)
+        (A.means goal.now))
         cut.now.size cut.now.classes.items member.old.number (G.passing gate.now)
         (G.stops gate.now)) }
     ensures part { IfOk result (λ done. done.part ≡ part) }
@@ -139,7 +140,8 @@ pub(crate) fn not_begun<A: Goal>(
     requires cut { IsCutOf job.now cut.now.from cut.now.parts cut.now.size cut.now.classes.items }
     requires block { 0 < length (stretch cut.now.size cut.now.classes.items part)
         → cut.now.from < blocks (length job.now.tests.tests) }
-    ensures { IfOk result (IsLowestIn (task_of job.now cut.now.from (A.wants goal.now) (A.means goal.now))
+    ensures { IfOk result (IsLowestIn (task_of job.now cut.now.from (A.wants goal.now)
+        (A.means goal.now))
         (unbegun_run cut.now.from (stretch cut.now.size cut.now.classes.items part))) }
 {
     let own = cut.stretch(part);
@@ -215,7 +217,8 @@ fn run_held<A: Goal, G: Gate>(
     requires place { seat.old.place ≡ ledger.now }
     requires holding { held_by seat.old.worker seat.old.seen ≡ Some part }
     requires serves { ServesRegions member.old.simulation job.now 0 }
-    ensures done { IfOk result (IsDone (task_of job.now cut.now.from (A.wants goal.now) (A.means goal.now))
+    ensures done { IfOk result (IsDone (task_of job.now cut.now.from (A.wants goal.now)
+        (A.means goal.now))
         cut.now.size cut.now.classes.items member.old.number (G.passing gate.now)
         (G.stops gate.now)) }
     ensures part { IfOk result (λ done. done.part ≡ part) }
@@ -308,7 +311,8 @@ where
     ghost use Rattle.region_runs.specs.Tasks.{task_of};
 
     ghost kept_by = { λ p r. IfOk r (λ served.
-        HasServed (task_of p.job.value p.cut.value.from (A.wants p.goal.value) (A.means p.goal.value))
+        HasServed (task_of p.job.value p.cut.value.from (A.wants p.goal.value)
+        (A.means p.goal.value))
         p.cut.value.size p.cut.value.classes.items p.ledger.value p.worker
         (G.passing p.gate.value) (G.stops p.gate.value) served.seat served.dones.items) };
 }
@@ -339,11 +343,13 @@ where
         thread::scope_env(),
         rt,
         |scope| -> Result<Vec<Result<Served<A::Kept>, AllocError>>, RunFault>
-            requires cut { IsCutOf job.now cut.now.from cut.now.parts cut.now.size cut.now.classes.items }
+            requires cut { IsCutOf job.now cut.now.from cut.now.parts cut.now.size
+                cut.now.classes.items }
             requires stretches { ledger.now.shape.tests ≡ 64 }
             requires new { seats.items ≡ newcomers ledger.now }
             ensures served { IfOk result (λ back.
-                AreServed (task_of job.entry.now cut.entry.now.from (A.wants goal.entry.now) (A.means goal.entry.now))
+                AreServed (task_of job.entry.now cut.entry.now.from (A.wants goal.entry.now)
+                (A.means goal.entry.now))
                 cut.entry.now.size cut.entry.now.classes.items ledger.entry.now
                 (G.passing gate.entry.now) (G.stops gate.entry.now) back.items) }
             ensures refused { IfErr result (λ fault.

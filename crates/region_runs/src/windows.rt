@@ -297,8 +297,8 @@ fn have_window<R: Threads + Wait>(
     take_window(rt, alloc, job, tests, window, workers)
 }
 
-/// Returns all classes of a job in order, as [`class_order`] does, and whether it has the tests of the first window now: with a second worker a thread sorts the
-/// classes while the job takes them.
+/// Returns all classes of a job in order, as [`class_order`] does, and whether it has the tests of
+/// the first window now: with a second worker a thread sorts the classes while the job takes them.
 fn classes_and_window<R: Threads + Wait>(
     rt: &R,
     alloc: Global,
@@ -483,8 +483,8 @@ pub struct WindowRun<K> {
     pub kept: Vec<K>,
 }
 
-/// Runs all classes of a job for a goal on a list of tests that is not its own, window by window, as
-/// [`run_in_windows`] does for first tests. The classes and blocks have no limit here.
+/// Runs all classes of a job for a goal on a list of tests that is not its own, window by window,
+/// as [`run_in_windows`] does for first tests. The classes and blocks have no limit here.
 ///
 /// # Errors
 ///

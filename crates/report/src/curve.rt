@@ -18,7 +18,7 @@ use byte_output::{Out, OutFailed, put_pieces};
 use fault_model::Model;
 use fault_model::laws::stems;
 use itoa::Buffer;
-use job_loading::{ReportFault, RunJob, SimFault, Split, Watch, run_apart_watched, split_run_of};
+use job_loading::{ReportFault, RunJob, SimFault, Split, Watch, split_run_of};
 use std::alloc::{AllocError, Global};
 use std::sync::Wait;
 use std::thread::Threads;
@@ -125,7 +125,7 @@ pub fn write_curve_of_run<R: Threads + Wait, G: Watch + Sync, W: Out>(
     ensures within { OnOk result (ArePartsWithin run.old.parts parts) }
     ensures kept { run.new ≡ run.old }
 {
-    let verdicts = run_apart_watched(rt, alloc, run, parts, workers, gate)?;
+    let verdicts = run.run(rt, alloc, parts, workers, gate)?;
     let points = curve_of(alloc, &verdicts, run.tests().count())?;
     write_curve(run.job(), &verdicts, &points, out)?;
     Ok(())

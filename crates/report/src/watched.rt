@@ -14,7 +14,7 @@ use crate::contents::Contents;
 use crate::in_threads::write_report_in_threads;
 use byte_output::Out;
 use fault_model::Model;
-use job_loading::{RunJob, SimFault, Split, Watch, run_apart_watched, split_run_of};
+use job_loading::{RunJob, SimFault, Split, Watch, split_run_of};
 use std::alloc::Global;
 use std::sync::Wait;
 use std::thread;
@@ -92,7 +92,7 @@ pub fn write_report_of_run<R: Threads + Wait, G: Watch + Sync, W: Out>(
     ensures unchanged { (fault : RunFault) → result ≡ Err (SimFault.Run fault)
         → run.new ≡ run.old }
 {
-    let verdicts = run_apart_watched(rt, alloc, run, parts, workers, gate)?;
+    let verdicts = run.run(rt, alloc, parts, workers, gate)?;
     let freeing = free_tests_in_thread(rt, alloc, run, workers);
     let written = write_report_in_threads(rt, alloc, run.job(), &verdicts, contents, workers, out);
     if let Some(thread) = freeing {

@@ -2,7 +2,7 @@
 use Rattle.std.proofs.Common.{◌≡◌, ◌∙◌, ◌<◌, ◌-◌, ◌*◌, ◌/◌, ◌%◌, ℕ, List, [], ◌++◌, ap}
 use Rattle.std.proofs.Common.{append-nil, append_assoc, arith, max, refl, subst}
 use Rattle.std.specs.Prelude.{OnOk, Option, Result, Some, codes, decimal}
-use Rattle.job_loading.specs.declared.watch.ReasonCounts.{ReasonCounts}
+use Rattle.region_runs.specs.declared.watch.ReasonCounts.{ReasonCounts}
 use Rattle.std.proofs.lemmas.Fmt.{decimal_digit}
 use Rattle.tables.specs.Summaries.{effort_text, found_text, inputs_of, reasons_text, seconds_text}
 use Rattle.tables.specs.Tables.{coverage_object}

@@ -1,7 +1,7 @@
 -- The bytes of the summary of a run.
 use Rattle.std.specs.Prelude.{ℕ, ◌+◌, ◌-◌, ◌/◌, ◌%◌, max, Bool, true, false, List, [], ◌∷◌, ◌++◌}
 use Rattle.std.specs.Prelude.{Option, Some, None, codes, decimal}
-use Rattle.job_loading.specs.declared.watch.ReasonCounts.{ReasonCounts}
+use Rattle.region_runs.specs.declared.watch.ReasonCounts.{ReasonCounts}
 use Rattle.report.specs.declared.counts.RunCounts.{RunCounts}
 use Rattle.report.specs.RunIdentity.{model_name, sum_text}
 use Rattle.report.specs.Report.{percentage}

@@ -16,7 +16,7 @@ use crate::table::{Format, put_text};
 use fault_model::Model;
 use fault_model::laws::stems;
 use itoa::Buffer;
-use job_loading::{RunJob, run_apart_watched, split_run_of};
+use job_loading::{RunJob, split_run_of};
 use report::{CurvePoint, Out, SimFault, Split, Watch, curve_of};
 use std::alloc::{AllocError, Global};
 use std::sync::Wait;
@@ -90,7 +90,7 @@ pub fn write_curve_table_of_run<R: Threads + Wait, G: Watch + Sync, W: Out>(
     ensures within { OnOk result (ArePartsWithin run.old.parts parts) }
     ensures kept { run.new ≡ run.old }
 {
-    let verdicts = run_apart_watched(rt, alloc, run, parts, workers, gate)?;
+    let verdicts = run.run(rt, alloc, parts, workers, gate)?;
     let points = curve_of(alloc, &verdicts, run.tests().count())?;
     let total = verdicts.total();
     stems();

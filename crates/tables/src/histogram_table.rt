@@ -16,10 +16,11 @@ ghost use Rattle.tables.specs.HistogramTables.{csv_count, histogram_table, json_
 use crate::curve_table::add_sums;
 use crate::json_table::{add_pieces, without_first};
 use crate::table::{Format, put_text};
-use analysis_reports::{detections_watched, histogram_of};
+use analysis_reports::histogram_of;
 use fault_model::Model;
 use itoa::Buffer;
 use job_loading::split_run_of;
+use n_detect::detections;
 use region_runs::RunJob;
 use report::{Out, RunFault, SimFault, Split, Watch};
 use std::alloc::{AllocError, Global};
@@ -91,7 +92,7 @@ fn write_histogram<R: Threads + Wait, G: Watch + Sync, W: Out>(
     ensures refused { IfErr result (IsJobReportFault workers (IsOpenFault workers)) }
     ensures workers { OnOk result ((0 < workers) × (workers ≤ 64)) }
 {
-    let counts = detections_watched(rt, alloc, run, most, parts, workers, gate)?;
+    let counts = detections(rt, alloc, run, most, parts, workers, gate)?;
     let job = run.job();
     let signals = job.circuit().signals();
     prove!(signals > 0);

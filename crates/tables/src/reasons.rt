@@ -1,6 +1,6 @@
 //! Tables of the undetected faults with their reasons, from the bytes of files.
 
-ghost use Rattle.std.specs.Prelude.{◌≡◌, ◌<◌, ◌≤◌, IfErr, OnOk, length, zip};
+ghost use Rattle.std.specs.Prelude.{◌≡◌, ◌<◌, ◌≤◌, IfErr, OnOk, false, length, zip};
 ghost use Rattle.block_sim.specs.Parts.{BelongTogether};
 ghost use Rattle.job_loading.specs.Splits.{HasSomePart};
 ghost use Rattle.report.specs.EndToEnd.{IsJobTextFault, IsWatchedFault, IsWithin, WritesOneOf};
@@ -16,7 +16,7 @@ use crate::table::{Format, put_text};
 use analysis_reports::{Reason, reason_counts};
 use block_sim::Job;
 use fault_model::Model;
-use job_loading::{Watch, run_watched, split_job_of};
+use job_loading::{RunJob, Watch, split_run_of};
 use report::{Lines, Out, SimFault, Split};
 use std::alloc::Global;
 use std::sync::Wait;
@@ -60,31 +60,34 @@ pub fn reasons_table_watched<R: Threads + Wait, G: Watch + Sync, W: Out>(
     ensures workers { OnOk result ((0 < workers) × (workers ≤ 64)) }
     ensures within { OnOk result (IsWithin model bench.now tests.now split) }
 {
-    let (job, parts) = split_job_of(rt, alloc, model, bench, tests, split, workers)?;
-    write_run(rt, alloc, &job, parts, workers, format, gate, out)
+    let (made, parts) = split_run_of(rt, alloc, model, bench, tests, split, false, workers)?;
+    let mut run = made;
+    write_run(rt, alloc, &mut run, parts, workers, format, gate, out)
 }
 
-/// Runs a job in parts by workers in threads of their own, and writes the table.
+/// Runs a job, whose tests are its own, in parts, and writes the table.
 fn write_run<R: Threads + Wait, G: Watch + Sync, W: Out>(
     rt: &R,
     alloc: Global,
-    job: &Job,
+    run: &mut RunJob,
     parts: u32,
     workers: u32,
     format: Format,
     gate: &G,
     out: &mut W,
 ) -> Result<(), SimFault>
-    requires job { BelongTogether job.now }
+    requires job { BelongTogether run.old.parts }
+    requires own { run.old.apart ≡ false }
     requires parts { 0 < parts }
-    ensures written { WritesOneOf (IsReasonTableOfJob job.now format) result
+    ensures written { WritesOneOf (IsReasonTableOfJob run.old.parts format) result
         (W.seen out.old) (W.seen out.new) }
     ensures refused { IfErr result (IsJobTextFault workers
-        (IsPartsFault job.now parts workers (G.passing gate.now) (G.stops gate.now))) }
+        (IsPartsFault run.old.parts parts workers (G.passing gate.now) (G.stops gate.now))) }
     ensures workers { OnOk result ((0 < workers) × (workers ≤ 64)) }
-    ensures within { OnOk result (ArePartsWithin job.now parts) }
+    ensures within { OnOk result (ArePartsWithin run.old.parts parts) }
 {
-    let verdicts = run_watched(rt, alloc, job, parts, workers, gate)?;
+    let verdicts = run.run(rt, alloc, parts, workers, gate)?;
+    let job = run.job();
     let reasons = reasons(alloc, job, &verdicts)?;
     gate.explains(reason_counts(&reasons));
     write_table(alloc, job, &verdicts, reasons.as_slice(), format, out)

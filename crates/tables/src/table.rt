@@ -18,7 +18,7 @@ use crate::json_table::{json_rows, put_json};
 use bench_net::{Circuit, read_bench};
 use byte_output::put_all;
 use fault_model::{Faults, Model, collapse, list_faults_in};
-use job_loading::{RunJob, Watch, run_apart_watched, split_run_of};
+use job_loading::{RunJob, Watch, split_run_of};
 use report::{Lines, OpenGate, Out, ReportFault, SimFault, Split};
 use std::alloc::Global;
 use std::sync::Wait;
@@ -227,7 +227,7 @@ pub fn write_table_of_run<R: Threads + Wait, G: Watch + Sync, W: Out>(
     ensures within { OnOk result (ArePartsWithin run.old.parts parts) }
     ensures kept { run.new ≡ run.old }
 {
-    let verdicts = run_apart_watched(rt, alloc, run, parts, workers, gate)?;
+    let verdicts = run.run(rt, alloc, parts, workers, gate)?;
     let column = Column::First {
         verdicts: &verdicts,
         lines,

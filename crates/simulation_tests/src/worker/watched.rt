@@ -2,15 +2,14 @@
 
 ghost use Rattle.workers.specs.Stops.{no_stop};
 
-use crate::worker::fixtures::{Case, JobText, Question, check_cases};
-use block_sim::Job;
+use crate::checks::check_ok;
+use crate::worker::fixtures::{JobText, job_of};
 use fault_model::Model;
-use job_loading::{Watch, run_watched};
+use job_loading::{RunJob, SimFault, Watch};
 use std::alloc::Global;
 use std::sync::Wait;
 use std::sync::atomic::{AtomicU64, Ordering};
 use std::thread::Threads;
-use std::time::Clock;
 use worked_circuits::C17_TEXT;
 use workers::Gate;
 
@@ -92,42 +91,33 @@ impl Watch for Record {
 }
 
 /// Returns the record of the gate of a run in three parts, by this number of workers.
-fn told_of<R: Threads + Wait>(rt: &R, alloc: Global, job: &Job, workers: u32) -> Told {
+fn told_of<R: Threads + Wait>(rt: &R, alloc: Global, run: &mut RunJob, workers: u32) -> Told {
     let record = Record::new();
-    let _verdicts = run_watched(rt, alloc, job, 3, workers, &record);
+    let _verdicts = run.run(rt, alloc, 3, workers, &record);
     record.told()
 }
 
-/// Whether the gate of a run records one begin, with 22 classes on 2 blocks, and one end, after
-/// workers have passed. The gate of a run that fails records only the begin.
-#[derive(Clone, Copy)]
-struct IsTold;
-
-impl Question for IsTold {
-    fn holds<R: Threads + Wait + Clock + Sync>(&self, rt: &R, alloc: Global, job: &Job) -> bool {
-        let done = Told {
-            starts: 1,
-            classes: 22,
-            blocks: 2,
-            ends: 1,
-            passed: true,
-        };
-        let refused = Told {
-            ends: 0,
-            passed: false,
-            ..done
-        };
-        told_of(rt, alloc, job, 2) == done && told_of(rt, alloc, job, 0) == refused
-    }
+/// Returns whether the gate of a run records one begin, with 22 classes on 2 blocks, and one end,
+/// after workers have passed. The gate of a run that fails records only the begin.
+fn is_told<R: Threads + Wait>(rt: &R, alloc: Global) -> Result<bool, SimFault> {
+    let done = Told {
+        starts: 1,
+        classes: 22,
+        blocks: 2,
+        ends: 1,
+        passed: true,
+    };
+    let refused = Told {
+        ends: 0,
+        passed: false,
+        ..done
+    };
+    let mut run = RunJob::whole(job_of(alloc, &TWO_BLOCKS)?);
+    let told = told_of(rt, alloc, &mut run, 2);
+    Ok(told == done && told_of(rt, alloc, &mut run, 0) == refused)
 }
-
-static CASES: [Case<IsTold>; 1] = [Case {
-    name: "a_gate_is_told_of_the_run",
-    job: TWO_BLOCKS,
-    question: IsTold,
-}];
 
 #[test]
 fn a_gate_is_told_of_the_run(rt: HostRuntime) {
-    check_cases(&rt, &CASES);
+    check_ok(&rt, is_told(&rt, rt.alloc()), "told of the run");
 }

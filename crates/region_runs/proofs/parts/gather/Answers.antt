@@ -12,7 +12,8 @@ use Rattle.region_runs.proofs.parts.gather.Goals as goal
 pub joined-requires-clause-kept : goal.joined-requires-clause-kept
 joined-requires-clause-kept g c =
     let goal = c.args.goal.now in
-    let task = task_of c.args.job.now c.args.cut.now.from (g.A.Goal.wants goal) (g.A.Goal.means goal) in
+    let task = task_of c.args.job.now c.args.cut.now.from (g.A.Goal.wants goal)
+    (g.A.Goal.means goal) in
     let parts = c.args.cut.now.parts in
     let size = c.args.cut.now.size in
     let classes = c.args.cut.now.classes.items in
@@ -35,7 +36,8 @@ joined-requires-clause-kept g c =
 pub lowest_waiting-requires-clause-lowest : goal.lowest_waiting-requires-clause-lowest
 lowest_waiting-requires-clause-lowest g c =
     let goal = c.args.goal.now in
-    let task = task_of c.args.job.now c.args.cut.now.from (g.A.Goal.wants goal) (g.A.Goal.means goal) in
+    let task = task_of c.args.job.now c.args.cut.now.from (g.A.Goal.wants goal)
+    (g.A.Goal.means goal) in
     let parts = c.args.cut.now.parts in
     let size = c.args.cut.now.size in
     let classes = c.args.cut.now.classes.items in
@@ -53,7 +55,8 @@ lowest_waiting-requires-clause-lowest g c =
 pub unreachable-requires : goal.unreachable-requires
 unreachable-requires g c =
     let goal = c.args.goal.now in
-    let task = task_of c.args.job.now c.args.cut.now.from (g.A.Goal.wants goal) (g.A.Goal.means goal) in
+    let task = task_of c.args.job.now c.args.cut.now.from (g.A.Goal.wants goal)
+    (g.A.Goal.means goal) in
     let parts = c.args.cut.now.parts in
     let size = c.args.cut.now.size in
     let classes = c.args.cut.now.classes.items in
@@ -69,7 +72,8 @@ unreachable-requires g c =
     let end = face_finish task size classes (shape_of_stretches (stretch_count size classes)
     (crew_of workers (stretch_count size classes))) P S back face c.finished.result all
     c.finished.ensures.finish in
-    let none = subst (IsLowest (WaitsIn task (runs_from c.args.cut.now.from size classes 0 table))) c.in-None.is
+    let none = subst (IsLowest (WaitsIn task (runs_from c.args.cut.now.from size classes 0 table)))
+    c.in-None.is
     c.in_ok-class-in-Waiting.ensures in
     let whole = none_whole task size classes workers P S table found c.requires.wanted none in
     let finished = whole_finished task parts size classes workers P S back table face c.requires.cut
@@ -81,7 +85,8 @@ pub returns-in_ok-kept-in-Finished-clause-stretches :
     goal.returns-in_ok-kept-in-Finished-clause-stretches
 returns-in_ok-kept-in-Finished-clause-stretches g c =
     let goal = c.args.goal.now in
-    let task = task_of c.args.job.now c.args.cut.now.from (g.A.Goal.wants goal) (g.A.Goal.means goal) in
+    let task = task_of c.args.job.now c.args.cut.now.from (g.A.Goal.wants goal)
+    (g.A.Goal.means goal) in
     let parts = c.args.cut.now.parts in
     let size = c.args.cut.now.size in
     let classes = c.args.cut.now.classes.items in
@@ -101,7 +106,8 @@ returns-in_ok-kept-in-Finished-clause-stretches g c =
 pub returns-in-Some-clause-refused : goal.returns-in-Some-clause-refused
 returns-in-Some-clause-refused g c =
     let goal = c.args.goal.now in
-    let task = task_of c.args.job.now c.args.cut.now.from (g.A.Goal.wants goal) (g.A.Goal.means goal) in
+    let task = task_of c.args.job.now c.args.cut.now.from (g.A.Goal.wants goal)
+    (g.A.Goal.means goal) in
     let parts = c.args.cut.now.parts in
     let size = c.args.cut.now.size in
     let classes = c.args.cut.now.classes.items in
@@ -114,7 +120,8 @@ returns-in-Some-clause-refused g c =
     let all = c.in_ok-handed.ensures.shared in
     let found = found_by_part task parts size classes workers P S back table face c.requires.cut
     c.requires.workers.0 c.in_ok-table.ensures all in
-    let lowest = subst (IsLowest (WaitsIn task (runs_from c.args.cut.now.from size classes 0 table))) c.in-Some.is
+    let lowest = subst (IsLowest (WaitsIn task (runs_from c.args.cut.now.from size classes 0
+    table))) c.in-Some.is
     c.in_ok-class-in-Waiting.ensures in
     let waits = stretches_wait task size classes workers P S table found parts
     c.in-Some.field-0.class c.in-Some.field-0.block c.requires.cut c.in_ok-table.ensures.count

@@ -16,10 +16,12 @@ loop-place-init g c =
     record {
       order = began.0;
       left = omega (arith, began.1, c.requires.count);
-      found = subst (λ n. AreKeptBelow (task_of c.args.job.now c.args.cut.now.from (g.A.Goal.wants c.args.goal.now)
+      found = subst (λ n. AreKeptBelow (task_of c.args.job.now c.args.cut.now.from
+          (g.A.Goal.wants c.args.goal.now)
           (g.A.Goal.means c.args.goal.now)) c.args.cut.now.classes.items n
           c.in_ok-kept.kept.items) (sym (zero-mul c.args.cut.now.size))
-          (subst (AreKeptBelow (task_of c.args.job.now c.args.cut.now.from (g.A.Goal.wants c.args.goal.now)
+          (subst (AreKeptBelow (task_of c.args.job.now c.args.cut.now.from
+          (g.A.Goal.wants c.args.goal.now)
           (g.A.Goal.means c.args.goal.now)) c.args.cut.now.classes.items 0)
           (sym c.in_ok-kept.ensures.items)
           (kept_none (task_of c.args.job.now c.args.cut.now.from (g.A.Goal.wants c.args.goal.now)
@@ -30,7 +32,8 @@ pub loop-place-preserved-in-Some-place : goal.loop-place-preserved-in-Some-place
 loop-place-preserved-in-Some-place g c =
     let was = c.loop-place.invariant in
     let goal = c.args.goal.now in
-    let task = task_of c.args.job.now c.args.cut.now.from (g.A.Goal.wants goal) (g.A.Goal.means goal) in
+    let task = task_of c.args.job.now c.args.cut.now.from (g.A.Goal.wants goal)
+    (g.A.Goal.means goal) in
     let size = c.args.cut.now.size in
     let classes = c.args.cut.now.classes.items in
     let yielded = c.loop-place.yielded in
@@ -60,7 +63,8 @@ pub loop-place-preserved : goal.loop-place-preserved
 loop-place-preserved g c =
     let was = c.loop-place.invariant in
     let goal = c.args.goal.now in
-    let task = task_of c.args.job.now c.args.cut.now.from (g.A.Goal.wants goal) (g.A.Goal.means goal) in
+    let task = task_of c.args.job.now c.args.cut.now.from (g.A.Goal.wants goal)
+    (g.A.Goal.means goal) in
     let size = c.args.cut.now.size in
     let classes = c.args.cut.now.classes.items in
     let yielded = c.loop-place.yielded in
@@ -93,6 +97,7 @@ returns g c =
     kept_all (task_of c.args.job.now c.args.cut.now.from (g.A.Goal.wants c.args.goal.now)
     (g.A.Goal.means c.args.goal.now)) c.args.cut.now.parts c.args.cut.now.size
     c.args.cut.now.classes.items c.loop-place.kept.items c.requires.cut
-    (subst (λ n. AreKeptBelow (task_of c.args.job.now c.args.cut.now.from (g.A.Goal.wants c.args.goal.now)
+    (subst (λ n. AreKeptBelow (task_of c.args.job.now c.args.cut.now.from
+    (g.A.Goal.wants c.args.goal.now)
     (g.A.Goal.means c.args.goal.now)) c.args.cut.now.classes.items (n * c.args.cut.now.size)
     c.loop-place.kept.items) full was.found)

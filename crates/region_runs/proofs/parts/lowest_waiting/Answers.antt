@@ -31,7 +31,8 @@ pub loop-place-preserved : goal.loop-place-preserved
 loop-place-preserved g c =
     let was = c.loop-place.invariant in
     let goal = c.args.goal.now in
-    let task = task_of c.args.job.now c.args.cut.now.from (g.A.Goal.wants goal) (g.A.Goal.means goal) in
+    let task = task_of c.args.job.now c.args.cut.now.from (g.A.Goal.wants goal)
+    (g.A.Goal.means goal) in
     let size = c.args.cut.now.size in
     let classes = c.args.cut.now.classes.items in
     let step = c.in-Some.ensures.steps in
@@ -39,10 +40,12 @@ loop-place-preserved g c =
     let place = c.in-Some.place in
     let order : c.loop-place.yielded ++ place ∷ rest ≡ c.args.table.items =
     ap (λ l. c.loop-place.yielded ++ l) (sym step.0) ∙ was.order in
-    let run = run_at c.args.cut.now.from (stretch size classes (0 + length c.loop-place.yielded)) place in
+    let run = run_at c.args.cut.now.from (stretch size classes (0 + length c.loop-place.yielded))
+    place in
     let here : c.loop-place.part ≡ 0 + length c.loop-place.yielded = omega (arith, was.count) in
     let own : IsLowestIn task run c.in_ok-waiting.waiting =
-    subst (λ n. IsLowestIn task (run_at c.args.cut.now.from (stretch size classes n) place) c.in_ok-waiting.waiting)
+    subst (λ n. IsLowestIn task (run_at c.args.cut.now.from (stretch size classes n) place)
+    c.in_ok-waiting.waiting)
     here
     c.in_ok-waiting.ensures in
     record {
@@ -51,7 +54,8 @@ loop-place-preserved g c =
       left = omega (arith, was.left, step.1);
       lowest = subst (λ rs. IsLowest (WaitsIn task rs) c.lower_of-lowest.result)
           (sym (runs_push c.args.cut.now.from size classes 0 c.loop-place.yielded place))
-          (waits_more task (runs_from c.args.cut.now.from size classes 0 c.loop-place.yielded) run c.loop-place.lowest
+          (waits_more task (runs_from c.args.cut.now.from size classes 0 c.loop-place.yielded) run
+          c.loop-place.lowest
           c.in_ok-waiting.waiting c.lower_of-lowest.result was.lowest own
           c.lower_of-lowest.ensures);
     }

@@ -9,7 +9,8 @@ invariant-loop-place g l = record {
   order : l.yielded ++ into_iter_items l.place-iterator ≡ l.fn.table.items;
   count : length l.yielded ≡ l.part;
   left : l.part + into_iter_len l.place-iterator ≡ l.cut.parts;
-  lowest : IsLowest (WaitsIn (task_of l.job l.cut.from (g.A.Goal.wants l.goal) (g.A.Goal.means l.goal))
+  lowest : IsLowest (WaitsIn (task_of l.job l.cut.from (g.A.Goal.wants l.goal)
+      (g.A.Goal.means l.goal))
       (runs_from l.cut.from l.cut.size l.cut.classes.items 0 l.yielded))
       l.lowest;
 }

@@ -64,7 +64,8 @@ returns-clause-stretches g c =
     job.classes.class_of) c.as_slice-3.ensures.value in
     let few = c.count_in-few.ensures.count
     ∙ ap (λ (l : List ℕ). length l) c.as_slice.ensures.value in
-    let stretches : c.stretches_for-stretches.result ≡ stretches_for (length classes) c.args.workers =
+    let stretches : c.stretches_for-stretches.result
+    ≡ stretches_for (length classes) c.args.workers =
     c.stretches_for-stretches.ensures.count ∙ ap (λ n. stretches_for n c.args.workers) few in (
       c.in_ok-done.done.ledger,
       record {
@@ -87,7 +88,8 @@ returns-in_err-done-clause-refused g c =
     let S = g.G.Gate.stops c.args.gate.now in
     let few = c.count_in-few.ensures.count
     ∙ ap (λ (l : List ℕ). length l) c.as_slice.ensures.value in
-    let stretches : c.stretches_for-stretches.result ≡ stretches_for (length classes) c.args.workers =
+    let stretches : c.stretches_for-stretches.result
+    ≡ stretches_for (length classes) c.args.workers =
     c.stretches_for-stretches.ensures.count ∙ ap (λ n. stretches_for n c.args.workers) few in
     let p = err_from_is_err_and c.from_residual-in_err-done.result
     c.from_residual-in_err-done.ensures.1 in

@@ -16,7 +16,8 @@ run_rows-stop-requires-clause-none g c =
     let dead = c.split_at.result.1.now in
     live_none task live dead c.split_at_mut-found.result.0.now
     c.split_at_mut-found.result.1.now c.split_at_mut-found.ensures.front_len
-    (subst (AreKeptUpTo task (classes_of (live ++ dead)) 0 c.args.from) c.split_at_mut-found.ensures.value
+    (subst (AreKeptUpTo task (classes_of (live ++ dead)) 0 c.args.from)
+    c.split_at_mut-found.ensures.value
     (subst (λ l. AreKeptUpTo task (classes_of l) 0 c.args.from c.args.kept.now)
     c.split_at.ensures.by_index.0 c.requires.none))
 
@@ -45,7 +46,8 @@ returns-clause-ended g c =
     (subst (λ l. AreDeadFrom job l (length live)) is
     (subst (AreDeadFrom job rows) (sym c.split_at.ensures.front_len) c.live_end.ensures.dead))
     sound c.split_at_mut-found.result.0.now rest c.split_at_mut-found.ensures.front_len
-    (subst (AreKeptUpTo task (classes_of (live ++ dead)) 0 c.args.from) c.split_at_mut-found.ensures.value
+    (subst (AreKeptUpTo task (classes_of (live ++ dead)) 0 c.args.from)
+    c.split_at_mut-found.ensures.value
     (subst (λ l. AreKeptUpTo task (classes_of l) 0 c.args.from c.args.kept.now) is c.requires.none))
     c.requires.from c.args.worker (g.G.Gate.stops c.args.gate.now) c.run_rows-stop.result found
     (c.run_rows-stop.ensures.passing (c.lets_all_pass.ensures c.if-not-lets_all_pass.false))

@@ -46,7 +46,8 @@ loop-block-preserved g c =
     record {
       low = omega (arith, last.low, ordered);
       within = omega (arith, within);
-      found = kept_swept task rows span (omega (arith, first, last.low)) (omega (arith, first, ordered))
+      found = kept_swept task rows span (omega (arith, first, last.low))
+          (omega (arith, first, ordered))
           kept now
           (subst (λ n. AreKeptUpTo task (classes_of rows) 0 n kept) (sym first) last.found)
           c.simulate.ensures.places c.simulate.ensures.taken;

@@ -16,7 +16,8 @@ lowest_open-requires-clause-classes g c =
 pub lowest_open-requires-clause-found : goal.lowest_open-requires-clause-found
 lowest_open-requires-clause-found g c =
     let goal = c.args.goal.now in
-    let task = task_of c.args.job.now c.args.cut.now.from (g.A.Goal.wants goal) (g.A.Goal.means goal) in
+    let task = task_of c.args.job.now c.args.cut.now.from (g.A.Goal.wants goal)
+    (g.A.Goal.means goal) in
     let sized = c.in_ok-kept.kept.ok.0 in
     let own = c.stretch-own.result.now in
     subst (AreKeptUpTo task own 0 c.args.cut.now.from) (sym c.as_slice.ensures.value)
@@ -26,7 +27,8 @@ lowest_open-requires-clause-found g c =
 pub returns-then-is_empty : goal.returns-then-is_empty
 returns-then-is_empty g c =
     let goal = c.args.goal.now in
-    let task = task_of c.args.job.now c.args.cut.now.from (g.A.Goal.wants goal) (g.A.Goal.means goal) in
+    let task = task_of c.args.job.now c.args.cut.now.from (g.A.Goal.wants goal)
+    (g.A.Goal.means goal) in
     let none = eqb-true (length c.stretch-own.result.now) 0
     (sym c.is_empty.ensures ∙ c.if-is_empty.true) in
     subst (λ own. IsLowestIn task (unbegun_run c.args.cut.now.from own) None) c.stretch-own.ensures
@@ -35,6 +37,8 @@ returns-then-is_empty g c =
 pub returns : goal.returns
 returns g c =
     let goal = c.args.goal.now in
-    let task = task_of c.args.job.now c.args.cut.now.from (g.A.Goal.wants goal) (g.A.Goal.means goal) in
-    subst (λ own. IsLowestIn task (unbegun_run c.args.cut.now.from own) c.lowest_open.result) c.stretch-own.ensures
+    let task = task_of c.args.job.now c.args.cut.now.from (g.A.Goal.wants goal)
+    (g.A.Goal.means goal) in
+    subst (λ own. IsLowestIn task (unbegun_run c.args.cut.now.from own) c.lowest_open.result)
+    c.stretch-own.ensures
     (unbegun_lowest task c.stretch-own.result.now c.lowest_open.result c.lowest_open.ensures)

@@ -23,7 +23,8 @@ run_list-stop-requires-clause-rows g c =
 pub run_list-stop-requires-clause-none : goal.run_list-stop-requires-clause-none
 run_list-stop-requires-clause-none g c =
     let goal = c.args.goal.now in
-    let task = task_of c.args.job.now c.args.cut.now.from (g.A.Goal.wants goal) (g.A.Goal.means goal) in
+    let task = task_of c.args.job.now c.args.cut.now.from (g.A.Goal.wants goal)
+    (g.A.Goal.means goal) in
     let sized = c.in_ok-kept.kept.ok.0 in
     let own = c.stretch-own.result.now in
     let same : classes_of c.as_slice-listed.result.now ≡ own =

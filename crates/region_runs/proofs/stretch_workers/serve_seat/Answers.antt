@@ -18,7 +18,8 @@ more : (g : given.Over) (c : In_ok-push g) → Serving (task_of c.args.job.now c
 more g c =
     let P = g.G.Gate.passing c.args.gate.now in
     let S = g.G.Gate.stops c.args.gate.now in
-    let own = subst (λ v. IsDone (task_of c.args.job.now c.args.cut.now.from (g.A.Goal.wants c.args.goal.now)
+    let own = subst (λ v. IsDone (task_of c.args.job.now c.args.cut.now.from
+    (g.A.Goal.wants c.args.goal.now)
     (g.A.Goal.means c.args.goal.now)) c.args.cut.now.size c.args.cut.now.classes.items v P
     S c.in_ok-done.done) c.claims.invariant.number c.in_ok-done.ensures.done in
     serving_more (task_of c.args.job.now c.args.cut.now.from (g.A.Goal.wants c.args.goal.now)
@@ -66,12 +67,14 @@ claims-preserved g c =
     record {
       number = c.in_ok-done.ensures.member ∙ c.claims.invariant.number;
       room = c.in_ok-done.ensures.serves;
-      serving = subst (Serving (task_of c.args.job.now c.args.cut.now.from (g.A.Goal.wants c.args.goal.now)
+      serving = subst (Serving (task_of c.args.job.now c.args.cut.now.from
+          (g.A.Goal.wants c.args.goal.now)
           (g.A.Goal.means c.args.goal.now)) c.args.cut.now.size c.args.cut.now.classes.items
           c.args.ledger.now c.args.seat.now.worker P S c.run_held.new.seat)
           (sym c.in_ok-push.ensures.items)
           (more g (goal.at.claims-preserved g c).In_ok-push);
-      free = serving_free (task_of c.args.job.now c.args.cut.now.from (g.A.Goal.wants c.args.goal.now)
+      free = serving_free (task_of c.args.job.now c.args.cut.now.from
+          (g.A.Goal.wants c.args.goal.now)
           (g.A.Goal.means c.args.goal.now)) c.args.cut.now.size c.args.cut.now.classes.items
           c.args.ledger.now c.args.seat.now.worker P S c.claims.seat c.claim_next.new.seat
           c.run_held.new.seat c.in-Some.part c.in_ok-done.done.waiting c.in-Some.ensures.claimed

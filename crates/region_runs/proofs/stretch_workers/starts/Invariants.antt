@@ -4,5 +4,6 @@ use Rattle.region_runs.proofs.stretch_workers.starts.Given as goal
 abbrev pub invariant-loop-place : goal.invariant-loop-place
 invariant-loop-place g l = record {
   count : vec_len l.kept ≡ l._place;
-  first : All (λ one. (hits : ℕ → Bool) (at : ℕ) → g.A.Goal.means l.goal hits at at one) l.kept.items;
+  first : All (λ one. (hits : ℕ → Bool) (at : ℕ) → g.A.Goal.means l.goal hits at at one)
+      l.kept.items;
 }

@@ -1,4 +1,5 @@
-use Rattle.std.proofs.Common.{◌≡◌, ◌+◌, ◌++◌, ◌∷◌, ◌∙◌, Some, [], ap, arith, append-nil, false, get_or, inl}
+use Rattle.std.proofs.Common.{◌≡◌, ◌+◌, ◌++◌, ◌∷◌, ◌∙◌, Some, [], ap, arith, append-nil, false}
+use Rattle.std.proofs.Common.{get_or, inl}
 use Rattle.std.proofs.Common.{inr, refl, suc, sym, true}
 use Rattle.std.proofs.lemmas.Option.{slice_get-get_or}
 use Rattle.std.specs.Prelude.{slice_get, take}

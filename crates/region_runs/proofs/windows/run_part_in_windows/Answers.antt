@@ -98,7 +98,8 @@ returns-clause-ledgers g c =
       are = part_with c.args.job.now c.args.tests.now c.args.parts c.args.part classes
           c.in_ok-own.ensures;
       firsts = firsts;
-      of = subst (λ l. AreOfWindows (first_tests job) c.args.workers l (blocks (length job.tests.tests)) firsts)
+      of = subst (λ l. AreOfWindows (first_tests job) c.args.workers l
+          (blocks (length job.tests.tests)) firsts)
           c.as_slice-2.ensures.value c.in_ok-firsts.ensures.ledgers;
       each = λ i class first at v. part_verdict_there job classes firsts table
           c.in_ok-verdicts.verdicts.items together by is i class first at v;

@@ -1,7 +1,7 @@
 use Rattle.std.proofs.Common.{sym}
 use Rattle.region_runs.proofs.WindowSteps.{all_with}
 use Rattle.std.proofs.lemmas.Result.{IfOk-weaker}
-use Rattle.region_runs.proofs.run_job.RunJob.run_goal.Goals as goal
+use Rattle.region_runs.proofs.run_job.RunJob.run_goal_unwatched.Goals as goal
 
 pub returns-in-Some-clause-classes : goal.returns-in-Some-clause-classes
 returns-in-Some-clause-classes g c =

@@ -3,7 +3,7 @@ use Rattle.std.proofs.lemmas.Result.{IfOk-weaker}
 use Rattle.block_sim.specs.Parts.{with_tests}
 use Rattle.region_runs.specs.WindowLedgers.{IsOfWindows}
 use Rattle.region_runs.specs.RunJobs.{AreByLedgers}
-use Rattle.region_runs.proofs.run_job.RunJob.run.Goals as goal
+use Rattle.region_runs.proofs.run_job.RunJob.run_unwatched.Goals as goal
 
 pub returns-in-None-clause-ledgers : goal.returns-in-None-clause-ledgers
 returns-in-None-clause-ledgers g c =

@@ -1,7 +1,0 @@
-use Rattle.job_loading.proofs.JobsOfTexts.{job_is}
-use Rattle.job_loading.proofs.texts.make_any_job.Goals as goal
-
-pub of_any_size-requires : goal.of_any_size-requires
-of_any_size-requires c =
-    (job_is c.args.model c.args.circuit c.in_ok-faults.faults c.in_ok-classes.classes c.args.tests
-    c.in_ok-faults.ensures c.in_ok-classes.ensures.classes c.requires).2
