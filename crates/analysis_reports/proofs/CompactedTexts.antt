@@ -5,16 +5,14 @@ use Rattle.fault_model.specs.declared.Model.{Model}
 use Rattle.fault_model.specs.Solution.{Test}
 use Rattle.block_sim.specs.Parts.{Parts}
 use Rattle.compaction.specs.Steepest.{IsOrdered}
-use Rattle.compaction.specs.declared.TestOrder.TheVariants.{AsListed}
 use Rattle.byte_output.specs.Output.{Output}
 use Rattle.workers.specs.declared.RunFault.{RunFault}
 use Rattle.job_loading.specs.declared.fault.SimFault.{SimFault}
 use Rattle.job_loading.specs.declared.fault.SimFault.TheVariants as fault
 use Rattle.job_loading.specs.Jobs.{IsJobOf}
 use Rattle.analysis_reports.specs.declared.compacted.KeptCount.{KeptCount}
-use Rattle.analysis_reports.specs.declared.compacted.KeptForm.TheVariants.{Rows}
 use Rattle.analysis_reports.specs.declared.compacted.KeptLayout.{KeptLayout}
-use Rattle.analysis_reports.specs.Compacted.{GivesOneOf, IsCompactionOf, IsKeptText}
+use Rattle.analysis_reports.specs.Compacted.{GivesOneOf, IsKeptText}
 use Rattle.analysis_reports.specs.Compacted.{IsKeptTextOfJob}
 use Rattle.analysis_reports.specs.Compacted.{count_of, number_line}
 use Rattle.report.specs.EndToEnd.{IsJobTextFault, IsListFault, WritesOneOf}
@@ -34,15 +32,6 @@ kept_of_texts m bench text layout job is count bytes of_job = (
   of_job.3,
   of_job.4,
 )
-
--- the layout of rows in the order of their list
-abbrev pub rows_as_listed : KeptLayout
-rows_as_listed = record { order = AsListed; form = Rows }
-
--- the rows without their numbers
-pub rows_of_kept : (m : Model) (bench text : List ℕ) (count : KeptCount) (bytes : List ℕ)
-    → IsKeptText m bench text rows_as_listed count bytes → IsCompactionOf m bench text bytes
-rows_of_kept m bench text count bytes is = (is.0, is.1, is.2, is.4, is.5, is.6.0, is.8)
 
 -- a value beside a text of one kind is a value beside a text of another kind
 pub given_as : {X : Type 0} (A B : X → List ℕ → Type 0) (r : Result X SimFault)
@@ -68,18 +57,6 @@ given_text A B x (fault.Order f) old new into w = w
 given_text A B x (fault.Job f) old new into w = w
 given_text A B x (fault.Run f) old new into w = w
 given_text A B x fault.Memory old new into w = w
-
--- the text of a failed call without the value
-pub text_alone : {X : Type 0} (A : X → List ℕ → Type 0) (B : List ℕ → Type 0) (f : SimFault)
-    (old new : Output) → ((x : X) (text : List ℕ) → A x text → B text)
-    → GivesOneOf A (Err f) old new → WritesOneOf B (Err f) old new
-text_alone A B (fault.Report f) old new into w = (w.1, into w.0 w.1 w.2, w.3)
-text_alone A B (fault.Bench f) old new into w = w
-text_alone A B (fault.Tests f) old new into w = w
-text_alone A B (fault.Order f) old new into w = w
-text_alone A B (fault.Job f) old new into w = w
-text_alone A B (fault.Run f) old new into w = w
-text_alone A B fault.Memory old new into w = w
 
 -- an error of one kind is an error of another kind, whatever value the call returns
 pub err_as : {X : Type 0} (A B : SimFault → Type 0) (r : Result X SimFault)

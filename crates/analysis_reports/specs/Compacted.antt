@@ -6,11 +6,10 @@ use Rattle.bench_net.specs.Scan.{sources}
 use Rattle.bench_net.specs.Refusal.{IsAccepted}
 use Rattle.fault_model.specs.declared.Model.{Model}
 use Rattle.fault_model.specs.Solution.{Test}
-use Rattle.patterns.specs.Making.{test_text}
 use Rattle.patterns.specs.Tests.{TestList, HasTests}
 use Rattle.block_sim.specs.Parts.{Parts}
-use Rattle.compaction.specs.Compaction.{IsCompaction}
 use Rattle.compaction.specs.Steepest.{IsOrdered}
+use Rattle.test_columns.specs.Files.{file_text}
 use Rattle.job_loading.specs.declared.fault.SimFault.{SimFault}
 use Rattle.job_loading.specs.declared.fault.SimFault.TheVariants as fault
 use Rattle.byte_output.specs.Output.{Output, TakesAll, TakesFront}
@@ -19,20 +18,14 @@ use Rattle.analysis_reports.specs.declared.compacted.KeptForm.{KeptForm}
 use Rattle.analysis_reports.specs.declared.compacted.KeptForm.TheVariants.{Numbers, Rows}
 use Rattle.analysis_reports.specs.declared.compacted.KeptLayout.{KeptLayout}
 
--- the bytes are the rows of a compaction of a test file for a bench file, under a model
-abbrev pub IsCompactionOf : Model → List ℕ → List ℕ → List ℕ → Type 0
-IsCompactionOf m bench text bytes = (c : List Statement) × (tests : TestList)
-    × (kept : List Test) × IsAccepted bench c × HasTests text (length (sources c)) tests
-    × IsCompaction m c tests.tests kept × (bytes ≡ test_text kept)
-
 -- the line of a number
 abbrev pub number_line : ℕ → List ℕ
 number_line n = decimal n ++ codes "\n"
 
--- the text of the kept tests: their rows, or the number of each in the list
-abbrev pub kept_text : KeptForm → List Test → List ℕ → List ℕ
-kept_text Rows kept numbers = test_text kept
-kept_text Numbers kept numbers = flat_map number_line numbers
+-- the text of the kept tests: a test file that names its columns, or the number of each in the list
+abbrev pub kept_text : KeptForm → List Statement → List Test → List ℕ → List ℕ
+kept_text Rows c kept numbers = file_text c kept
+kept_text Numbers c kept numbers = flat_map number_line numbers
 
 -- the number of tests of a list that are kept
 abbrev pub count_of : List Test → List Test → KeptCount
@@ -44,13 +37,15 @@ abbrev pub IsKeptText : Model → List ℕ → List ℕ → KeptLayout → KeptC
 IsKeptText m bench text layout count bytes = (c : List Statement) × (tests : TestList)
     × (kept : List Test) × (numbers : List ℕ) × IsAccepted bench c
     × HasTests text (length (sources c)) tests × IsOrdered layout.order m c tests.tests kept numbers
-    × (count ≡ count_of tests.tests kept) × (bytes ≡ kept_text layout.form kept numbers)
+    × (count ≡ count_of tests.tests kept)
+    × (bytes ≡ kept_text layout.form c kept numbers)
 
 -- the same for a job
 abbrev pub IsKeptTextOfJob : Parts → KeptLayout → KeptCount → List ℕ → Type 0
 IsKeptTextOfJob job layout count bytes = (kept : List Test) × (numbers : List ℕ)
     × IsOrdered layout.order job.list.model job.circuit job.tests.tests kept numbers
-    × (count ≡ count_of job.tests.tests kept) × (bytes ≡ kept_text layout.form kept numbers)
+    × (count ≡ count_of job.tests.tests kept)
+    × (bytes ≡ kept_text layout.form job.circuit kept numbers)
 
 -- The bytes that a call wrote that returns a value beside a text of this kind: the whole text of
 -- the value, and nothing else; a beginning of one, if the output failed; or nothing, after any

@@ -11,7 +11,7 @@ use Rattle.fault_model.specs.Fault.{Fault, faults}
 use Rattle.patterns.specs.Tests.{TestList, HasTests}
 use Rattle.block_sim.specs.Parts.{Parts}
 use Rattle.workers.specs.Verdict.{AreFirsts}
-use Rattle.job_loading.specs.declared.watch.ReasonCounts.{ReasonCounts}
+use Rattle.region_runs.specs.declared.watch.ReasonCounts.{ReasonCounts}
 use Rattle.undetected.specs.declared.Reason.{Reason}
 use Rattle.undetected.specs.declared.Reason.TheVariants.{NoPath, NotActivated, NotObserved}
 use Rattle.undetected.specs.Reasons.{AreReasons}

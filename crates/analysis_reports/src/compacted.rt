@@ -1,29 +1,30 @@
 //! Fewer tests that detect the same faults, from the bytes of files to the bytes of rows or of
 //! numbers.
 
-ghost use Rattle.std.specs.Prelude.{◌≡◌, ◌<◌, ◌≤◌, ⊤, IfErr, OnOk};
+ghost use Rattle.std.specs.Prelude.{◌≡◌, ◌<◌, ◌≤◌, IfErr, IfOk, OnOk};
 ghost use Rattle.std.specs.List.{flat_map};
 ghost use Rattle.job_loading.specs.Splits.{HasSomePart};
 ghost use Rattle.byte_output.specs.Output.{Writes};
-ghost use Rattle.analysis_reports.specs.Compacted.{GivesOneOf, IsCompactionOf, IsKeptText};
+ghost use Rattle.analysis_reports.specs.Compacted.{GivesOneOf, IsKeptText};
 ghost use Rattle.analysis_reports.specs.Compacted.{IsKeptTextOfJob};
 ghost use Rattle.analysis_reports.specs.Compacted.{kept_text, number_line};
-ghost use Rattle.report.specs.EndToEnd.{IsJobTextFault, IsListFault, IsReportFault, IsWatchedFault};
+ghost use Rattle.report.specs.EndToEnd.{IsJobTextFault, IsListFault, IsWatchedFault};
 ghost use Rattle.report.specs.EndToEnd.{IsWithin, WritesOneOf};
-ghost use Rattle.workers.specs.Stops.{no_stop};
 ghost use Rattle.region_runs.specs.Refused.{ArePartsWithin, IsPartsFault};
+ghost use Rattle.test_columns.specs.Files.{file_text};
 
 use crate::whole::put_text;
-use block_sim::Job;
+use bench_net::Circuit;
 use byte_output::{Out, OutFailed, put_pieces};
-use compaction::{Kept, TestOrder, compact_in_order};
+use compaction::{Kept, TestOrder, compact};
 use fault_model::Model;
 use itoa::Buffer;
-use job_loading::{ReportFault, SimFault, Split, split_job_of};
-use patterns::write_tests;
-use std::alloc::Global;
+use job_loading::{ReportFault, RunJob, SimFault, Split, Watch, split_run_of};
+use patterns::Tests;
+use std::alloc::{AllocError, Global};
 use std::sync::Wait;
 use std::thread::Threads;
+use test_columns::{columns_line, test_file};
 
 /// The form in which the tests that a compaction keeps are written.
 #[derive(Clone, Copy, Debug, PartialEq, Eq)]
@@ -52,43 +53,26 @@ pub struct KeptCount {
     pub all: u32,
 }
 
-/// Reads a circuit and tests for it, and writes a test file with some of the tests, in order. They
-/// detect each fault of a model that the tests detect ([`compaction::compact`]).
+/// Reads a circuit and tests for it, and writes some of the tests, or their numbers in the list.
+/// They detect each fault of a model that the tests detect ([`compaction::compact`]). The tests are
+/// written as a test file that names its columns ([`test_columns::columns_line`]). Returns the
+/// number of kept tests.
 ///
-/// It fails as [`report::simulate_text_in`] does, in the same order. It writes nothing before all
-/// kept tests are known.
-pub fn compact_text_in<R: Threads + Wait, W: Out>(
-    rt: &R,
-    alloc: Global,
-    model: Model,
-    bench: &[u8],
-    tests: &[u8],
-    workers: u32,
-    out: &mut W,
-) -> Result<(), SimFault>
-    ensures written { WritesOneOf (IsCompactionOf model bench.now tests.now) result
-        (W.seen out.old) (W.seen out.new) }
-    ensures refused { IfErr result (IsReportFault model bench.now tests.now workers) }
-    ensures workers { OnOk result ((0 < workers) × (workers ≤ 64)) }
-{
-    let split = Split::Whole;
-    let layout = KeptLayout {
-        order: TestOrder::AsListed,
-        form: KeptForm::Rows,
-    };
-    match compact_text_with(rt, alloc, model, bench, tests, split, workers, layout, out) {
-        Ok(_count) => Ok(()),
-        Err(fault) => Err(fault),
-    }
-}
-
-/// Reads a circuit and tests for it, and writes the tests that [`compact_text_in`] writes, or their
-/// numbers in the list. It writes them in an order ([`compaction::compact_in_order`]), for each
-/// split of the runs. Returns the number of kept tests.
+/// The gate observes each pass, and lets each piece pass. If the tests have more blocks than a
+/// window ([`region_runs::window_blocks`]), a pass goes window by window. It fails as
+/// [`report::simulate_text_watched`] does. It writes nothing before all kept tests are known.
 ///
-/// It fails as [`report::simulate_text_watched`] does with an open gate. It writes nothing before
-/// all kept tests are known.
-pub fn compact_text_with<R: Threads + Wait, W: Out>(
+/// # Examples
+///
+/// `z = AND(a, b)` with the tests `00`, `01`, `10` and `11` gives, as rows in the order of the list,
+///
+/// ```text
+/// # columns: a b
+/// 01
+/// 10
+/// 11
+/// ```
+pub fn compact_text_watched<R: Threads + Wait, G: Watch + Sync, W: Out>(
     rt: &R,
     alloc: Global,
     model: Model,
@@ -97,64 +81,83 @@ pub fn compact_text_with<R: Threads + Wait, W: Out>(
     split: Split,
     workers: u32,
     layout: KeptLayout,
+    gate: &G,
     out: &mut W,
 ) -> Result<KeptCount, SimFault>
-    requires { HasSomePart split }
+    requires split { HasSomePart split }
+    requires passing { G.passing gate.now }
     ensures written { GivesOneOf (IsKeptText model bench.now tests.now layout) result
         (W.seen out.old) (W.seen out.new) }
-    ensures refused { IfErr result (IsWatchedFault model bench.now tests.now split workers ⊤
-        no_stop) }
+    ensures refused { IfErr result (IsWatchedFault model bench.now tests.now split workers
+        (G.passing gate.now) (G.stops gate.now)) }
     ensures workers { OnOk result ((0 < workers) × (workers ≤ 64)) }
     ensures within { OnOk result (IsWithin model bench.now tests.now split) }
 {
-    let (mut job, parts) = split_job_of(rt, alloc, model, bench, tests, split, workers)?;
-    write_compacted(rt, alloc, &mut job, parts, workers, layout, out)
+    let (made, parts) = split_run_of(rt, alloc, model, bench, tests, split, true, workers)?;
+    let mut run = made;
+    write_compacted(rt, alloc, &mut run, parts, workers, layout, gate, out)
 }
 
 /// Writes some of a job's tests, or their numbers, that detect each fault that all tests detect.
 /// Returns how many tests it keeps.
-fn write_compacted<R: Threads + Wait, W: Out>(
+fn write_compacted<R: Threads + Wait, G: Watch + Sync, W: Out>(
     rt: &R,
     alloc: Global,
-    job: &mut Job,
+    run: &mut RunJob,
     parts: u32,
     workers: u32,
     layout: KeptLayout,
+    gate: &G,
     out: &mut W,
 ) -> Result<KeptCount, SimFault>
+    requires passing { G.passing gate.now }
     requires parts { 0 < parts }
-    ensures written { GivesOneOf (IsKeptTextOfJob job.old layout) result (W.seen out.old)
+    ensures written { GivesOneOf (IsKeptTextOfJob run.old.parts layout) result (W.seen out.old)
         (W.seen out.new) }
     ensures refused { IfErr result (IsJobTextFault workers
-        (IsPartsFault job.old parts workers ⊤ no_stop)) }
+        (IsPartsFault run.old.parts parts workers (G.passing gate.now) (G.stops gate.now))) }
     ensures workers { OnOk result ((0 < workers) × (workers ≤ 64)) }
-    ensures within { OnOk result (ArePartsWithin job.old parts) }
+    ensures within { OnOk result (ArePartsWithin run.old.parts parts) }
 {
-    let all = job.tests().count();
-    let kept = compact_in_order(rt, alloc, job, layout.order, parts, workers)?;
+    let all = run.tests().count();
+    let kept = compact(rt, alloc, run, layout.order, parts, workers, gate)?;
     let count = KeptCount {
         kept: kept.tests.count(),
         all,
     };
-    put_kept(alloc, &kept, layout.form, out)?;
+    put_kept(alloc, run.job().circuit(), &kept, layout.form, out)?;
     Ok(count)
 }
 
 /// Writes the tests that are kept, or their numbers.
-fn put_kept<W: Out>(alloc: Global, kept: &Kept, form: KeptForm, out: &mut W) -> Result<(), SimFault>
+fn put_kept<W: Out>(
+    alloc: Global,
+    circuit: &Circuit,
+    kept: &Kept,
+    form: KeptForm,
+    out: &mut W,
+) -> Result<(), SimFault>
     ensures written { WritesOneOf
-        (λ bytes. bytes ≡ kept_text form kept.now.tests.tests kept.now.numbers.items) result
-        (W.seen out.old) (W.seen out.new) }
+        (λ bytes. bytes ≡ kept_text form circuit.now kept.now.tests.tests kept.now.numbers.items)
+        result (W.seen out.old) (W.seen out.new) }
     ensures refused { IfErr result IsListFault }
 {
     match form {
         KeptForm::Rows => {
-            let text = write_tests(alloc, &kept.tests)?;
+            let text = kept_file(alloc, circuit, &kept.tests)?;
             put_text(&text, out)?;
         }
         KeptForm::Numbers => write_numbers(&kept.numbers, out)?,
     }
     Ok(())
+}
+
+/// Returns the test file of tests for a circuit.
+fn kept_file(alloc: Global, circuit: &Circuit, tests: &Tests) -> Result<Vec<u8>, AllocError>
+    ensures { IfOk result (λ text. text.items ≡ file_text circuit.now tests.now.tests) }
+{
+    let line = columns_line(alloc, circuit)?;
+    test_file(alloc, line, tests)
 }
 
 /// Writes numbers, each on a line of its own.

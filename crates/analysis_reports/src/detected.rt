@@ -5,7 +5,6 @@ ghost use Rattle.std.specs.Prelude.{slice_get, zip};
 ghost use Rattle.std.specs.List.{flat_map};
 ghost use Rattle.fault_model.specs.Fault.{faults};
 ghost use Rattle.block_sim.specs.Parts.{BelongTogether};
-ghost use Rattle.n_detect.specs.Detections.{AreCounts};
 ghost use Rattle.byte_output.specs.Output.{Writes};
 ghost use Rattle.analysis_reports.specs.Detected.{IsDetectionReportOf};
 ghost use Rattle.region_runs.specs.Refused.{IsOpenFault};
@@ -27,7 +26,6 @@ use report::{put_coverage, put_fault_line};
 use std::alloc::Global;
 use std::sync::Wait;
 use std::thread::Threads;
-use workers::RunFault;
 
 /// Reads a circuit and tests for it, and writes how many tests detect each fault of a model. With
 /// `list` it writes a line for each fault. Then it writes how many faults at least `most` tests
@@ -96,33 +94,9 @@ fn report_counts<R: Threads + Wait, G: Watch + Sync, W: Out>(
     ensures refused { IfErr result (IsJobReportFault workers (IsOpenFault workers)) }
     ensures workers { OnOk result ((0 < workers) × (workers ≤ 64)) }
 {
-    let counts = detections_watched(rt, alloc, run, most, parts, workers, gate)?;
+    let counts = detections(rt, alloc, run, most, parts, workers, gate)?;
     write_detections(run.job(), counts.as_slice(), most, list, out)?;
     Ok(())
-}
-
-/// Counts as [`detections`] does, under a gate that observes the run.
-pub fn detections_watched<R: Threads + Wait, G: Watch + Sync>(
-    rt: &R,
-    alloc: Global,
-    run: &mut RunJob,
-    most: u32,
-    parts: u32,
-    workers: u32,
-    gate: &G,
-) -> Result<Vec<u32>, RunFault>
-    requires parts { 0 < parts }
-    requires passing { G.passing gate.now }
-    ensures counts { IfOk result (λ counts. AreCounts run.old.parts.list.model
-        run.old.parts.circuit run.old.parts.tests.tests most counts.items) }
-    ensures workers { OnOk result ((0 < workers) × (workers ≤ 64)) }
-    ensures refused { IfErr result (IsOpenFault workers) }
-    ensures same { run.new ≡ run.old }
-{
-    gate.starts(run.job().classes().count(), run.tests().blocks());
-    let counts = detections(rt, alloc, run, most, parts, workers, gate)?;
-    gate.ends();
-    Ok(counts)
 }
 
 /// Writes the report of how many tests detect each fault of a job. With `listed` it writes a line

@@ -13,12 +13,13 @@ ghost use Rattle.analysis_reports.specs.Histogram.{IsHistogramReportOf};
 ghost use Rattle.analysis_reports.specs.Histogram.{IsHistogramReportOfJob, histogram};
 ghost use Rattle.analysis_reports.specs.Histogram.{histogram_line, histogram_text, one_with};
 
-use crate::detected::{detections_watched, write_detections};
+use crate::detected::write_detections;
 use block_sim::Job;
 use byte_output::{Out, OutFailed, put_pieces};
 use fault_model::Model;
 use itoa::Buffer;
 use job_loading::{ReportFault, SimFault, Split, Watch, split_run_of};
+use n_detect::detections;
 use region_runs::RunJob;
 use std::alloc::{AllocError, Global};
 use std::sync::Wait;
@@ -89,7 +90,7 @@ fn report_histogram<R: Threads + Wait, G: Watch + Sync, W: Out>(
     ensures refused { IfErr result (IsJobReportFault workers (IsOpenFault workers)) }
     ensures workers { OnOk result ((0 < workers) × (workers ≤ 64)) }
 {
-    let counts = detections_watched(rt, alloc, run, most, parts, workers, gate)?;
+    let counts = detections(rt, alloc, run, most, parts, workers, gate)?;
     let job = run.job();
     let _faults = job.faults().count();
     let Ok(faults) = histogram_of(alloc, &counts, most) else {

@@ -8,11 +8,12 @@ use crate::whole::put_text;
 use byte_output::Out;
 use job_loading::{SimFault, read_inputs};
 use pairs::launch_pairs;
-use patterns::write_tests;
 use std::alloc::Global;
+use test_columns::{columns_line, test_file};
 
-/// Reads a circuit and tests for it, and writes the launch-on-capture pairs as a test file: for
-/// each test two rows, the test itself and its capture test ([`pairs::launch_pairs`]).
+/// Reads a circuit and tests for it, and writes the launch-on-capture pairs as a test file that
+/// names its columns ([`test_columns::columns_line`]): for each test two rows, the test itself and
+/// its capture test ([`pairs::launch_pairs`]).
 ///
 /// It fails as [`crate::responses_text_in`] does, and with [`patterns::TestFault::TooMany`] if the
 /// pairs are more rows than a test file may have. It writes nothing before all pairs are there.
@@ -27,8 +28,9 @@ pub fn pairs_text_in<W: Out>(
     ensures refused { IfErr result (IsPairsFault bench.now tests.now) }
 {
     let (circuit, tests) = read_inputs(alloc, bench, tests)?;
+    let line = columns_line(alloc, &circuit)?;
     let pairs = launch_pairs(alloc, circuit, &tests)?;
-    let text = write_tests(alloc, &pairs)?;
+    let text = test_file(alloc, line, &pairs)?;
     put_text(&text, out)?;
     Ok(())
 }

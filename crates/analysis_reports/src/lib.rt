@@ -1,11 +1,11 @@
 //! Further reports, from the bytes of a bench file and a test file to bytes.
 //!
-//! [`detections_text_watched`] counts the tests that detect each fault, and [`histogram_text_watched`] the
-//! faults of each count. [`reasons_text_watched`] writes why no test detects a fault.
-//! [`compact_text_in`] writes fewer tests that detect the same faults, [`responses_text_in`] the
-//! responses of the circuit without faults, and [`pairs_text_in`] the pairs of launch-on-capture
-//! tests. They are called as the functions of the crate `report` are, which writes their lines of
-//! faults and of coverage, and their contracts define the bytes.
+//! [`detections_text_watched`] counts the tests that detect each fault, and
+//! [`histogram_text_watched`] the faults of each count. [`reasons_text_watched`] writes why no test
+//! detects a fault. [`compact_text_watched`] writes fewer tests that detect the same faults,
+//! [`responses_text_in`] the responses of the circuit without faults, and [`pairs_text_in`] the
+//! pairs of launch-on-capture tests. They are called as the functions of the crate `report` are,
+//! which writes their lines of faults and of coverage, and their contracts define the bytes.
 #![tactic(auto)]
 
 mod compacted;
@@ -17,9 +17,9 @@ mod reasoned;
 mod responses;
 mod whole;
 
-pub use compacted::{KeptCount, KeptForm, KeptLayout, compact_text_in, compact_text_with};
+pub use compacted::{KeptCount, KeptForm, KeptLayout, compact_text_watched};
 pub use compaction::TestOrder;
-pub use detected::{detections_text_watched, detections_watched, write_detections};
+pub use detected::{detections_text_watched, write_detections};
 pub use histogram::{histogram_of, histogram_text_watched};
 pub use launched::pairs_text_in;
 pub use reasoned::{

@@ -1,6 +1,6 @@
 //! The report of the undetected faults with their reasons.
 
-ghost use Rattle.std.specs.Prelude.{◌≡◌, ◌<◌, ◌≤◌, IfErr, OnOk, Some};
+ghost use Rattle.std.specs.Prelude.{◌≡◌, ◌<◌, ◌≤◌, IfErr, OnOk, Some, false};
 ghost use Rattle.std.specs.Prelude.{count_by, length, slice_get, zip};
 ghost use Rattle.std.specs.List.{flat_map};
 ghost use Rattle.fault_model.specs.Fault.{faults};
@@ -21,7 +21,7 @@ use block_sim::Job;
 use byte_output::{Out, OutFailed, put_pieces};
 use fault_model::{Faults, Model};
 use itoa::Buffer;
-use job_loading::{ReasonCounts, ReportFault, SimFault, Split, Watch, run_watched, split_job_of};
+use job_loading::{ReasonCounts, ReportFault, RunJob, SimFault, Split, Watch, split_run_of};
 use report::{Contents, Lines, put_fault_line, write_report_with};
 use std::alloc::Global;
 use std::sync::Wait;
@@ -69,31 +69,34 @@ pub fn reasons_text_watched<R: Threads + Wait, G: Watch + Sync, W: Out>(
     ensures workers { OnOk result ((0 < workers) × (workers ≤ 64)) }
     ensures within { OnOk result (IsWithin model bench.now tests.now split) }
 {
-    let (job, parts) = split_job_of(rt, alloc, model, bench, tests, split, workers)?;
-    report_reasons(rt, alloc, &job, parts, workers, classes, gate, out)
+    let (made, parts) = split_run_of(rt, alloc, model, bench, tests, split, false, workers)?;
+    let mut run = made;
+    report_reasons(rt, alloc, &mut run, parts, workers, classes, gate, out)
 }
 
-/// Runs a job in parts by workers in threads of their own, and writes the report.
+/// Runs a job, whose tests are its own, in parts, and writes the report.
 fn report_reasons<R: Threads + Wait, G: Watch + Sync, W: Out>(
     rt: &R,
     alloc: Global,
-    job: &Job,
+    run: &mut RunJob,
     parts: u32,
     workers: u32,
     classes: bool,
     gate: &G,
     out: &mut W,
 ) -> Result<(), SimFault>
-    requires job { BelongTogether job.now }
+    requires job { BelongTogether run.old.parts }
+    requires own { run.old.apart ≡ false }
     requires parts { 0 < parts }
-    ensures written { WritesOneOf (IsReasonReportOfJob job.now classes) result
+    ensures written { WritesOneOf (IsReasonReportOfJob run.old.parts classes) result
         (W.seen out.old) (W.seen out.new) }
     ensures refused { IfErr result (IsJobTextFault workers
-        (IsPartsFault job.now parts workers (G.passing gate.now) (G.stops gate.now))) }
+        (IsPartsFault run.old.parts parts workers (G.passing gate.now) (G.stops gate.now))) }
     ensures workers { OnOk result ((0 < workers) × (workers ≤ 64)) }
-    ensures within { OnOk result (ArePartsWithin job.now parts) }
+    ensures within { OnOk result (ArePartsWithin run.old.parts parts) }
 {
-    let verdicts = run_watched(rt, alloc, job, parts, workers, gate)?;
+    let verdicts = run.run(rt, alloc, parts, workers, gate)?;
+    let job = run.job();
     let reasons = reasons(alloc, job, &verdicts)?;
     gate.explains(reason_counts(&reasons));
     write_reasons_in_threads(

@@ -135,7 +135,7 @@ static CURVE_CHOICES: [Choice; 7] = [
 ];
 
 /// The options of `compact`.
-static COMPACT_CHOICES: [Choice; 7] = [
+static COMPACT_CHOICES: [Choice; 8] = [
     Choice::Bench,
     Choice::Tests,
     Choice::Model,
@@ -143,6 +143,7 @@ static COMPACT_CHOICES: [Choice; 7] = [
     Choice::Parts,
     Choice::Numbers,
     Choice::TestOrder,
+    Choice::Progress,
 ];
 
 /// The options of `responses`.
@@ -318,9 +319,11 @@ Example, a circuit and tests for it, one a line:
 
     faultsim compact --bench a.bench --tests a.tests > b.tests
 
-writes some of the tests, in order, which detect the same faults as all. Test 00
-detects only z stuck at 1, which the next two detect, too:
+writes some of the tests, in order, which detect the same faults as all. The file
+begins with the line that names its columns. Test 00 detects only z stuck at 1,
+which the next two detect, too:
 
+    # columns: a b
     01
     10
     11

@@ -26,7 +26,7 @@ use Rattle.block_sim.specs.First.{IsFirst}
 use Rattle.block_sim.specs.Parts.{Parts, with_tests}
 use Rattle.workers.specs.declared.RunFault.{RunFault}
 use Rattle.workers.specs.declared.RunFault.TheVariants as run_fault
-use Rattle.workers.specs.Stops.{no_stop}
+use Rattle.workers.specs.Stops.{Stops}
 use Rattle.workers.specs.Verdict.{AreFirsts}
 use Rattle.region_runs.specs.Part.{stretch_size}
 use Rattle.region_runs.specs.Refused.{IsPartsFault}
@@ -654,17 +654,18 @@ fewer_pieces classes few many le =
 
 -- the errors of a run in parts under tests that are no more are errors of a run under the job's own
 -- tests
-pub refused_alike : (job : Parts) (tests : TestList) (parts workers : ℕ) (f : RunFault)
-    → length tests.tests ≤ length job.tests.tests
-    → IsPartsFault (with_tests job tests) parts workers ⊤ no_stop f
-    → IsPartsFault job parts workers ⊤ no_stop f
-refused_alike job tests parts workers run_fault.NoWorkers le h = h
-refused_alike job tests parts workers run_fault.TooManyWorkers le h = h
-refused_alike job tests parts workers (run_fault.NoSuchMove index) le h = h
-refused_alike job tests parts workers run_fault.TooManyPieces le h =
+pub refused_alike : (job : Parts) (tests : TestList) (parts workers : ℕ) (passing : Type 0)
+    (stops : Stops) (f : RunFault) → passing → length tests.tests ≤ length job.tests.tests
+    → IsPartsFault (with_tests job tests) parts workers passing stops f
+    → IsPartsFault job parts workers passing stops f
+refused_alike job tests parts workers passing stops run_fault.NoWorkers lets le h = h
+refused_alike job tests parts workers passing stops run_fault.TooManyWorkers lets le h = h
+refused_alike job tests parts workers passing stops (run_fault.NoSuchMove index) lets le h = h
+refused_alike job tests parts workers passing stops run_fault.TooManyPieces lets le h =
     let fewer = fewer_pieces (stretch_size (length job.classes.representative) parts)
     (length tests.tests) (length job.tests.tests) le in
     (h.0, h.1, omega (arith, h.2, fewer))
-refused_alike job tests parts workers run_fault.Memory le h = h
-refused_alike job tests parts workers run_fault.Threads le h = h
-refused_alike job tests parts workers (run_fault.Unfinished class block) le h = absurd (h.4 tt)
+refused_alike job tests parts workers passing stops run_fault.Memory lets le h = h
+refused_alike job tests parts workers passing stops run_fault.Threads lets le h = h
+refused_alike job tests parts workers passing stops (run_fault.Unfinished class block) lets le h =
+    absurd (h.4 lets)

@@ -261,3 +261,38 @@ marks_lasting job classes marks b count are =
               slice_get-get_or marks s false (omega (arith, lt, are.count))
                   ∙ ap Some (marked s refl),
             )
+
+-- a later last hit is the last one of both
+pub last_later : (start t : ℕ) (new : Option ℕ) → (start + t < 65536 → new ≡ Some (start + t))
+    → (hits own : ℕ → Bool) (low mid high : ℕ) → low ≤ start + mid → mid ≤ high
+    → start + high ≤ 65536 → ((t : ℕ) → mid ≤ t → t < high → own t ≡ hits (start + t))
+    → IsLastHit own mid high (Some t) → IsLastHit hits low (start + high) new
+last_later start t new is hits own low mid high le up few same found =
+    let above = found.0 in
+    let below = found.1 in
+    let here : new ≡ Some (start + t) = is (omega (arith, below, few)) in
+    subst (IsLastHit hits low (start + high)) (sym here) (
+      omega (arith, le, above),
+      omega (arith, below),
+      sym (same t above below) ∙ found.2,
+      λ later after within.
+          let back : start + (later - start) ≡ later = omega (arith, after) in
+          let mine = omega (arith, after, above) in
+          let ends = omega (arith, after, within) in
+          ap hits (sym back) ∙ (sym (same (later - start) mine ends)
+          ∙ found.3 (later - start) (omega (arith, after)) ends),
+    )
+
+-- and if there is no later hit, the one before is
+pub last_before : (start : ℕ) (old : Option ℕ) (hits own : ℕ → Bool) (low mid high : ℕ)
+    → low ≤ start + mid → mid ≤ high
+    → ((t : ℕ) → mid ≤ t → t < high → own t ≡ hits (start + t))
+    → IsLastHit hits low (start + mid) old → IsLastHit own mid high None
+    → IsLastHit hits low (start + high) old
+last_before start old hits own low mid high le up same was none =
+    last_unchanged old hits low (start + mid) (start + high) (omega (arith, up))
+    (λ t above within.
+    let back : start + (t - start) ≡ t = omega (arith, above) in
+    let mine : mid ≤ t - start = omega (arith, above) in
+    let ends : t - start < high = omega (arith, above, within) in
+    ap hits (sym back) ∙ (sym (same (t - start) mine ends) ∙ none (t - start) mine ends)) was

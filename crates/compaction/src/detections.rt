@@ -10,6 +10,7 @@ ghost use Rattle.compaction.specs.Steepest.{DetectsClasses};
 
 use block_sim::Job;
 use n_detect::{ClassTests, class_tests};
+use region_runs::Watch;
 use std::alloc::Global;
 use std::marker::Model;
 use std::sync::Wait;
@@ -46,15 +47,18 @@ impl Model for Detections {
 }
 
 impl Detections {
-    /// Simulates each class of a job under all of its tests. The run is one in `parts` parts.
-    pub fn new<R: Threads + Wait>(
+    /// Simulates each class of a job under all of its tests. The run is one in `parts` parts, under
+    /// a gate that lets each piece pass.
+    pub fn new<G: Watch + Sync, R: Threads + Wait>(
         rt: &R,
         alloc: Global,
         job: &Job,
         parts: u32,
         workers: u32,
+        gate: &G,
     ) -> Result<Detections, RunFault>
-        requires { 0 < parts }
+        requires passing { G.passing gate.now }
+        requires parts { 0 < parts }
         ensures classes { IfOk result (λ d. length d.words
             ≡ length job.now.classes.representative) }
         ensures tests { IfOk result (λ d. d.tests ≡ length job.now.tests.tests) }
@@ -63,7 +67,7 @@ impl Detections {
         ensures workers { OnOk result ((0 < workers) × (workers ≤ 64)) }
         ensures refused { IfErr result (IsOpenFault workers) }
     {
-        let found = class_tests(rt, alloc, job, parts, workers)?;
+        let found = class_tests(rt, alloc, job, parts, workers, gate)?;
         let tests = job.tests().count();
         let ClassTests {
             positions,

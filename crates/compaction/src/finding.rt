@@ -1,37 +1,39 @@
 //! The tests of a list that are the first to detect some fault.
 
-ghost use Rattle.std.specs.Prelude.{◌≡◌, ℕ, ◌+◌, ◌<◌, ◌≤◌, ◌||◌, ⊤, false, IfErr, IfOk, OnOk};
+ghost use Rattle.std.specs.Prelude.{◌≡◌, ℕ, ◌+◌, ◌<◌, ◌≤◌, ◌||◌, false, IfErr, IfOk, OnOk};
 ghost use Rattle.std.specs.Prelude.{length, slice_index_or};
 ghost use Rattle.compaction.specs.Compaction.{finds, is_first};
 ghost use Rattle.compaction.specs.Marks.{AreFinding};
-ghost use Rattle.workers.specs.Stops.{no_stop};
 ghost use Rattle.region_runs.specs.Refused.{ArePartsWithin, IsPartsFault};
 
-use block_sim::Job;
-use region_runs::run_in_parts;
+use region_runs::{RunJob, Watch};
 use std::alloc::{AllocError, Global};
 use std::sync::Wait;
 use std::thread::Threads;
-use workers::{OpenGate, RunFault, Verdicts};
+use workers::{RunFault, Verdicts};
 
 /// Returns for each test of a job whether it is the first to detect some fault. The run is one in
-/// `parts` parts.
-pub fn finding_tests<R: Threads + Wait>(
+/// `parts` parts, under a gate that lets each piece pass.
+pub fn finding_tests<G: Watch + Sync, R: Threads + Wait>(
     rt: &R,
     alloc: Global,
-    job: &Job,
+    run: &mut RunJob,
     parts: u32,
     workers: u32,
+    gate: &G,
 ) -> Result<Vec<bool>, RunFault>
-    requires { 0 < parts }
-    ensures marks { IfOk result (λ marks. AreFinding job.now.list.model job.now.circuit
-        job.now.tests.tests marks.items) }
+    requires passing { G.passing gate.now }
+    requires parts { 0 < parts }
+    ensures marks { IfOk result (λ marks. AreFinding run.old.parts.list.model
+        run.old.parts.circuit run.old.parts.tests.tests marks.items) }
     ensures workers { OnOk result ((0 < workers) × (workers ≤ 64)) }
-    ensures within { OnOk result (ArePartsWithin job.now parts) }
-    ensures refused { IfErr result (IsPartsFault job.now parts workers ⊤ no_stop) }
+    ensures within { OnOk result (ArePartsWithin run.old.parts parts) }
+    ensures refused { IfErr result (IsPartsFault run.old.parts parts workers (G.passing gate.now)
+        (G.stops gate.now)) }
+    ensures same { run.new ≡ run.old }
 {
-    let verdicts = run_in_parts(rt, alloc, job, parts, workers, &OpenGate)?;
-    Ok(marks_of(alloc, &verdicts, job.tests().count())?)
+    let verdicts = run.run(rt, alloc, parts, workers, gate)?;
+    Ok(marks_of(alloc, &verdicts, run.tests().count())?)
 }
 
 /// Returns for each of the tests whether some fault has it as its first test.

@@ -7,33 +7,35 @@ ghost use Rattle.compaction.specs.LastHitLaws.{always_wanted, last_unchanged};
 ghost use Rattle.compaction.specs.Marks.{AreLastAt, AreLasting, IsLastOfClass};
 
 use crate::finding::mark_test;
-use block_sim::Job;
-use region_runs::run_goal;
+use region_runs::{RunJob, Watch, WindowGoal};
 use region_sim::Goal;
 use std::alloc::{AllocError, Global};
 use std::sync::Wait;
 use std::thread::Threads;
-use workers::{OpenGate, RunFault};
+use workers::RunFault;
 
 /// Returns for each test of a job whether it is the last to detect some fault. The run is one in
-/// `parts` parts.
-pub fn lasting_tests<R: Threads + Wait>(
+/// `parts` parts, under a gate that lets each piece pass.
+pub fn lasting_tests<G: Watch + Sync, R: Threads + Wait>(
     rt: &R,
     alloc: Global,
-    job: &Job,
+    run: &mut RunJob,
     parts: u32,
     workers: u32,
+    gate: &G,
 ) -> Result<Vec<bool>, RunFault>
-    requires { 0 < parts }
-    ensures marks { IfOk result (λ marks. AreLasting job.now.list.model job.now.circuit
-        job.now.tests.tests marks.items) }
+    requires passing { G.passing gate.now }
+    requires parts { 0 < parts }
+    ensures marks { IfOk result (λ marks. AreLasting run.old.parts.list.model
+        run.old.parts.circuit run.old.parts.tests.tests marks.items) }
     ensures workers { OnOk result ((0 < workers) × (workers ≤ 64)) }
     ensures refused { IfErr result (IsOpenFault workers) }
+    ensures same { run.new ≡ run.old }
 {
-    let _tests = job.tests();
-    let done = run_goal(rt, alloc, job, parts, workers, &LastTest, &OpenGate)?;
+    let _tests = run.tests();
+    let done = run.run_goal(rt, alloc, parts, workers, &LastTest, gate)?;
     let positions = done.positions.as_slice();
-    let marks = marks_of_last(alloc, job, positions, done.kept.as_slice())?;
+    let marks = marks_of_last(alloc, run, positions, done.kept.as_slice())?;
     Ok(marks)
 }
 
@@ -41,29 +43,29 @@ pub fn lasting_tests<R: Threads + Wait>(
 /// test at its position.
 fn marks_of_last(
     alloc: Global,
-    job: &Job,
+    run: &RunJob,
     positions: &[u32],
     lasts: &[Option<u32>],
 ) -> Result<Vec<bool>, AllocError>
-    requires { AreLastAt job.now positions.now lasts.now }
-    ensures { IfOk result (λ marks. AreLasting job.now.list.model job.now.circuit
-        job.now.tests.tests marks.items) }
+    requires { AreLastAt run.now.parts positions.now lasts.now }
+    ensures { IfOk result (λ marks. AreLasting run.now.parts.list.model run.now.parts.circuit
+        run.now.parts.tests.tests marks.items) }
 {
-    let mut marks = vec![in alloc; false; job.tests().count() as usize]?;
-    for class in 0..job.classes().count() {
-        let last = last_of(job, positions, lasts, class);
+    let mut marks = vec![in alloc; false; run.tests().count() as usize]?;
+    for class in 0..run.job().classes().count() {
+        let last = last_of(run, positions, lasts, class);
         mark_test(&mut marks, last);
     }
     Ok(marks)
 }
 
 /// Returns the last test that detects a class.
-fn last_of(job: &Job, positions: &[u32], lasts: &[Option<u32>], class: u32) -> Option<u32>
-    requires class { class < length job.now.classes.representative }
-    requires last { AreLastAt job.now positions.now lasts.now }
-    ensures { IsLastOfClass job.now class result }
+fn last_of(run: &RunJob, positions: &[u32], lasts: &[Option<u32>], class: u32) -> Option<u32>
+    requires class { class < length run.now.parts.classes.representative }
+    requires last { AreLastAt run.now.parts positions.now lasts.now }
+    ensures { IsLastOfClass run.now.parts class result }
 {
-    let _job = job;
+    let _run = run;
     lasts[positions[class as usize] as usize]
 }
 
@@ -105,6 +107,15 @@ impl Goal for LastTest {
     fn take(&self, kept: &mut Option<u32>, group: u32, lanes: u128) {
         match lanes.checked_ilog2() {
             Some(lane) => *kept = Some(128 * group + lane),
+            None => {}
+        }
+    }
+}
+
+impl WindowGoal for LastTest {
+    fn join(&self, kept: &mut Option<u32>, later: &Option<u32>, start: u32) {
+        match later {
+            Some(test) => *kept = Some(test.saturating_add(start)),
             None => {}
         }
     }

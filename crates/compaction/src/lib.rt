@@ -10,8 +10,7 @@ mod passes;
 mod rows;
 mod steepest;
 
-pub use ordered::compact_in_order;
-pub use passes::{compact, compact_in_parts};
+pub use ordered::compact;
 use patterns::Tests;
 
 /// The order of the tests that a compaction keeps.

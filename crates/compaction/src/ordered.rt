@@ -1,89 +1,105 @@
 //! Kept tests in another order than their list.
 
-ghost use Rattle.std.specs.Prelude.{◌≡◌, ◌≢◌, ◌<◌, ◌≤◌, [], ⊤, All, IfErr, IfOk, OnOk};
+ghost use Rattle.std.specs.Prelude.{◌≡◌, ◌≢◌, ◌<◌, ◌≤◌, [], All, IfErr, IfOk, OnOk};
 ghost use Rattle.std.specs.Prelude.{length};
 ghost use Rattle.block_sim.specs.Parts.{BelongTogether, with_tests};
 ghost use Rattle.compaction.specs.Steepest.{IsOrdered, IsSteepestCompaction, at_places};
 ghost use Rattle.compaction.specs.Steepest.{with_launches};
 ghost use Rattle.fault_model.specs.declared.Model.TheVariants as model;
 ghost use Rattle.patterns.specs.Tests.{IsTestList};
-ghost use Rattle.workers.specs.Stops.{no_stop};
 ghost use Rattle.region_runs.specs.Refused.{ArePartsWithin, IsPartsFault};
 
 use crate::detections::Detections;
-use crate::passes::compact_in_parts;
+use crate::passes::compact_as_listed;
 use crate::rows::push_test;
 use crate::steepest::steepest_order;
 use crate::{Kept, TestOrder};
-use block_sim::Job;
 use fault_model::Model;
 use patterns::Tests;
+use region_runs::{RunJob, Watch};
 use std::alloc::{AllocError, Global};
 use std::sync::Wait;
 use std::thread::Threads;
 use workers::RunFault;
 
-/// Returns the tests that [`compact_in_parts`] keeps, in an order, each with its number in the
-/// list.
+/// Compacts a job's tests: returns some of them, in an order, which detect each fault that a test
+/// of the job detects, each with its number in the list.
+///
+/// The order of the list is that of two passes, for the first tests that detect some fault and for
+/// the last ones of these. Under transition faults a test that a pass keeps also keeps the test
+/// before it.
 ///
 /// Steepest order leaves out a test that detects no class anew. Under [`Model::TransitionPairs`]
 /// the pairs are in this order. Under [`Model::Transition`] a test makes a pair with the test
-/// before it, so the tests stay in the order of the list.
+/// before it, so the tests stay in the order of the list. It takes 16 bytes for each class and 128
+/// of the kept tests.
 ///
-/// Steepest order takes 16 bytes for each class and 128 of the kept tests. It fails as
-/// [`compact_in_parts`] does.
-pub fn compact_in_order<R: Threads + Wait>(
+/// Each pass is a run in `parts` parts, and window by window if its tests have more blocks than a
+/// window ([`region_runs::window_blocks`]). The gate observes each, and lets each piece pass. The
+/// job keeps its circuit, its faults and its classes; its tests are others afterwards.
+///
+/// # Errors
+///
+/// The errors of [`RunJob::run`].
+pub fn compact<G: Watch + Sync, R: Threads + Wait>(
     rt: &R,
     alloc: Global,
-    job: &mut Job,
+    run: &mut RunJob,
     order: TestOrder,
     parts: u32,
     workers: u32,
+    gate: &G,
 ) -> Result<Kept, RunFault>
-    requires { 0 < parts }
-    ensures ordered { IfOk result (λ kept. IsOrdered order job.old.list.model job.old.circuit
-        job.old.tests.tests kept.tests.tests kept.numbers.items) }
+    requires passing { G.passing gate.now }
+    requires parts { 0 < parts }
+    ensures ordered { IfOk result (λ kept. IsOrdered order run.old.parts.list.model
+        run.old.parts.circuit run.old.parts.tests.tests kept.tests.tests kept.numbers.items) }
     ensures list { IfOk result (λ kept. IsTestList kept.tests) }
-    ensures width { IfOk result (λ kept. kept.tests.width ≡ job.old.tests.width) }
-    ensures job { job.new ≡ with_tests job.old job.new.tests }
+    ensures width { IfOk result (λ kept. kept.tests.width ≡ run.old.parts.tests.width) }
+    ensures job { run.new.parts ≡ with_tests run.old.parts run.new.parts.tests }
     ensures workers { OnOk result ((0 < workers) × (workers ≤ 64)) }
-    ensures within { OnOk result (ArePartsWithin job.old parts) }
-    ensures refused { IfErr result (IsPartsFault job.old parts workers ⊤ no_stop) }
+    ensures within { OnOk result (ArePartsWithin run.old.parts parts) }
+    ensures refused { IfErr result (IsPartsFault run.old.parts parts workers
+        (G.passing gate.now) (G.stops gate.now)) }
 {
     match order {
-        TestOrder::AsListed => compact_in_parts(rt, alloc, job, parts, workers),
-        TestOrder::Steepest => match job.faults().model() {
-            Model::Transition => compact_in_parts(rt, alloc, job, parts, workers),
+        TestOrder::AsListed => compact_as_listed(rt, alloc, run, parts, workers, gate),
+        TestOrder::Steepest => match run.job().faults().model() {
+            Model::Transition => compact_as_listed(rt, alloc, run, parts, workers, gate),
             Model::StuckAt | Model::TransitionPairs => {
-                compact_steepest(rt, alloc, job, parts, workers)
+                compact_steepest(rt, alloc, run, parts, workers, gate)
             }
         },
     }
 }
 
-/// Returns the tests that [`compact_in_parts`] keeps, in steepest order.
-fn compact_steepest<R: Threads + Wait>(
+/// Returns the tests that [`compact_as_listed`] keeps, in steepest order.
+fn compact_steepest<G: Watch + Sync, R: Threads + Wait>(
     rt: &R,
     alloc: Global,
-    job: &mut Job,
+    run: &mut RunJob,
     parts: u32,
     workers: u32,
+    gate: &G,
 ) -> Result<Kept, RunFault>
-    requires job { BelongTogether job.old }
+    requires passing { G.passing gate.now }
+    requires job { BelongTogether run.old.parts }
     requires parts { 0 < parts }
-    requires model { job.old.list.model ≢ model.Transition }
-    ensures compacted { IfOk result (λ kept. IsSteepestCompaction job.old.list.model
-        job.old.circuit job.old.tests.tests kept.tests.tests kept.numbers.items) }
+    requires model { run.old.parts.list.model ≢ model.Transition }
+    ensures compacted { IfOk result (λ kept. IsSteepestCompaction run.old.parts.list.model
+        run.old.parts.circuit run.old.parts.tests.tests kept.tests.tests kept.numbers.items) }
     ensures list { IfOk result (λ kept. IsTestList kept.tests) }
-    ensures width { IfOk result (λ kept. kept.tests.width ≡ job.old.tests.width) }
-    ensures job { job.new ≡ with_tests job.old job.new.tests }
+    ensures width { IfOk result (λ kept. kept.tests.width ≡ run.old.parts.tests.width) }
+    ensures job { run.new.parts ≡ with_tests run.old.parts run.new.parts.tests }
     ensures workers { OnOk result ((0 < workers) × (workers ≤ 64)) }
-    ensures within { OnOk result (ArePartsWithin job.old parts) }
-    ensures refused { IfErr result (IsPartsFault job.old parts workers ⊤ no_stop) }
+    ensures within { OnOk result (ArePartsWithin run.old.parts parts) }
+    ensures refused { IfErr result (IsPartsFault run.old.parts parts workers
+        (G.passing gate.now) (G.stops gate.now)) }
 {
-    let Kept { tests, numbers } = compact_in_parts(rt, alloc, job, parts, workers)?;
-    job.set_tests_of_any_size_in_threads(rt, alloc, tests, workers)?;
-    let detections = Detections::new(rt, alloc, job, parts, workers)?;
+    let Kept { tests, numbers } = compact_as_listed(rt, alloc, run, parts, workers, gate)?;
+    run.set_own_tests(rt, alloc, tests, workers)?;
+    let job = run.job();
+    let detections = Detections::new(rt, alloc, job, parts, workers, gate)?;
     let order = steepest_order(alloc, &detections)?;
     let places = places_of(alloc, job.faults().model(), &order)?;
     Ok(kept_at(alloc, job.tests(), &numbers, &places)?)

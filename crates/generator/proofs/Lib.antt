@@ -6,7 +6,6 @@ mod KeptTests
 mod Detected
 mod LeftClasses
 mod Searches
-mod ShiftedRows
 mod SortedTests
 mod Pieces
 mod Texts

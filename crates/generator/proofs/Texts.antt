@@ -24,13 +24,15 @@ use Rattle.job_loading.specs.declared.fault.SimFault.{SimFault}
 use Rattle.job_loading.specs.declared.fault.SimFault.TheVariants as fault
 use Rattle.job_loading.specs.Jobs.{IsJobOf}
 use Rattle.report.specs.EndToEnd.{IsReportFault}
-use Rattle.region_runs.specs.Refused.{IsOpenFault}
+use Rattle.region_runs.proofs.Public.{parts_fault}
+use Rattle.region_runs.specs.Refused.{IsOpenFault, IsPartsFault}
 use Rattle.test_columns.specs.Columns.{columns_line}
+use Rattle.test_columns.specs.Files.{file_text}
 use Rattle.generator.specs.declared.GeneratorFault.{GeneratorFault}
 use Rattle.generator.specs.declared.GeneratorFault.TheVariants as generator_fault
 use Rattle.generator.specs.declared.held.Held.{Held}
 use Rattle.generator.specs.Generated.{AreFewPieces, HasJob, IsFaultOfHeld, IsFaultOfRun}
-use Rattle.generator.specs.Generated.{IsGeneratorFault, file_text}
+use Rattle.generator.specs.Generated.{IsGeneratorFault}
 
 -- the laws of files: a bench file has one circuit, and a file with tests has no error
 abbrev pub OneCircuit : Type 0
@@ -75,6 +77,16 @@ run_refused job workers run_fault.TooManyPieces few is = absurd (omega (arith, f
 run_refused job workers run_fault.Memory few is = is
 run_refused job workers run_fault.Threads few is = is
 run_refused job workers (run_fault.Unfinished class block) few is = absurd (is.4 tt)
+
+-- an error of a compaction of tests of a job within this limit is one, too
+pub kept_refused : (run job : Parts) (tests : TestList) (parts workers : ℕ) (f : RunFault)
+    → run ≡ with_tests job tests
+    → AreFewPieces (length job.classes.representative) (length tests.tests)
+    → IsPartsFault run parts workers ⊤ no_stop f → IsOpenFault workers f
+kept_refused run job tests parts workers f same few is =
+    run_refused run workers f
+    (subst (λ (p : Parts). piece_count p ≤ max_pieces) (sym same) few)
+    (parts_fault run parts workers f is)
 
 -- errors of files that have a job within the limit of pieces are errors of the search
 pub report_refused : OneCircuit → NotBoth → (m : Model) (bench text : List ℕ) (workers : ℕ)
@@ -131,11 +143,10 @@ text_has_job m bench text job best accepted fit of_model width list few own = (
 )
 
 -- the line that names the columns, and the rows, are the file
-pub file_is : (c : List Statement) (tests : List (List Bool)) (line rows text : List ℕ)
-    → line ≡ columns_line (sources c) → rows ≡ test_text tests → text ≡ line ++ rows
-    → text ≡ file_text c tests
-file_is c tests line rows text named written joined =
-    joined ∙ (ap (λ l. l ++ rows) named ∙ ap (λ l. columns_line (sources c) ++ l) written)
+pub file_is : (c own : List Statement) (tests : List (List Bool)) (line text : List ℕ) → own ≡ c
+    → line ≡ columns_line (sources own) → text ≡ line ++ test_text tests → text ≡ file_text c tests
+file_is c own tests line text same named joined =
+    joined ∙ ap (λ l. l ++ test_text tests) (named ∙ ap (λ x. columns_line (sources x)) same)
 
 -- an error of held inputs is one of the generator
 pub held_refused : (bench : List ℕ) (c : List Statement) (held : List Held) (workers : ℕ)

@@ -1,5 +1,5 @@
 -- The results of a generator, and its errors.
-use Rattle.std.specs.Prelude.{◌≡◌, ◌⊎◌, ⊤, ℕ, ◌*◌, ◌<◌, ◌≤◌, ◌++◌, Bool, List, Contains, length}
+use Rattle.std.specs.Prelude.{◌≡◌, ◌⊎◌, ⊤, ℕ, ◌*◌, ◌<◌, ◌≤◌, Bool, List, Contains, length}
 use Rattle.std.specs.Prelude.{Option, Some}
 use Rattle.bench_net.specs.declared.BenchFault.TheVariants as bench_fault
 use Rattle.bench_net.specs.Refusal.{IsAccepted, IsRefused}
@@ -8,10 +8,10 @@ use Rattle.bench_net.specs.Statement.{Statement}
 use Rattle.fault_model.specs.declared.Model.{Model}
 use Rattle.fault_model.specs.Detection.{DetectsAt}
 use Rattle.fault_model.specs.Fault.{Fault, faults}
-use Rattle.patterns.specs.Making.{test_text}
 use Rattle.patterns.specs.Tests.{HasTests, TestList, blocks, max_pieces}
 use Rattle.patterns.specs.declared.TestFault.TheVariants as test_fault
-use Rattle.test_columns.specs.Columns.{columns, columns_line}
+use Rattle.test_columns.specs.Columns.{columns}
+use Rattle.test_columns.specs.Files.{file_text}
 use Rattle.block_sim.specs.declared.job.JobFault.TheVariants as job_fault
 use Rattle.block_sim.specs.Parts.{Parts}
 use Rattle.compaction.specs.Compaction.{IsCompaction}
@@ -24,10 +24,6 @@ use Rattle.generator.specs.declared.GeneratorFault.TheVariants as generator_faul
 use Rattle.generator.specs.declared.held.Held.{Held}
 use Rattle.generator.specs.Held.{AreHeldBits, AreHolding, IsHeldFault}
 use Rattle.generator.specs.RandomTests.{IsRound}
-
--- the test file of tests for a circuit: the line that names the columns, and the rows
-abbrev pub file_text : List Statement → List (List Bool) → List ℕ
-file_text c tests = columns_line (sources c) ++ test_text tests
 
 -- The text is the file of some tests for the circuit of the bench file. It is read as these tests,
 -- and the columns that it names are the circuit's sources, in their order.

@@ -30,12 +30,11 @@ pub use command::run_words;
 use fault_model::Model;
 pub use held::{Held, HeldFault, HeldReason};
 use patterns::laws::one_answer_of_tests;
-use patterns::write_tests;
 use report::{Contents, Lines, SimFault, job_of, report_bytes};
 use std::alloc::{AllocError, Global};
 use std::sync::Wait;
 use std::thread::Threads;
-use test_columns::columns_line;
+use test_columns::{columns_line, test_file};
 
 /// The settings of a generator.
 #[derive(Clone, Copy, Debug, PartialEq, Eq)]
@@ -156,13 +155,11 @@ fn test_rows<R: Threads + Wait>(
     ensures refused { IfErr result (IsGeneratorFault bench.now held.now settings.workers) }
 {
     let mut job = job_of(alloc, settings.model, bench, b"")?;
-    let mut text = columns_line(alloc, job.circuit())?;
+    let line = columns_line(alloc, job.circuit())?;
     let bits = held_bits(alloc, job.circuit(), held)?;
     let found = search(rt, alloc, &mut job, &bits, settings)?;
     let best = best_tests(rt, alloc, &mut job, found, settings)?;
-    let needed = needed_of_best(rt, alloc, &mut job, best, settings.workers)?;
+    let needed = needed_of_best(rt, alloc, job, best, settings.workers)?;
     let _width = needed.width();
-    let rows = write_tests(alloc, &needed)?;
-    text.extend_from_slice(&rows)?;
-    Ok(text)
+    Ok(test_file(alloc, line, &needed)?)
 }

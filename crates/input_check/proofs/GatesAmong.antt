@@ -1,5 +1,6 @@
 -- The gates of the statements that define a signal are all gates.
-use Rattle.std.proofs.Common.{◌≡◌, ◌∙◌, ◌+◌, ◌<◌, ◌≤◌, ℕ, zero, suc, Bool, true, false, cond, List, []}
+use Rattle.std.proofs.Common.{◌≡◌, ◌∙◌, ◌+◌, ◌<◌, ◌≤◌, ℕ, zero, suc, Bool, true, false, cond, List}
+use Rattle.std.proofs.Common.{[]}
 use Rattle.std.proofs.Common.{◌∷◌, ap, arith, drop, length, map, refl, sym}
 use Rattle.std.proofs.Common.{get_or, inl, inr, set}
 use Rattle.std.proofs.Math.Numerals.{add-one}

@@ -91,7 +91,7 @@ impl Counts {
         sources.saturating_add(1).saturating_mul(u64::from(tests))
     }
 
-    /// Estimates the bytes of a run of this number of tests, by the figures of the README. The run
+    /// Estimates the bytes of a run of this number of tests, by the figures of the guide. The run
     /// has these bytes of the test file, and the fault-free words of this number of groups of two
     /// blocks at a time.
     fn memory(&self, tests: u32, text: u64, groups: u32, workers: u32) -> u64 {
@@ -187,8 +187,7 @@ pub struct TestCounts {
     /// An estimate of the bytes of a run with four workers, which has the fault-free words of some
     /// tests at a time.
     pub bytes: u64,
-    /// The same for a run with the fault-free words of all tests: one that reports reasons or
-    /// detection counts, and a compaction.
+    /// The same for a run with the fault-free words of all tests: one that reports reasons.
     pub bytes_with_all_words: u64,
 }
 

@@ -5,7 +5,10 @@ ghost use Rattle.std.specs.Prelude.{◌≤◌};
 use crate::memory::parts::{ORDER, is_want};
 use crate::memory::sweep::{Outcome, Trial, answered, refused};
 use crate::memory::written::{LISTING, REPORT};
-use analysis_reports::{compact_text_in, detections_text_watched, responses_text_in};
+use analysis_reports::{
+    KeptForm, KeptLayout, TestOrder, compact_text_watched, detections_text_watched,
+    responses_text_in,
+};
 use fault_model::Model;
 use report::{
     Contents, Lines, OpenGate, Out, OutFailed, RunFault, SimFault, Split, curve_text_in,
@@ -90,7 +93,7 @@ const CURVE: &[u8] = b"0 14 41.17\n64 19 55.88\n19 of 34 (55.88%)\n";
 const TWICE_DETECTED: &[u8] = b"14 of 34 (41.17%)\n";
 
 /// The tests that are kept.
-const COMPACTED: &[u8] = b"11111\n00000\n";
+const COMPACTED: &[u8] = b"# columns: G1 G2 G3 G6 G7\n11111\n00000\n";
 
 /// The responses of C17 to these tests.
 const RESPONSES: &[u8] = b"\
@@ -120,6 +123,25 @@ pub(crate) struct Written<'a, R> {
     pub(crate) tests: &'a [u8],
 }
 
+/// Writes the rows of a compaction of these tests for C17, in the order of the list.
+fn compacted<R: Threads + Wait>(
+    rt: &R,
+    alloc: Global,
+    tests: &[u8],
+    screen: &mut Screen,
+) -> Result<(), SimFault> {
+    let layout = KeptLayout {
+        order: TestOrder::AsListed,
+        form: KeptForm::Rows,
+    };
+    let (model, split) = (Model::StuckAt, Split::Whole);
+    let gate = &OpenGate;
+    match compact_text_watched(rt, alloc, model, C17, tests, split, 2, layout, gate, screen) {
+        Ok(_count) => Ok(()),
+        Err(fault) => Err(fault),
+    }
+}
+
 impl<R: Threads + Wait> Written<'_, R> {
     fn write(&self, alloc: Global, screen: &mut Screen) -> Result<(), SimFault> {
         let (rt, tests, model) = (self.rt, self.tests, Model::StuckAt);
@@ -137,7 +159,7 @@ impl<R: Threads + Wait> Written<'_, R> {
                     rt, alloc, model, C17, tests, whole, 2, 2, false, &OpenGate, screen,
                 )
             }
-            TextCall::Compact => compact_text_in(rt, alloc, model, C17, tests, 2, screen),
+            TextCall::Compact => compacted(rt, alloc, tests, screen),
             TextCall::Responses => responses_text_in(alloc, C17, tests, screen),
         }
     }
@@ -164,7 +186,7 @@ impl<R: Threads + Wait> Trial for Written<'_, R> {
             TextCall::Faults => "faults_text",
             TextCall::Curve => "curve_text_in",
             TextCall::Detections => "detections_text_watched",
-            TextCall::Compact => "compact_text_in",
+            TextCall::Compact => "compact_text_watched",
             TextCall::Responses => "responses_text_in",
         }
     }

@@ -3,19 +3,17 @@ use Rattle.std.proofs.Common.{rules}
 use Rattle.bench_net.specs.Refusal.{IsAccepted}
 use Rattle.bench_net.specs.Scan.{sources}
 use Rattle.patterns.specs.Tests.{HasTests}
-use Rattle.test_columns.specs.Columns.{columns, columns_line}
+use Rattle.patterns.specs.Making.{test_text}
+use Rattle.test_columns.specs.Columns.{columns}
 use Rattle.compaction.specs.Compaction.{IsCompaction}
 use Rattle.generator.specs.Generated.{AreFewPieces, DetectsEarly, DetectsSome, FindsNone}
-use Rattle.generator.specs.Generated.{file_text}
 use Rattle.generator.specs.Held.{AreAllowed, AreHeldBits}
 use Rattle.generator.proofs.AmongTests.{allowed_among}
 use Rattle.generator.proofs.HeldInputs.{held_allowed}
 use Rattle.generator.proofs.Pieces.{fewer_pieces}
 use Rattle.generator.proofs.Searches.{compacted_some}
-use Rattle.generator.proofs.ShiftedRows.{tests_behind}
 use Rattle.generator.proofs.Texts.{file_is, held_refused, text_has_job}
 use Rattle.generator.proofs.test_rows.Goals as goal
-use Rattle.generator.proofs.test_rows.Goals.{After-drop-job-inside-2}
 
 pub needed_of_best-requires-clause-pieces : goal.needed_of_best-requires-clause-pieces
 needed_of_best-requires-clause-pieces g c =
@@ -26,51 +24,6 @@ needed_of_best-requires-clause-pieces g c =
     subst (λ x. AreFewPieces (length x.representative) (length best.tests)) (sym same)
     (fewer_pieces (length job.classes.representative) (length best.tests) (length found.tests)
     c.in_ok-best.ensures.no_more c.in_ok-found.ensures.pieces)
-
--- the text is the line and the rows
-joined : (g : _) (c : After-drop-job-inside-2 g)
-    → c.extend_from_slice.new.self.items ≡ c.in_ok-text.text.items ++ c.in_ok-rows.rows.items
-joined g c =
-    c.in_ok-extend_from_slice.ensures.items
-    ∙ ap (λ l. c.in_ok-text.text.items ++ l) c.deref-2.ensures.value
-
--- so it is the file of the needed tests
-file : (g : _) (c : After-drop-job-inside-2 g)
-    → c.extend_from_slice.new.self.items
-    ≡ file_text c.in_ok-job.job.circuit c.in_ok-needed.needed.tests
-file g c =
-    file_is c.in_ok-job.job.circuit c.in_ok-needed.needed.tests c.in_ok-text.text.items
-    c.in_ok-rows.rows.items c.extend_from_slice.new.self.items
-    (c.in_ok-text.ensures.line ∙ ap (λ x. columns_line (sources x)) c.circuit.ensures.part)
-    c.in_ok-rows.ensures.text (joined g c)
-
--- which is read as these tests
-read : (g : _) (c : After-drop-job-inside-2 g)
-    → HasTests c.extend_from_slice.new.self.items c.in_ok-needed.needed.width
-    c.in_ok-needed.needed
-read g c =
-    let bench = c.args.bench.now in
-    let rows = c.in_ok-rows.rows.items in
-    let line = c.in_ok-text.text.items in
-    let needed = c.in_ok-needed.needed in
-    let accepted : IsAccepted bench c.circuit.result.now =
-    subst (IsAccepted bench) (sym c.circuit.ensures.part) c.in_ok-job.ensures.job.0 in
-    let own : HasTests rows needed.width needed = c.in_ok-rows.ensures.read (omega (
-      arith,
-      c.in_ok-needed.ensures.width,
-      c.in_ok-best.ensures.width,
-      c.in_ok-found.ensures.some,
-    )) in
-    subst (λ text. HasTests text needed.width needed) (sym (joined g c))
-    (tests_behind rows (line ++ rows) needed.width needed
-    (c.in_ok-text.ensures.rows bench rows accepted) own)
-
--- the held inputs have their bits
-held_bits_are : (g : _) (c : After-drop-job-inside-2 g)
-    → AreHeldBits c.in_ok-job.job.circuit c.args.held.now c.in_ok-bits.bits.items
-held_bits_are g c =
-    subst (λ x. AreHeldBits x c.args.held.now c.in_ok-bits.bits.items) c.circuit-2.ensures.part
-    c.in_ok-bits.ensures.bits
 
 pub returns-clause-held : goal.returns-clause-held
 returns-clause-held g c =
@@ -85,18 +38,25 @@ returns-clause-held g c =
       job.circuit,
       kept,
       c.in_ok-job.ensures.job.0,
-      file g c,
-      held_allowed job.circuit c.args.held.now bits kept (held_bits_are g c) allowed,
+      file_is job.circuit c.circuit.result.now c.in_ok-needed.needed.tests c.in_ok-line.line.items
+          c.in_ok-test_file.field-0.items c.circuit.ensures.part c.in_ok-line.ensures.line
+          c.in_ok-test_file.ensures.text,
+      held_allowed job.circuit c.args.held.now bits kept
+          (subst (λ x. AreHeldBits x c.args.held.now bits) c.circuit-2.ensures.part
+          c.in_ok-bits.ensures.bits) allowed,
     )
 
 pub returns-clause-few : goal.returns-clause-few
-returns-clause-few g c = (
-  c.in_ok-job.job.circuit,
-  c.in_ok-needed.needed.tests,
-  c.in_ok-job.ensures.job.0,
-  file g c,
-  omega (arith, c.in_ok-needed.ensures.no_more, c.in_ok-best.ensures.few),
-)
+returns-clause-few g c =
+    let job = c.in_ok-job.job in (
+      job.circuit,
+      c.in_ok-needed.needed.tests,
+      c.in_ok-job.ensures.job.0,
+      file_is job.circuit c.circuit.result.now c.in_ok-needed.needed.tests c.in_ok-line.line.items
+          c.in_ok-test_file.field-0.items c.circuit.ensures.part c.in_ok-line.ensures.line
+          c.in_ok-test_file.ensures.text,
+      omega (arith, c.in_ok-needed.ensures.no_more, c.in_ok-best.ensures.few),
+    )
 
 pub returns-clause-compacted : goal.returns-clause-compacted
 returns-clause-compacted g c =
@@ -116,7 +76,9 @@ returns-clause-compacted g c =
       subst (λ m. IsCompaction m job.circuit best kept) model
           (subst (λ x. IsCompaction was.list.model x best kept) circuit
           c.in_ok-needed.ensures.needed),
-      file g c,
+      file_is job.circuit c.circuit.result.now c.in_ok-needed.needed.tests c.in_ok-line.line.items
+          c.in_ok-test_file.field-0.items c.circuit.ensures.part c.in_ok-line.ensures.line
+          c.in_ok-test_file.ensures.text,
     )
 
 pub returns-clause-some : goal.returns-clause-some
@@ -151,8 +113,11 @@ returns-clause-some g c = λ big.
       bits,
       kept,
       is.0,
-      held_bits_are g c,
-      file g c,
+      subst (λ x. AreHeldBits x c.args.held.now bits) c.circuit-2.ensures.part
+          c.in_ok-bits.ensures.bits,
+      file_is job.circuit c.circuit.result.now c.in_ok-needed.needed.tests c.in_ok-line.line.items
+          c.in_ok-test_file.field-0.items c.circuit.ensures.part c.in_ok-line.ensures.line
+          c.in_ok-test_file.ensures.text,
       compacted_some m job.circuit bits seed found best kept of_best needed early,
     )
 
@@ -162,30 +127,39 @@ returns-clause-columns g c =
     let job = c.in_ok-job.job in
     let needed = c.in_ok-needed.needed in
     let is = c.in_ok-job.ensures.job in
-    let rows = c.in_ok-rows.rows.items in
-    let text = c.extend_from_slice.new.self.items in
+    let bench = c.args.bench.now in
+    let line = c.in_ok-line.line.items in
+    let rows = test_text needed.tests in
     let width : needed.width ≡ length (sources job.circuit) = c.in_ok-needed.ensures.width
     ∙ (c.in_ok-best.ensures.width ∙ c.in_ok-found.ensures.width) in
-    let bench = c.args.bench.now in (
+    let accepted : IsAccepted bench c.circuit.result.now =
+    subst (IsAccepted bench) (sym c.circuit.ensures.part) is.0 in
+    let read = c.in_ok-test_file.ensures.read
+    (λ rest. c.in_ok-line.ensures.rows bench rest accepted) (omega (
+      arith,
+      c.in_ok-needed.ensures.width,
+      c.in_ok-best.ensures.width,
+      c.in_ok-found.ensures.some,
+    )) in (
       job.circuit,
       needed,
       is.0,
-      file g c,
-      subst (λ n. HasTests text n needed) width (read g c),
-      ap columns (joined g c)
+      file_is job.circuit c.circuit.result.now needed.tests line
+          c.in_ok-test_file.field-0.items c.circuit.ensures.part c.in_ok-line.ensures.line
+          c.in_ok-test_file.ensures.text,
+      subst (λ n. HasTests c.in_ok-test_file.field-0.items n needed) width read,
+      ap columns c.in_ok-test_file.ensures.text
           ∙ subst
-          (λ x. columns (c.in_ok-text.text.items ++ rows)
-          ≡ Some (record { line = 1; names = sources x })) c.circuit.ensures.part
-          (c.in_ok-text.ensures.named bench rows
-          (subst (IsAccepted bench) (sym c.circuit.ensures.part) is.0)),
+          (λ x. columns (line ++ rows) ≡ Some (record { line = 1; names = sources x }))
+          c.circuit.ensures.part (c.in_ok-line.ensures.named bench rows accepted),
     )
 
 pub returns-clause-job : goal.returns-clause-job
 returns-clause-job g c =
     let job = c.in_ok-job.job in
-    let best = c.in_ok-best.best in
     let found = c.in_ok-found.found in
     let needed = c.in_ok-needed.needed in
+    let bench = c.args.bench.now in
     let classes = length job.classes.representative in
     let less : length needed.tests ≤ length found.tests =
     omega (arith, c.in_ok-needed.ensures.no_more, c.in_ok-best.ensures.no_more) in
@@ -195,9 +169,17 @@ returns-clause-job g c =
     let width = c.in_ok-needed.ensures.width
     ∙ (c.in_ok-best.ensures.width ∙ c.in_ok-found.ensures.width) in
     let is = c.in_ok-job.ensures.job in
-    text_has_job c.args.settings.model c.args.bench.now c.extend_from_slice.new.self.items job
-    needed is.0 is.2 is.3 width c.width-width.ensures.tests few
-    (read g c)
+    let accepted : IsAccepted bench c.circuit.result.now =
+    subst (IsAccepted bench) (sym c.circuit.ensures.part) is.0 in
+    let read = c.in_ok-test_file.ensures.read
+    (λ rest. c.in_ok-line.ensures.rows bench rest accepted) (omega (
+      arith,
+      c.in_ok-needed.ensures.width,
+      c.in_ok-best.ensures.width,
+      c.in_ok-found.ensures.some,
+    )) in
+    text_has_job c.args.settings.model bench c.in_ok-test_file.field-0.items job needed is.0 is.2
+    is.3 width c.width-width.ensures.tests few read
 
 pub returns-in_err-bits-clause-refused : goal.returns-in_err-bits-clause-refused
 returns-in_err-bits-clause-refused g c =

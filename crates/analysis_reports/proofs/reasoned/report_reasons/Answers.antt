@@ -1,5 +1,6 @@
-use Rattle.std.proofs.Common.{refl}
+use Rattle.std.proofs.Common.{◌≡◌, ◌∙◌, ap, refl}
 use Rattle.std.proofs.lemmas.Result.{err_from_is_err_and}
+use Rattle.region_runs.specs.RunJobs.{RunParts}
 use Rattle.analysis_reports.specs.Reasons.{reason_report}
 use Rattle.analysis_reports.proofs.reasoned.report_reasons.Goals as goal
 
@@ -8,12 +9,23 @@ pub returns-in_err-write_reasons_in_threads-clause-written :
 returns-in_err-write_reasons_in_threads-clause-written g c =
     let p = err_from_is_err_and c.from_residual-in_err-write_reasons_in_threads.result
     c.from_residual-in_err-write_reasons_in_threads.ensures.1 in
-    let job = c.args.job.now in
+    let job = c.args.run.now.parts in
+    let kept = c.in_ok-verdicts.ensures.kept in
+    let same : c.job-job.result.now ≡ job = c.job-job.ensures.own
+    (ap (λ (r : RunParts). r.apart) kept ∙ c.requires.own)
+    ∙ ap (λ (r : RunParts). r.parts) kept in
     let firsts = c.in_ok-verdicts.verdicts.firsts in
     let reasons = c.in_ok-reasons.reasons.items in
-    let wrote = rw (c.as_slice.ensures.value) at c.in_err-write_reasons_in_threads.ensures in
+    let wrote = rw (c.as_slice.ensures.value, same) at
+    c.in_err-write_reasons_in_threads.ensures in
     rw (p.1, p.2) (
       reason_report job.list.model job.circuit job.classes firsts reasons c.args.classes,
-      (firsts, reasons, c.in_ok-verdicts.ensures.firsts, c.in_ok-reasons.ensures, refl),
+      (
+        firsts,
+        reasons,
+        c.in_ok-verdicts.ensures.firsts,
+        rw (same) at c.in_ok-reasons.ensures,
+        refl,
+      ),
       wrote,
     )

@@ -13,7 +13,7 @@ loop-class-preserved c =
     let last = c.last_of-last.result in
     let was = c.deref_mut.ensures.value in
     let len : old.len ≡ length new = sym (c.mark_test.auto.marks ∙ c.deref_mut.ensures.len) in
-    rw (written_over old.len new _ len) (marks_more c.args.job.now c.loop-class.class old.items new
+    rw (written_over old.len new _ len) (marks_more c.args.run.now.parts c.loop-class.class old.items new
     last c.loop-class.invariant
     c.last_of-last.ensures (c.mark_test.ensures.count ∙ ap length was)
     (λ t lt. c.mark_test.ensures.each t (omega (arith, lt, ap length was))
@@ -21,9 +21,10 @@ loop-class-preserved c =
 
 pub returns : goal.returns
 returns c =
-    let job = c.args.job.now in
+    let job = c.args.run.now.parts in
     let count = c.count-class-end.ensures in
-    let own = ap (λ (x : Collapsed). length x.representative) c.classes.ensures.part in
+    let own = ap (λ (x : Collapsed). length x.representative)
+    (c.classes.ensures.part ∙ c.job.ensures.classes) in
     let all : length job.classes.representative ≤ c.loop-class.class =
     omega (arith, c.loop-class-test.false, count, own) in
     marks_lasting job c.loop-class.class c.loop-class.marks.items c.tests.ensures.together all

@@ -11,15 +11,14 @@ use Rattle.compaction.proofs.OrderedTests.{few_places, numbered_all, places_with
 use Rattle.compaction.proofs.OrderedTests.{steepest_compaction, steepest_of}
 use Rattle.compaction.proofs.ordered.compact_steepest.Goals as goal
 
-pub set_tests_of_any_size_in_threads-requires-clause-width :
-    goal.set_tests_of_any_size_in_threads-requires-clause-width
-set_tests_of_any_size_in_threads-requires-clause-width g c = c.in_ok-tests.ensures.width
+pub set_own_tests-requires-clause-width : goal.set_own_tests-requires-clause-width
+set_own_tests-requires-clause-width g c = c.in_ok-tests.ensures.width
     ∙ (c.requires.job.width
     ∙ ap (λ (p : Parts). length (sources p.circuit)) (sym c.in_ok-tests.ensures.job))
 
 pub kept_at-requires-clause-places : goal.kept_at-requires-clause-places
 kept_at-requires-clause-places g c = λ k d lt.
-    let job = c.set_tests_of_any_size_in_threads.new.self in
+    let job = c.job-job.result.now in
     let table = c.in_ok-detections.detections in
     let order = c.in_ok-order.order.items in
     let model : c.model.result ≡ job.list.model = c.model.ensures
@@ -40,7 +39,7 @@ kept_at-requires-clause-places g c = λ k d lt.
 
 pub kept_at-requires-clause-few : goal.kept_at-requires-clause-few
 kept_at-requires-clause-few g c =
-    let job = c.set_tests_of_any_size_in_threads.new.self in
+    let job = c.job-job.result.now in
     let table = c.in_ok-detections.detections in
     let order = c.in_ok-order.order.items in
     let model : c.model.result ≡ job.list.model = c.model.ensures
@@ -59,33 +58,36 @@ kept_at-requires-clause-few g c =
 
 pub kept_at-requires-clause-numbers : goal.kept_at-requires-clause-numbers
 kept_at-requires-clause-numbers g c =
-    let old = c.args.job.now in
+    let old = c.args.run.now.parts in
     let kept = c.in_ok-tests.field-0 in
     ap length c.deref-2.ensures.value
     ∙ (numbered_all old.list.model old.circuit old.tests.tests kept.tests.tests kept.numbers.items
     c.in_ok-tests.ensures.compacted
     ∙ (ap (λ (p : Parts). length p.tests.tests)
-    (sym c.in_ok-set_tests_of_any_size_in_threads.ensures.job)
+    (sym (c.job-job.ensures.own c.in_ok-set_own_tests.ensures.own
+    ∙ c.in_ok-set_own_tests.ensures.tests))
     ∙ sym (ap (λ t. length t.tests) c.tests.ensures.part)))
 
 pub returns-clause-width : goal.returns-clause-width
 returns-clause-width g c =
     c.in_ok-kept_at.ensures.width
     ∙ (ap (λ t. t.width) c.tests.ensures.part
-    ∙ (ap (λ (p : Parts). p.tests.width) c.in_ok-set_tests_of_any_size_in_threads.ensures.job
+    ∙ (ap (λ (p : Parts). p.tests.width) (c.job-job.ensures.own c.in_ok-set_own_tests.ensures.own
+    ∙ c.in_ok-set_own_tests.ensures.tests)
     ∙ c.in_ok-tests.ensures.width))
 
 pub returns-clause-compacted : goal.returns-clause-compacted
 returns-clause-compacted g c =
-    let old = c.args.job.now in
+    let old = c.args.run.now.parts in
     let given = c.in_ok-tests.field-0 in
     let kept = c.in_ok-kept_at.field-0 in
-    let job = c.set_tests_of_any_size_in_threads.new.self in
+    let job = c.job-job.result.now in
     let table = c.in_ok-detections.detections in
     let order = c.in_ok-order.order.items in
     let whole : job ≡ with_tests old given.tests =
-    c.in_ok-set_tests_of_any_size_in_threads.ensures.job
-    ∙ ap (λ p. with_tests p given.tests) c.in_ok-tests.ensures.job in
+    c.job-job.ensures.own c.in_ok-set_own_tests.ensures.own
+    ∙ (c.in_ok-set_own_tests.ensures.tests
+    ∙ ap (λ p. with_tests p given.tests) c.in_ok-tests.ensures.job) in
     let model : c.model.result ≡ job.list.model = c.model.ensures
     ∙ ap (λ l. l.model) c.faults.ensures.part in
     let places : c.deref-3.result.now ≡ with_launches job.list.model order =
