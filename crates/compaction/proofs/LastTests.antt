@@ -277,8 +277,8 @@ last_later start t new is hits own low mid high le up few same found =
       sym (same t above below) ∙ found.2,
       λ later after within.
           let back : start + (later - start) ≡ later = omega (arith, after) in
-          let mine = omega (arith, after, above) in
-          let ends = omega (arith, after, within) in
+          let mine : mid ≤ later - start = omega (arith, after, above) in
+          let ends : later - start < high = omega (arith, after, within) in
           ap hits (sym back) ∙ (sym (same (later - start) mine ends)
           ∙ found.3 (later - start) (omega (arith, after)) ends),
     )

@@ -1,6 +1,6 @@
 //! The tests of a list that are the last to detect some fault.
 
-ghost use Rattle.std.specs.Prelude.{◌<◌, ◌≤◌, IfErr, IfOk, OnOk, length, true};
+ghost use Rattle.std.specs.Prelude.{◌≡◌, ◌<◌, ◌≤◌, IfErr, IfOk, OnOk, length, true};
 ghost use Rattle.region_runs.specs.Refused.{IsOpenFault};
 ghost use Rattle.compaction.specs.LastHits.{IsLastHit};
 ghost use Rattle.compaction.specs.LastHitLaws.{always_wanted, last_unchanged};

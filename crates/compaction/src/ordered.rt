@@ -62,6 +62,7 @@ pub fn compact<G: Watch + Sync, R: Threads + Wait>(
     ensures refused { IfErr result (IsPartsFault run.old.parts parts workers
         (G.passing gate.now) (G.stops gate.now)) }
 {
+    let _tests = run.tests();
     match order {
         TestOrder::AsListed => compact_as_listed(rt, alloc, run, parts, workers, gate),
         TestOrder::Steepest => match run.job().faults().model() {

@@ -1,4 +1,4 @@
-use Rattle.std.proofs.Common.{◌≡◌, ◌⊎◌, ◌+◌, ◌∙◌, ap, arith, false, get_or, length, subst, sym}
+use Rattle.std.proofs.Common.{◌≡◌, ◌⊎◌, ◌+◌, ◌∙◌, ap, arith, false, get_or, length, rules, subst, sym}
 use Rattle.std.specs.Prelude.{◌||◌}
 use Rattle.fault_model.specs.declared.Model.TheVariants.{StuckAt, Transition, TransitionPairs}
 use Rattle.patterns.specs.Least.{below}
@@ -40,10 +40,13 @@ last_tests-requires-clause-numbers g c =
     let same = ap length (c.deref.ensures.value ∙ c.in_ok-numbers.ensures)
     ∙ (length-below c.count.result ∙ (c.count.ensures
     ∙ ap (λ t. length t.tests) (c.tests.ensures.tests ∙ sym c.tests-in-StuckAt.ensures.tests))) in
+    let fact : length c.in_ok-kept-in-StuckAt.kept.numbers.items
+    ≡ length c.in_ok-kept-in-StuckAt.kept.tests.tests =
     ap length c.in_ok-kept-in-StuckAt.ensures.numbers
     ∙ (as_many_marked c.deref-in-StuckAt.result.now c.deref.result.now
     c.tests-in-StuckAt.result.now.tests same
-    ∙ sym (ap length c.in_ok-kept-in-StuckAt.ensures.rows))
+    ∙ sym (ap length c.in_ok-kept-in-StuckAt.ensures.rows)) in
+    search rules
 
 pub returns-in-StuckAt-clause-compacted : goal.returns-in-StuckAt-clause-compacted
 returns-in-StuckAt-clause-compacted g c =
@@ -87,10 +90,13 @@ last_pairs-requires-clause-numbers g c =
     let same = ap length (c.deref-in-Transition.ensures.value ∙ c.in_ok-numbers.ensures)
     ∙ (length-below c.count.result ∙ (c.count.ensures
     ∙ ap (λ t. length t.tests) (c.tests.ensures.tests ∙ sym c.tests-in-Transition.ensures.tests))) in
+    let fact : length c.in_ok-kept-in-Transition.kept.numbers.items
+    ≡ length c.in_ok-kept-in-Transition.kept.tests.tests =
     ap length c.in_ok-kept-in-Transition.ensures.numbers
     ∙ (as_many_marked c.deref-in-Transition-2.result.now c.deref-in-Transition.result.now
     c.tests-in-Transition.result.now.tests same
-    ∙ sym (ap length c.in_ok-kept-in-Transition.ensures.rows))
+    ∙ sym (ap length c.in_ok-kept-in-Transition.ensures.rows)) in
+    search rules
 
 pub returns-clause-compacted : goal.returns-clause-compacted
 returns-clause-compacted g c =
