@@ -1,16 +1,18 @@
 -- The text of pairs, and its errors.
-use Rattle.std.proofs.Common.{ℕ, List, inl, inr, length, refl}
+use Rattle.std.proofs.Common.{◌≡◌, ◌∙◌, ◌++◌, ℕ, List, ap, inl, inr, length, refl, subst}
 use Rattle.bench_net.specs.Refusal.{IsAccepted}
 use Rattle.bench_net.specs.Scan.{sources}
 use Rattle.bench_net.specs.Statement.{Statement}
 use Rattle.patterns.specs.declared.TestFault.{TestFault}
 use Rattle.patterns.specs.declared.TestFault.TheVariants as test_fault
+use Rattle.patterns.specs.Making.{test_text}
 use Rattle.patterns.specs.Tests.{TestList, HasTests}
+use Rattle.test_columns.specs.Columns.{columns_line}
 use Rattle.job_loading.specs.declared.fault.SimFault.{SimFault}
 use Rattle.job_loading.specs.declared.fault.SimFault.TheVariants as fault
 use Rattle.job_loading.specs.Jobs.{IsInputFault}
-use Rattle.pairs.specs.Pairs.{IsPairingFault}
-use Rattle.analysis_reports.specs.Pairs.{IsPairsFault}
+use Rattle.pairs.specs.Pairs.{AreLaunchPairs, IsPairingFault}
+use Rattle.analysis_reports.specs.Pairs.{ArePairsOf, IsPairsFault}
 
 -- an error of the files is an error of the pairs
 pub pairs_input_fault : (bench text : List ℕ) (f : SimFault) → IsInputFault bench text f
@@ -35,3 +37,20 @@ pairing_fault bench text c tests accepted has test_fault.TooMany h =
 pairing_fault bench text c tests accepted has (test_fault.BadByte line) h = absurd h
 pairing_fault bench text c tests accepted has (test_fault.BadWidth line) h = absurd h
 pairing_fault bench text c tests accepted has test_fault.Memory h = (c, accepted, inl refl)
+
+-- the text that was made is the test file of the pairs, and is read as them
+pub pairs_made : (bench text bytes line : List ℕ) (c : List Statement) (tests pairs : TestList)
+    → IsAccepted bench c → HasTests text (length (sources c)) tests
+    → AreLaunchPairs c tests.tests pairs.tests → pairs.width ≡ length (sources c)
+    → line ≡ columns_line (sources c) → bytes ≡ line ++ test_text pairs.tests
+    → HasTests bytes pairs.width pairs → ArePairsOf bench text bytes
+pairs_made bench text bytes line c tests pairs accepted has launched width named joined read = (
+  c,
+  tests,
+  pairs,
+  accepted,
+  has,
+  launched,
+  joined ∙ ap (λ l. l ++ test_text pairs.tests) named,
+  subst (λ n. HasTests bytes n pairs) width read,
+)

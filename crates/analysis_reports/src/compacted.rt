@@ -64,7 +64,7 @@ pub struct KeptCount {
 ///
 /// # Examples
 ///
-/// `z = AND(a, b)` with the tests `00`, `01`, `10` and `11` gives, as rows in the order of the list,
+/// `z = AND(a, b)` with the tests `00`, `01`, `10` and `11` gives, in the order of the list,
 ///
 /// ```text
 /// # columns: a b
