@@ -1,8 +1,5 @@
-//! The check of a case, and the job of two files, for all tests of this crate.
+//! The check of a case, for all tests of this crate.
 
-use block_sim::Job;
-use fault_model::Model;
-use job_loading::SimFault;
 use std::alloc::{AllocError, Global};
 use std::fmt::Display;
 use std::process::Abort;
@@ -27,16 +24,4 @@ pub(crate) fn is_said<F: Display>(
 ) -> Result<bool, AllocError> {
     let said = format!(in alloc; "{fault}")?;
     Ok(said.as_str() == words)
-}
-
-/// Returns the job of a bench file and a test file under a model.
-///
-/// The tests make their jobs by this call, so that its contract is used only once.
-pub(crate) fn job_of(
-    alloc: Global,
-    model: Model,
-    bench: &[u8],
-    tests: &[u8],
-) -> Result<Job, SimFault> {
-    job_loading::job_of(alloc, model, bench, tests)
 }

@@ -1,7 +1,5 @@
-//! The fault ledger: cases of calls and replies, of seats that look and meet, and runs of workers
-//! in threads.
+//! The fault ledger: seats that never met, a ledger without a piece, and workers in threads.
 
-mod both_ledgers;
 mod limits;
 mod seats;
 mod staffed;

@@ -1,12 +1,8 @@
-//! Runs by workers: verdicts that were worked out by hand, in any order of moves and in threads.
+//! Runs by workers in threads: verdicts that were worked out by hand, and gates that hold workers
+//! until others have come.
 
-pub(crate) mod fixtures;
-mod gated;
+mod fixtures;
 mod gates;
-mod listed;
-mod parts;
-mod schedules;
-mod stretches;
 mod threads;
 mod watched;
 mod windows;

@@ -1,7 +1,7 @@
-//! Tests made from words and from bits, their errors, and the files that are written.
+//! Tests made from words and from bits, and their errors.
 
 use crate::checks::check_ok;
-use patterns::{MAX_TESTS, PushFault, TestFault, Tests, WordsFault, read_tests, write_tests};
+use patterns::{MAX_TESTS, PushFault, Tests, WordsFault, write_tests};
 use std::alloc::{AllocError, Global};
 
 /// Words, with the number of sources and the number of tests, and the test file.
@@ -13,34 +13,13 @@ struct Case {
     text: &'static str,
 }
 
-static CASES: [Case; 5] = [
-    Case {
-        name: "no_tests",
-        width: 3,
-        count: 0,
-        words: &[],
-        text: "",
-    },
+static CASES: [Case; 2] = [
     Case {
         name: "three_tests_of_two_sources",
         width: 2,
         count: 3,
         words: &[0b101, 0b110],
         text: "10\n01\n11\n",
-    },
-    Case {
-        name: "a_source_of_ones",
-        width: 1,
-        count: 2,
-        words: &[0b11],
-        text: "1\n1\n",
-    },
-    Case {
-        name: "five_sources_of_one_test",
-        width: 5,
-        count: 1,
-        words: &[0, 1, 0, 1, 1],
-        text: "01011\n",
     },
     // The last two of 65 tests are the first ones with a 1.
     Case {
@@ -81,25 +60,11 @@ fn is_made(alloc: Global, case: &Case) -> Result<bool, WordsFault> {
     Ok(are_written(alloc, &tests, case.text)?)
 }
 
-/// Returns whether the file of a case is read as its number of tests.
-fn is_read(alloc: Global, case: &Case) -> Result<bool, TestFault> {
-    if case.width < 1 {
-        return Ok(false);
-    }
-    let tests = read_tests(alloc, case.text.as_bytes(), case.width)?;
-    Ok(tests.count() == case.count)
-}
-
 #[test]
 fn tests_of_words(rt: HostRuntime) {
     for case in &CASES {
         check_ok(&rt, is_made(rt.alloc(), case), case.name);
-        check_ok(&rt, is_read(rt.alloc(), case), case.name);
     }
-}
-
-#[test]
-fn refused_words(rt: HostRuntime) {
     for (width, count, words, fault) in &REFUSED {
         let refused = Tests::from_words(rt.alloc(), *width, *count, words).err();
         assert!(rt; refused == Some(*fault));
@@ -133,25 +98,8 @@ fn is_full(alloc: Global) -> Result<bool, WordsFault> {
     Ok(refused == Ok(Some(PushFault::TooMany)) && tests.count() == MAX_TESTS)
 }
 
-/// Returns whether the second of three tests is written after other bytes.
-fn is_written_behind(alloc: Global, tests: &Tests) -> Result<bool, AllocError> {
-    if tests.count() != 3 {
-        return Ok(false);
-    }
-    let mut text = Vec::from_slice(alloc, b"# kept\n")?;
-    tests.push_row(1, &mut text)?;
-    Ok(text.as_slice() == b"# kept\n01\n".as_slice())
-}
-
-/// Returns whether the second of the tests `10`, `01` and `11` is written so.
-fn is_row_written(alloc: Global) -> Result<bool, WordsFault> {
-    let tests = Tests::from_words(alloc, 2, 3, &[0b101, 0b110])?;
-    Ok(is_written_behind(alloc, &tests)?)
-}
-
 #[test]
 fn tests_of_bits(rt: HostRuntime) {
     check_ok(&rt, are_bits(rt.alloc()), "tests_of_bits");
     check_ok(&rt, is_full(rt.alloc()), "a_test_past_the_limit");
-    check_ok(&rt, is_row_written(rt.alloc()), "a_row_of_a_test");
 }

@@ -1,33 +1,9 @@
-//! The limits of a ledger, and the words of its errors.
+//! A ledger of the most classes, without a piece.
 
 use crate::checks::check_ok;
 use crate::ledger::staffed::Staffed;
-use fault_ledger::{
-    Call, Claim, Finish, Ledger, LedgerFault, Refusal, Reply, Shape, SharedLedger, Status, replay,
-};
+use fault_ledger::{Call, Claim, Finish, LedgerFault, Refusal, Reply, Shape, Status, replay};
 use std::alloc::Global;
-
-/// Numbers of classes, tests and workers, and the reason why there is no ledger of them.
-static SHAPES: [(u32, u32, u32, Option<LedgerFault>); 9] = [
-    (16_384, 65_536, 1, None),
-    (65_537, 4_096, 1, None),
-    (16_385, 65_536, 1, Some(LedgerFault::TooManyPieces)),
-    (16_385, 65_536, 0, Some(LedgerFault::NoWorkers)),
-    (16_385, 65_536, 65, Some(LedgerFault::TooManyWorkers)),
-    (1, 1, 0, Some(LedgerFault::NoWorkers)),
-    (1, 1, 64, None),
-    (1, 1, 65, Some(LedgerFault::TooManyWorkers)),
-    (u32::MAX, u32::MAX, 1, Some(LedgerFault::TooManyPieces)),
-];
-
-#[test]
-fn limits_of_a_shape(rt: HostRuntime) {
-    for (classes, tests, workers, fault) in &SHAPES {
-        let owned = Ledger::new(rt.alloc(), *classes, *tests, *workers).err();
-        let shared = SharedLedger::new(rt.alloc(), *classes, *tests, *workers).err();
-        assert!(rt; owned == *fault && shared == *fault);
-    }
-}
 
 /// The most classes that a shape can have, and no tests: there is no piece.
 const NO_PIECES: Shape = Shape {
@@ -51,7 +27,7 @@ static NO_PIECES_REPLIES: [(Call, Reply); 4] = [
 fn is_replied(alloc: Global, call: Call, reply: Reply) -> Result<bool, LedgerFault> {
     let (_ledger, replies) = replay(alloc, NO_PIECES, &[call])?;
     let mut staffed = Staffed::new(alloc, NO_PIECES)?;
-    Ok(replies.as_slice() == [reply].as_slice() && staffed.reply_to(call) == reply)
+    Ok(replies.as_slice() == [reply].as_slice() && staffed.reply_with(0, call) == reply)
 }
 
 /// Returns whether a closed ledger of that shape is finished, with nothing skipped.

@@ -1,4 +1,4 @@
-//! A shared ledger with the calls of a sequential one.
+//! A shared ledger with its seats.
 
 ghost use Rattle.std.specs.Prelude.{◌≡◌, All, IfOk};
 
@@ -29,22 +29,8 @@ impl Staffed {
         })
     }
 
-    /// Returns the reply to a call. A status comes by the seat of worker 0.
-    pub(crate) fn reply_to(&mut self, call: Call) -> Reply
-        ensures { self.new.shape ≡ self.old.shape }
-    {
-        match call {
-            Call::Claim(worker) | Call::Report(worker, _) | Call::Drop(worker) => {
-                self.reply_with(worker, call)
-            }
-            Call::Status(_) | Call::Finished => self.reply_with(0, call),
-        }
-    }
-
     /// Returns the reply to a call that is made with the seat of this worker.
-    pub(crate) fn reply_with(&mut self, worker: u32, call: Call) -> Reply
-        ensures { self.new.shape ≡ self.old.shape }
-    {
+    pub(crate) fn reply_with(&mut self, worker: u32, call: Call) -> Reply {
         let Some(seat) = self.seats.get_mut(worker as usize) else {
             return Reply::Refused(Refusal::NoSuchWorker);
         };
@@ -67,35 +53,12 @@ impl Staffed {
     }
 
     /// Returns the state of a piece by a look of this worker's seat, if there is such a piece.
-    pub(crate) fn look(&mut self, worker: u32, class: u32, block: u32) -> Option<PieceState>
-        ensures { self.new.shape ≡ self.old.shape }
-    {
+    pub(crate) fn look(&mut self, worker: u32, class: u32, block: u32) -> Option<PieceState> {
         let seat = self.seats.get_mut(worker as usize)?;
         if class >= self.shape.classes || block >= self.shape.tests.div_ceil(64) {
             return None;
         }
         Some(self.ledger.look(seat, class, block))
-    }
-
-    /// Returns the ledger after the seats of two workers, the only ones, have met.
-    pub(crate) fn where_two_met(self, alloc: Global) -> Result<Staffed, LedgerFault>
-        ensures { IfOk result (λ staffed. staffed.shape ≡ self.shape) }
-    {
-        let Staffed {
-            shape,
-            ledger,
-            mut seats,
-        } = self;
-        let (Some(mut second), Some(mut first)) = (seats.pop(), seats.pop()) else {
-            return Err(LedgerFault::NoWorkers);
-        };
-        meet(&ledger, &mut first, &mut second);
-        let seats = Vec::from_array(alloc, [first, second])?;
-        Ok(Staffed {
-            shape,
-            ledger,
-            seats,
-        })
     }
 
     pub(crate) fn close(self, alloc: Global) -> Result<Closed, LedgerFault>
@@ -111,20 +74,6 @@ impl Staffed {
         }
         ledger.close(alloc, seats)
     }
-}
-
-/// Lets two seats meet.
-fn meet(ledger: &SharedLedger, first: &mut Seat, second: &mut Seat)
-    requires { (first.old.place ≡ ledger.now) × (second.old.place ≡ ledger.now) }
-    ensures first { first.new.place ≡ ledger.now }
-    ensures second { second.new.place ≡ ledger.now }
-{
-    ledger.meet(first, second);
-}
-
-/// Returns the reply to a claim that gives this piece.
-pub(crate) fn piece(class: u32, block: u32) -> Reply {
-    Reply::Claimed(Claim::Piece { class, block })
 }
 
 fn reply_of(done: Result<(), Refusal>) -> Reply {

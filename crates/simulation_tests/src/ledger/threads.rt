@@ -1,4 +1,4 @@
-//! Runs of workers in threads of their own.
+//! Workers in threads of their own on one ledger.
 
 ghost use Rattle.std.specs.Prelude.{◌≡◌, ◌<◌, All, IfOk};
 ghost use Rattle.fault_ledger.specs.History.{block_count};
@@ -15,96 +15,60 @@ use std::sync::atomic::{AtomicU64, Ordering};
 use std::thread;
 use std::thread::Threads;
 
-/// The notes of the workers on a piece: how many times it was claimed, and how many times dropped.
-#[derive(Drop)]
-struct Note {
-    claimed: AtomicU64,
-    dropped: AtomicU64,
-}
+/// The number of workers.
+const WORKERS: u32 = 8;
 
-/// The data that the workers of a run share beside the ledger.
+/// 400 classes on 64 blocks, which are 25,600 pieces.
+const SHAPE: Shape = Shape {
+    classes: 400,
+    tests: 4_096,
+    workers: WORKERS,
+};
+
+const PIECES: u64 = 25_600;
+
+/// The counts that the workers share beside the ledger.
 #[derive(Drop)]
-struct Run {
-    blocks: u32,
-    density: u64,
-    workers: u64,
+struct Counts {
     arrived: AtomicU64,
-    notes: Vec<Note>,
+    claims: AtomicU64,
 }
 
-impl Run {
-    /// Makes a run of this many workers on these numbers of classes and blocks. Of 16 pieces about
-    /// `density` are hits.
-    fn new(
-        alloc: Global,
-        classes: u32,
-        blocks: u32,
-        workers: u32,
-        density: u64,
-    ) -> Result<Run, AllocError>
-        ensures { IfOk result (λ run. run.blocks ≡ blocks) }
-    {
-        let mut notes = Vec::new(alloc);
-        for _ in 0..u64::from(classes) * u64::from(blocks) {
-            notes.push(Note {
-                claimed: AtomicU64::new(0),
-                dropped: AtomicU64::new(0),
-            })?;
-        }
-        Ok(Run {
-            blocks,
-            density,
-            workers: u64::from(workers),
-            arrived: AtomicU64::new(0),
-            notes,
-        })
-    }
-
+impl Counts {
     /// Waits a while, until all workers are there.
     fn gather(&self) {
         self.arrived.fetch_add(1, Ordering::SeqCst);
         for _ in 0..1_000_000 {
-            if self.arrived.load(Ordering::SeqCst) >= self.workers {
+            if self.arrived.load(Ordering::SeqCst) >= u64::from(WORKERS) {
                 return;
             }
         }
     }
+}
 
-    fn note_of(&self, class: u32, block: u32) -> Option<&Note> {
-        let place = u64::from(class) * u64::from(self.blocks) + u64::from(block);
-        self.notes.get(place as usize)
-    }
-
-    fn outcome_of(&self, class: u32, block: u32) -> Outcome {
-        let number = 7 * u64::from(class) + 11 * u64::from(block);
-        if number % 16 < self.density {
-            Hit((number % 64) as u32)
-        } else {
-            Clear
-        }
+/// Returns the outcome of a piece: of 16 pieces about three are hits.
+fn outcome_of(class: u32, block: u32) -> Outcome {
+    let number = 7 * u64::from(class) + 11 * u64::from(block);
+    if number % 16 < 3 {
+        Hit((number % 64) as u32)
+    } else {
+        Clear
     }
 }
 
 /// Claims and reports until all pieces are claimed. Workers of an odd number drop if they can.
-fn work(ledger: &SharedLedger, run: &Run, mut seat: Seat) -> Seat
+fn work(ledger: &SharedLedger, counts: &Counts, mut seat: Seat) -> Seat
     requires { seat.place ≡ ledger.now }
     ensures { result.place ≡ ledger.now }
 {
-    run.gather();
-    for _ in 0..=run.notes.len() {
+    counts.gather();
+    for _ in 0..=PIECES {
         let Ok(Claim::Piece { class, block }) = ledger.claim(&mut seat) else {
             break;
         };
-        let Some(note) = run.note_of(class, block) else {
-            break;
-        };
-        note.claimed.fetch_add(1, Ordering::SeqCst);
-        if seat.worker() % 2 == 1 && ledger.drop_piece(&mut seat).is_ok() {
-            note.dropped.fetch_add(1, Ordering::SeqCst);
-        } else if ledger
-            .report(&mut seat, run.outcome_of(class, block))
-            .is_err()
-        {
+        counts.claims.fetch_add(1, Ordering::SeqCst);
+        let is_dropped = seat.worker() % 2 == 1 && ledger.drop_piece(&mut seat).is_ok();
+        if !is_dropped && ledger.report(&mut seat, outcome_of(class, block)).is_err() {
             break;
         }
     }
@@ -115,7 +79,7 @@ fn work(ledger: &SharedLedger, run: &Run, mut seat: Seat) -> Seat
 fn in_threads<R: Threads + Sync>(
     rt: &R,
     ledger: &SharedLedger,
-    run: &Run,
+    counts: &Counts,
     seats: Vec<Seat>,
 ) -> Result<Vec<Seat>, AllocError>
     requires { All (λ seat. seat.place ≡ ledger.now) seats.items }
@@ -127,25 +91,17 @@ fn in_threads<R: Threads + Sync>(
         &move |seat: Seat| -> Seat
             requires { seat.place ≡ ledger.now }
             ensures { result.place ≡ ledger.entry.now }
-        { work(ledger, run, seat) },
+        { work(ledger, counts, seat) },
     )
 }
 
-/// Returns whether the state of a piece agrees with its notes: it was claimed once, and then
-/// reported, or dropped after a hit.
-fn is_as_noted(run: &Run, class: u32, block: u32, state: PieceState, is_hit: bool) -> bool {
-    let Some(note) = run.note_of(class, block) else {
-        return false;
-    };
-    if note.claimed.load(Ordering::SeqCst) != 1 {
-        return false;
-    }
-    if note.dropped.load(Ordering::SeqCst) == 1 {
-        return state == PieceState::Skipped && is_hit;
-    }
-    match run.outcome_of(class, block) {
-        Clear => state == PieceState::Clear,
-        Hit(test) => state == PieceState::Hit(test),
+/// Returns whether the state of a piece is its outcome, or it was dropped after a hit.
+fn is_as_reported(class: u32, block: u32, state: PieceState, is_hit: bool) -> bool {
+    match (state, outcome_of(class, block)) {
+        (PieceState::Skipped, _) => is_hit,
+        (PieceState::Clear, Clear) => true,
+        (PieceState::Hit(test), Hit(want)) => test == want,
+        _ => false,
     }
 }
 
@@ -158,15 +114,15 @@ fn test_of(state: PieceState, block: u32) -> Option<u32> {
 }
 
 /// Returns whether a class of a closed ledger is settled at its first hit, and its pieces are as
-/// noted.
-fn is_settled(run: &Run, closed: &Closed, class: u32) -> bool
+/// they were reported.
+fn is_settled(closed: &Closed, blocks: u32, class: u32) -> bool
     requires class { class < closed.now.shape.classes }
-    requires blocks { block_count closed.now.shape ≡ run.now.blocks }
+    requires blocks { block_count closed.now.shape ≡ blocks }
 {
     let mut first = None;
-    for block in 0..run.blocks {
+    for block in 0..blocks {
         let state = closed.entry(class, block);
-        if !is_as_noted(run, class, block, state, first.is_some()) {
+        if !is_as_reported(class, block, state, first.is_some()) {
             return false;
         }
         first = first.or(test_of(state, block));
@@ -175,24 +131,24 @@ fn is_settled(run: &Run, closed: &Closed, class: u32) -> bool
 }
 
 /// Returns whether all classes of a closed ledger are settled so.
-fn are_settled(run: &Run, closed: &Closed, classes: u32) -> bool
+fn are_settled(closed: &Closed, classes: u32, blocks: u32) -> bool
     requires classes { closed.now.shape.classes ≡ classes }
-    requires blocks { block_count closed.now.shape ≡ run.now.blocks }
+    requires blocks { block_count closed.now.shape ≡ blocks }
 {
     for class in 0..classes {
-        if !is_settled(run, closed, class) {
+        if !is_settled(closed, blocks, class) {
             return false;
         }
     }
     closed.finished() == Finish::Finished
 }
 
-/// Returns the ledger of a shape on which all workers of a run have worked, closed.
+/// Returns the ledger of a shape on which all workers have worked, closed.
 fn closed_after<R: Threads + Sync>(
     rt: &R,
     alloc: Global,
     shape: Shape,
-    run: &Run,
+    counts: &Counts,
 ) -> Result<Closed, LedgerFault>
     ensures { IfOk result (λ closed. closed.shape ≡ shape) }
 {
@@ -201,7 +157,7 @@ fn closed_after<R: Threads + Sync>(
         ledger,
         seats,
     } = Staffed::new(alloc, shape)?;
-    let seats = in_threads(rt, &ledger, run, seats)?;
+    let seats = in_threads(rt, &ledger, counts, seats)?;
     let staffed = Staffed {
         shape,
         ledger,
@@ -210,40 +166,22 @@ fn closed_after<R: Threads + Sync>(
     staffed.close(alloc)
 }
 
-/// Returns whether workers in threads leave each class of a ledger of this shape settled at its
-/// first hit. Of 16 pieces about `density` are hits.
-fn agree<R: Threads + Sync>(
-    rt: &R,
-    alloc: Global,
-    shape: Shape,
-    density: u64,
-) -> Result<bool, LedgerFault> {
+/// Returns whether workers in threads claim each piece of a ledger of this shape once, and leave
+/// each class settled at its first hit.
+fn agree<R: Threads + Sync>(rt: &R, alloc: Global, shape: Shape) -> Result<bool, LedgerFault> {
+    let counts = Counts {
+        arrived: AtomicU64::new(0),
+        claims: AtomicU64::new(0),
+    };
+    let closed = closed_after(rt, alloc, shape, &counts)?;
     let blocks = shape.tests.div_ceil(64);
-    let run = Run::new(alloc, shape.classes, blocks, shape.workers, density)?;
-    let closed = closed_after(rt, alloc, shape, &run)?;
-    Ok(are_settled(&run, &closed, shape.classes))
+    Ok(
+        are_settled(&closed, shape.classes, blocks)
+            && counts.claims.load(Ordering::SeqCst) == PIECES,
+    )
 }
 
-/// 400 classes on 64 blocks.
-const LARGE: Shape = Shape {
-    classes: 400,
-    tests: 4_096,
-    workers: 8,
-};
-
-/// Two classes on two blocks.
-const SMALL: Shape = Shape {
-    classes: 2,
-    tests: 128,
-    workers: 4,
-};
-
-/// No piece of the small ledger is a hit, so each of the four is claimed once and then clear, and
-/// each class is settled at no test.
 #[test]
 fn many_threads_agree_with_the_outcomes(rt: HostRuntime) {
-    let large = agree(&rt, rt.alloc(), LARGE, 3);
-    check_ok(&rt, large, "many_threads_agree_with_the_outcomes");
-    let small = agree(&rt, rt.alloc(), SMALL, 0);
-    check_ok(&rt, small, "four_threads_report_four_pieces_as_clear");
+    check_ok(&rt, agree(&rt, rt.alloc(), SHAPE), "many threads");
 }

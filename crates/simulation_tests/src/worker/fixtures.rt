@@ -1,15 +1,9 @@
-//! Jobs with questions about them, and their expected verdicts.
+//! Jobs, and their expected verdicts.
 
-use crate::checks;
-use crate::checks::check;
 use block_sim::Job;
 use fault_model::Model;
 use job_loading::SimFault;
 use std::alloc::{AllocError, Global};
-use std::process::Abort;
-use std::sync::Wait;
-use std::thread::Threads;
-use std::time::Clock;
 use worked_circuits::C17_TEXT;
 use workers::Verdicts;
 
@@ -69,63 +63,21 @@ pub(crate) static C17_FIRSTS: [Option<u32>; 34] = [
 /// z/1.
 pub(crate) const BUFFER: &str = "INPUT(a)\nOUTPUT(z)\nz = BUFF(a)\n";
 
-/// One wire: its faults a/0 and a/1 are a class each.
-pub(crate) const WIRE: &str = "INPUT(a)\nOUTPUT(a)\n";
-
-/// A question about a job.
-pub(crate) trait Question {
-    /// Returns whether the job has the property.
-    fn holds<R: Threads + Wait + Clock + Sync>(&self, rt: &R, alloc: Global, job: &Job) -> bool;
-}
-
-/// A question and its job.
-pub(crate) struct Case<Q> {
-    pub(crate) name: &'static str,
-    pub(crate) job: JobText,
-    pub(crate) question: Q,
-}
-
-/// Returns whether the case holds. Only this function makes and owns the job.
-fn holds<R: Threads + Wait + Clock + Sync, Q: Question>(
-    rt: &R,
-    alloc: Global,
-    case: &Case<Q>,
-) -> bool {
-    match job_of(alloc, &case.job) {
-        Ok(job) => case.question.holds(rt, alloc, &job),
-        Err(_) => false,
-    }
-}
-
-/// Stops the test at the first case that doesn't hold.
-pub(crate) fn check_cases<R: AllocGlobal + Abort + Threads + Wait + Clock + Sync, Q: Question>(
-    rt: &R,
-    cases: &[Case<Q>],
-) {
-    for case in cases {
-        check(rt, holds(rt, rt.alloc(), case), case.name);
-    }
-}
-
 /// Returns the job of these texts.
+///
+/// The tests make their jobs by this call, so that the contract of `job_of` is used only once.
 pub(crate) fn job_of(alloc: Global, job: &JobText) -> Result<Job, SimFault> {
     let tests = rows_text(alloc, job.rows)?;
-    checks::job_of(alloc, job.model, job.bench.as_bytes(), tests.as_slice())
+    job_loading::job_of(alloc, job.model, job.bench.as_bytes(), tests.as_slice())
 }
 
 /// Returns the test file of these rows, each with its number of times.
 pub(crate) fn rows_text(alloc: Global, rows: &[(&str, u32)]) -> Result<Vec<u8>, AllocError> {
     let mut text = Vec::new(alloc);
-    push_all_rows(&mut text, rows)?;
-    Ok(text)
-}
-
-/// Adds rows of tests, each as many times as given.
-fn push_all_rows(text: &mut Vec<u8>, rows: &[(&str, u32)]) -> Result<(), AllocError> {
     for (row, count) in rows {
-        push_rows(text, row.as_bytes(), *count)?;
+        push_rows(&mut text, row.as_bytes(), *count)?;
     }
-    Ok(())
+    Ok(text)
 }
 
 /// Adds a row of a test a number of times.

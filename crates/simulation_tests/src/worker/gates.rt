@@ -11,27 +11,12 @@ use workers::Gate;
 /// The number of turns of 1 ms for which a gate holds a piece.
 const TURNS: u32 = 10_000;
 
-/// A gate that lets nothing pass.
-#[derive(Clone, Copy)]
-pub(crate) struct Shut;
-
-impl Gate for Shut {
-    ghost passing = { λ _. ⊥ };
-
-    ghost stops = { λ _. record { may = λ _ _ _. Unit {0}; must = λ _ _ _. Unit {0} } };
-
-    fn pass(&self, _worker: u32, _class: u32, _block: u32) -> bool {
-        false
-    }
-}
-
-/// The pieces and workers that a gate stops or holds. It gives up after 10,000 turns of 1 ms.
+/// The pieces and workers that a gate stops or holds. A gate that holds a worker gives up after
+/// 10,000 turns of 1 ms.
 #[derive(Clone, Copy)]
 pub(crate) enum Plan {
-    /// It stops the workers of two pieces, each with its class and block.
-    Pieces((u32, u32), (u32, u32)),
-    /// It stops this worker.
-    Worker(u32),
+    /// It stops the worker of the piece of this class and block.
+    Stop(u32, u32),
     /// It only counts the pieces.
     Count,
     /// It holds the worker of the first piece until the second piece has arrived.
@@ -119,8 +104,7 @@ impl<C: Clock> Gate for Planned<'_, C> {
     fn pass(&self, worker: u32, class: u32, block: u32) -> bool {
         let piece = (class, block);
         match self.plan {
-            Plan::Pieces(first, second) => piece != first && piece != second,
-            Plan::Worker(stopped) => worker != stopped,
+            Plan::Stop(stopped, at) => piece != (stopped, at),
             Plan::Count => {
                 self.first.fetch_add(1, Ordering::SeqCst);
                 true

@@ -8,7 +8,7 @@ use crate::checks::check_ok;
 use crate::worker::fixtures::{BUFFER, JobText, has_firsts, job_of, rows_text};
 use block_sim::Job;
 use fault_model::Model;
-use job_loading::{RunJob, SimFault};
+use job_loading::SimFault;
 use patterns::{Tests, read_tests};
 use region_runs::{PartVerdict, run_in_windows, run_part_in_windows};
 use std::alloc::Global;
@@ -78,28 +78,9 @@ fn is_right_by<R: Threads + Wait>(rt: &R, alloc: Global, blocks: u32) -> Result<
     Ok(run_so(rt, alloc, &mut job, &tests, blocks)?)
 }
 
-/// Returns whether a job whose tests stand apart has these first tests: all classes, and one part
-/// of one.
-fn run_apart<R: Threads + Wait>(rt: &R, alloc: Global, run: &mut RunJob) -> Result<bool, RunFault> {
-    let verdicts = run.run(rt, alloc, 1, 2, &OpenGate)?;
-    if !has_firsts(&verdicts, &FIRSTS) {
-        return Ok(false);
-    }
-    let part = run.run_part(rt, alloc, 0, 1, 2, &OpenGate)?;
-    Ok(are_firsts(part.as_slice()) && run.tests().count() == 129)
-}
-
-/// Returns whether a job whose tests stand apart runs on these.
-fn is_right_apart<R: Threads + Wait>(rt: &R, alloc: Global) -> Result<bool, SimFault> {
-    let job = job_of(alloc, &BEFORE)?;
-    let tests = edges(alloc, &job)?;
-    Ok(run_apart(rt, alloc, &mut RunJob::apart(job, tests))?)
-}
-
 #[test]
 fn windows_look_back_at_the_test_before(rt: HostRuntime) {
-    for blocks in 1..4 {
+    for blocks in 1..3 {
         check_ok(&rt, is_right_by(&rt, rt.alloc(), blocks), "in windows");
     }
-    check_ok(&rt, is_right_apart(&rt, rt.alloc()), "tests apart");
 }

@@ -1,6 +1,0 @@
-use Rattle.block_sim.specs.Parts.{HasRoom}
-use Rattle.simulation_tests.proofs.simulator.tests.outcomes_by.Given as goal
-
--- the workspace fits the job
-abbrev pub invariant-loop-class : goal.invariant-loop-class
-invariant-loop-class l = HasRoom l.workspace l.job
