@@ -4,7 +4,6 @@ mod ballast;
 mod calls;
 pub(crate) mod commands;
 mod full;
-mod merges;
 mod parts;
 mod reads;
 mod runs;

@@ -4,12 +4,9 @@ use crate::checks::check;
 use crate::memory::commands::Files;
 use crate::screen::Screen;
 use command_line::run_words;
-use report::{Plain, ReportFault, SimFault, simulate_text};
-use std::alloc::{AllocError, Global};
-use std::io::{self, Write};
+use std::alloc::AllocError;
 use std::sync::Wait;
 use std::thread::Threads;
-use worked_circuits::C17;
 
 /// The output of a run of C17.
 const COVERAGE: &str = "14 of 34 (41.17%)\n";
@@ -98,80 +95,5 @@ fn outputs_take_a_beginning_or_all(rt: HostRuntime) {
     for (line, written) in &WRITTEN {
         check(&rt, writes_beginnings(&rt, line, written) == Ok(true), line);
         check(&rt, writes_slowly(&rt, line, written) == Ok(true), line);
-    }
-}
-
-/// A writer that takes at most `step` bytes a call, and fails past `limit` bytes.
-#[derive(Drop)]
-struct Slow {
-    bytes: Vec<u8>,
-    limit: usize,
-    step: usize,
-}
-
-impl Write for Slow {
-    fn write(&mut self, buf: &[u8]) -> io::Result<usize> {
-        let taken = buf
-            .len()
-            .min(self.step)
-            .min(self.limit.saturating_sub(self.bytes.len()));
-        if taken == 0 && self.step > 0 {
-            return Err(io::ErrorKind::WriteZero.into());
-        }
-        self.bytes.extend_from_slice(&buf[..taken])?;
-        Ok(taken)
-    }
-
-    fn flush(&mut self) -> io::Result<()> {
-        Ok(())
-    }
-}
-
-/// Writes the report of one test of C17 to a slow writer.
-fn simulate_slowly<R: AllocGlobal + Threads + Wait>(
-    rt: &R,
-    out: &mut Plain<Slow>,
-) -> Result<(), SimFault> {
-    simulate_text(rt, rt.alloc(), C17, b"11111\n", 1, false, out)
-}
-
-/// Returns a slow writer with no bytes, as an output.
-fn slow_output(alloc: Global, limit: usize, step: usize) -> Plain<Slow> {
-    let bytes = Vec::new(alloc);
-    Plain::new(Slow { bytes, limit, step })
-}
-
-/// Limits of slow writers, the bytes that they take a call, and the bytes of the report that they
-/// take.
-static TAKEN: [(usize, usize, usize); 7] = [
-    (18, 1, 18),
-    (18, 7, 18),
-    (100, 100, 18),
-    (5, 100, 5),
-    (5, 2, 5),
-    (0, 1, 0),
-    (18, 0, 0),
-];
-
-/// Returns whether a slow writer takes this many bytes of the report, and the call returns whether
-/// that was all.
-fn is_taken<R: AllocGlobal + Threads + Wait>(
-    rt: &R,
-    limit: usize,
-    step: usize,
-    taken: usize,
-) -> bool {
-    let mut out = slow_output(rt.alloc(), limit, step);
-    let is_told = match simulate_slowly(rt, &mut out) {
-        Ok(()) => taken == 18,
-        Err(fault) => taken < 18 && fault == SimFault::Report(ReportFault::Write),
-    };
-    is_told && Some(out.into_writer().bytes.as_slice()) == COVERAGE.as_bytes().get(..taken)
-}
-
-#[test]
-fn plain_output_tells_short_and_failed_writes(rt: HostRuntime) {
-    for (limit, step, taken) in &TAKEN {
-        assert!(rt; is_taken(&rt, *limit, *step, *taken));
     }
 }

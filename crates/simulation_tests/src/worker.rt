@@ -3,6 +3,7 @@
 
 mod fixtures;
 mod gates;
+mod schedules;
 mod threads;
 mod watched;
 mod windows;

@@ -1,6 +1,5 @@
 //! Command lines that run out of memory: they report it, and write nothing else.
 
-use crate::memory::merges::{FIRST, REPORT, SECOND};
 use crate::memory::sweep::{Outcome, Trial, Way, answered, refused, try_call};
 use crate::memory::texts::Screen;
 use crate::memory::written::LISTING;
@@ -13,6 +12,24 @@ use worked_circuits::C17;
 
 /// A test file for C17, with one test.
 const TEST: &[u8] = b"11111\n";
+
+/// The part files of two faults.
+const FIRST: &[u8] = b"\
+    part 1 of 2 model stuck rule region bench b tests t\n\
+    stem a sa0 7\n\
+    stem a sa1 -\n\
+    part 1 of 2: 1 of 1\n\
+    ";
+
+const SECOND: &[u8] = b"\
+    part 2 of 2 model stuck rule region bench b tests t\n\
+    stem a sa0 -\n\
+    stem a sa1 none\n\
+    part 2 of 2: 0 of 1\n\
+    ";
+
+/// The report of both.
+const REPORT: &[u8] = b"stem a sa0 7\nstem a sa1 none\n1 of 2 (50.00%)\n";
 
 /// The files `bench`, which is C17, `tests`, which has one test, and the part files `first` and
 /// `second`, each read into new memory.

@@ -54,10 +54,18 @@ fn are_written(alloc: Global, tests: &Tests, text: &str) -> Result<bool, AllocEr
     Ok(written.as_slice() == text.as_bytes())
 }
 
+/// Returns whether tests have this word at the last source of their last block.
+fn has_last_word(tests: &Tests, word: Option<&u64>) -> bool {
+    if tests.blocks() == 0 || tests.width() == 0 {
+        return false;
+    }
+    word == Some(&tests.word(tests.blocks() - 1, tests.width() - 1))
+}
+
 /// Returns whether the words of a case make tests that are written as its file.
 fn is_made(alloc: Global, case: &Case) -> Result<bool, WordsFault> {
     let tests = Tests::from_words(alloc, case.width, case.count, case.words)?;
-    Ok(are_written(alloc, &tests, case.text)?)
+    Ok(has_last_word(&tests, case.words.last()) && are_written(alloc, &tests, case.text)?)
 }
 
 #[test]

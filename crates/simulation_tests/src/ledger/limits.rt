@@ -1,9 +1,26 @@
-//! A ledger of the most classes, without a piece.
+//! Shapes that no ledger has, and a ledger of the most classes, without a piece.
 
 use crate::checks::check_ok;
 use crate::ledger::staffed::Staffed;
-use fault_ledger::{Call, Claim, Finish, LedgerFault, Refusal, Reply, Shape, Status, replay};
+use fault_ledger::{
+    Call, Claim, Finish, Ledger, LedgerFault, Refusal, Reply, Shape, SharedLedger, Status, replay,
+};
 use std::alloc::Global;
+
+/// Numbers of classes, tests and workers, and the reason why there is no ledger of them.
+static SHAPES: [(u32, u32, u32, LedgerFault); 2] = [
+    (16_385, 65_536, 65, LedgerFault::TooManyWorkers),
+    (u32::MAX, u32::MAX, 1, LedgerFault::TooManyPieces),
+];
+
+#[test]
+fn limits_of_a_shape(rt: HostRuntime) {
+    for (classes, tests, workers, fault) in &SHAPES {
+        let owned = Ledger::new(rt.alloc(), *classes, *tests, *workers).err();
+        let shared = SharedLedger::new(rt.alloc(), *classes, *tests, *workers).err();
+        assert!(rt; owned == Some(*fault) && shared == Some(*fault));
+    }
+}
 
 /// The most classes that a shape can have, and no tests: there is no piece.
 const NO_PIECES: Shape = Shape {

@@ -14,7 +14,8 @@ use std::process::Abort;
 use std::sync::Wait;
 use std::thread::Threads;
 use std::time::Clock;
-use workers::{RunFault, run};
+use worked_circuits::C17_TEXT;
+use workers::{OpenGate, RunFault, run};
 
 /// Returns whether a run of a job has these verdicts, by workers in threads with a gate of this
 /// plan.
@@ -93,17 +94,25 @@ fn are_classes(classes: &[u32], count: u32) -> bool
     classes.iter().all(|class| *class < count)
 }
 
-/// Returns whether a runner of lists finds the first tests of two classes of C17, and then those of
-/// all faults. No test detects class 0, the class of G1 sa1.
+/// Returns whether a runner of lists finds the first tests of three classes of C17, and then the
+/// verdicts. No test detects class 0, the class of G1 sa1. The second pieces of the eight classes
+/// that ones detect are skipped.
 fn runs_a_list(alloc: Global, job: &Job) -> Result<bool, AllocError> {
-    let classes = [21, 0];
+    let classes = [21, 0, 1];
     if !are_classes(&classes, job.classes().count()) {
         return Ok(false);
     }
     let mut runner = ListRunner::new(alloc, job)?;
     let firsts = runner.first_tests(alloc, job, &classes)?;
     let verdicts = runner.verdicts(alloc, job)?;
-    Ok(firsts.as_slice() == [Some(0), None].as_slice() && has_firsts(&verdicts, &C17_FIRSTS))
+    let is_right = firsts.as_slice() == [Some(0), None, Some(64)].as_slice();
+    Ok(is_right && verdicts.detected() == 19 && verdicts.skipped() == 8)
+}
+
+/// Returns whether a run of one worker skips a single piece of a job.
+fn skips_one<R: Threads + Wait>(rt: &R, alloc: Global, job: &Job) -> Result<bool, RunFault> {
+    let verdicts = run(rt, alloc, job, 1, &OpenGate)?;
+    Ok(verdicts.skipped() == 1)
 }
 
 /// The first tests of a job's faults.
@@ -120,6 +129,7 @@ enum Running {
     AreLeftOpen,
     NamesTheLast,
     RunsAList,
+    SkipsOne,
 }
 
 /// A question and its job.
@@ -146,7 +156,7 @@ const TWO_BLOCKS: JobText = JobText {
 /// The first tests of the faults of that buffer.
 const BUFFER_FIRSTS: [Option<u32>; 4] = [Some(64), Some(0), Some(64), Some(0)];
 
-static CASES: [Case; 11] = [
+static CASES: [Case; 12] = [
     Case {
         name: "two_workers_hold_a_piece_at_once",
         job: ONE_ZERO,
@@ -217,10 +227,29 @@ static CASES: [Case; 11] = [
         job: C17,
         question: Running::NamesTheLast,
     },
+    // C17 with 64 tests of ones, which are block 0, and one of zeros, which is test 64. Under zeros
+    // G10, G11, G16 and G19 are 1, and the outputs are 0. So zeros detect the classes of G2 sa1, G7
+    // sa1 and G22 sa1, which ones don't: classes 1, 7 and 19.
     Case {
         name: "a_list_and_then_all_faults",
-        job: C17,
+        job: JobText {
+            model: Model::StuckAt,
+            bench: C17_TEXT,
+            rows: &[("11111", 64), ("00000", 1)],
+        },
         question: Running::RunsAList,
+    },
+    // The worker claims class 0, of `z` stuck at 0, and class 1 on block 0 and then both on block
+    // 1. Each test is 1, so it reports a hit of class 0 and class 1 as clear. On block 1 it drops
+    // class 0, after that hit, and reports class 1 as clear: one piece of four is skipped.
+    Case {
+        name: "a_piece_behind_a_hit_is_skipped",
+        job: JobText {
+            model: Model::StuckAt,
+            bench: BUFFER,
+            rows: &[("1", 128)],
+        },
+        question: Running::SkipsOne,
     },
 ];
 
@@ -242,6 +271,7 @@ fn is_so<R: Threads + Wait + Clock + Sync>(
         Running::AreLeftOpen => are_left_open(rt, alloc, job),
         Running::NamesTheLast => names_the_last(rt, alloc, job),
         Running::RunsAList => runs_a_list(alloc, job) == Ok(true),
+        Running::SkipsOne => skips_one(rt, alloc, job) == Ok(true),
     }
 }
 
