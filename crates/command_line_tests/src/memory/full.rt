@@ -4,8 +4,10 @@ ghost use Rattle.std.specs.Prelude.{◌≡◌};
 ghost use Rattle.block_sim.specs.Parts.{HasRoom};
 ghost use Rattle.workers.specs.Settling.{IsShapeOf};
 
+use crate::checks::check;
 use crate::memory::ballast::Ballast;
 use crate::memory::parts::c17_job;
+use crate::memory::reads::is_sum_the_same;
 use crate::memory::runs::is_right;
 use crate::memory::texts::Screen;
 use crate::memory::written::{LISTING, REPORT};
@@ -13,6 +15,7 @@ use block_sim::{Job, Workspace, first_hit, simulate};
 use fault_ledger::{Claim, Finish, Ledger, LedgerFault, Seat, SharedLedger};
 use report::{RunFault, SimFault, write_listing, write_report};
 use std::alloc::{AllocError, Global};
+use std::process::Abort;
 use std::sync::Wait;
 use std::thread::Threads;
 use workers::{End, OpenGate, Verdicts, run, run_schedule, work};
@@ -94,24 +97,6 @@ fn simulates_all(alloc: Global, job: &Job) -> Result<bool, LedgerFault> {
     Ok(simulates_without_memory(alloc, job, &mut ledger)?)
 }
 
-/// Returns whether the pieces of C17 under its 65 tests are simulated, a worker works on them, and
-/// both texts are written.
-fn goes_on(alloc: Global) -> Result<(bool, bool, bool), SimFault> {
-    let job = c17_job(alloc)?;
-    let is_worked = works(alloc, &job) == Ok(true);
-    let is_written = writes_both(alloc, &job) == Ok(true);
-    Ok((
-        simulates_all(alloc, &job) == Ok(true),
-        is_worked,
-        is_written,
-    ))
-}
-
-#[test]
-fn pieces_are_simulated_and_reports_written(rt: HostRuntime) {
-    assert!(rt; goes_on(rt.alloc()) == Ok((true, true, true)));
-}
-
 /// Lets the worker of a seat work with no memory left. Returns whether all went well.
 fn works_without_memory(
     alloc: Global,
@@ -176,13 +161,51 @@ fn is_run<R: Threads + Wait>(rt: &R, alloc: Global, job: &Job) -> bool {
     }
 }
 
-/// Returns whether both hold for the job of C17.
-fn starts<R: Threads + Wait>(rt: &R, alloc: Global) -> Result<bool, SimFault> {
+/// A call or more on the job of C17 under its 65 tests.
+#[derive(Clone, Copy)]
+enum Calls {
+    Simulate,
+    Work,
+    Write,
+    Read,
+    StartThreads,
+}
+
+/// Returns whether calls on a job go on without memory, or say that threads have no room.
+fn go_on<R: Threads + Wait>(rt: &R, alloc: Global, job: &Job, calls: Calls) -> bool {
+    match calls {
+        Calls::Simulate => simulates_all(alloc, job) == Ok(true),
+        Calls::Work => works(alloc, job) == Ok(true),
+        Calls::Write => writes_both(alloc, job) == Ok(true),
+        Calls::Read => is_sum_the_same(alloc, job) == Ok(true),
+        Calls::StartThreads => is_refused(rt, alloc, job) == Ok(true) && is_run(rt, alloc, job),
+    }
+}
+
+/// The calls, each with its name.
+static CALLS: [(Calls, &str); 5] = [
+    (Calls::Simulate, "pieces are simulated"),
+    (Calls::Work, "a worker works"),
+    (Calls::Write, "reports are written"),
+    (Calls::Read, "calls that read"),
+    (Calls::StartThreads, "starts of threads"),
+];
+
+/// Stops the test at the first calls that don't go on.
+fn check_calls<R: Threads + Wait + Abort>(rt: &R, alloc: Global, job: &Job) {
+    for (calls, name) in &CALLS {
+        check(rt, go_on(rt, alloc, job, *calls), name);
+    }
+}
+
+/// Checks all calls on the job of C17. Only this function owns it.
+fn check_c17<R: Threads + Wait + Abort>(rt: &R, alloc: Global) -> Result<(), SimFault> {
     let job = c17_job(alloc)?;
-    Ok(is_refused(rt, alloc, &job)? && is_run(rt, alloc, &job))
+    check_calls(rt, alloc, &job);
+    Ok(())
 }
 
 #[test]
-fn starts_of_threads(rt: HostRuntime) {
-    assert!(rt; starts(&rt, rt.alloc()) == Ok(true));
+fn calls_go_on_without_memory(rt: HostRuntime) {
+    assert!(rt; check_c17(&rt, rt.alloc()).is_ok());
 }

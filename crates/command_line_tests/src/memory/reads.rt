@@ -7,7 +7,6 @@ ghost use Rattle.fault_ledger.specs.Face.{shape_of};
 
 use crate::checks::check_ok;
 use crate::memory::ballast::Ballast;
-use crate::memory::parts::c17_job;
 use bench_net::Circuit;
 use block_sim::Job;
 use fault_ledger::{
@@ -15,7 +14,7 @@ use fault_ledger::{
 };
 use fault_model::{Faults, Line, Model};
 use patterns::{Outcome, Tests};
-use report::{RunFault, SimFault};
+use report::RunFault;
 use std::alloc::{AllocError, Global};
 use workers::{Verdicts, run_schedule};
 
@@ -150,16 +149,10 @@ fn sum_without_memory(alloc: Global, job: &Job, verdicts: &Verdicts) -> Result<S
 
 /// Returns whether the calls on a job and its verdicts have the same results with and without
 /// memory.
-fn is_sum_the_same(alloc: Global, job: &Job) -> Result<bool, RunFault> {
+pub(crate) fn is_sum_the_same(alloc: Global, job: &Job) -> Result<bool, RunFault> {
     let verdicts = run_schedule(alloc, job, 2, &[])?;
     let without = sum_without_memory(alloc, job, &verdicts)?;
     Ok(without == sum_of(job, &verdicts))
-}
-
-/// Returns whether this holds for the job of C17.
-fn are_read(alloc: Global) -> Result<bool, SimFault> {
-    let job = c17_job(alloc)?;
-    Ok(is_sum_the_same(alloc, &job)?)
 }
 
 /// Returns whether two seats of a ledger of one class and two blocks have the right results. The
@@ -280,8 +273,7 @@ fn closed_ledger_answers(alloc: Global) -> Result<bool, LedgerFault> {
 }
 
 #[test]
-fn calls_that_read(rt: HostRuntime) {
-    check_ok(&rt, are_read(rt.alloc()), "calls that read");
+fn ledgers_go_on_without_memory(rt: HostRuntime) {
     check_ok(
         &rt,
         new_seats_answer(rt.alloc()),
