@@ -1,5 +1,5 @@
-//! Runs by workers: verdicts that were worked out by hand, numbers of skipped pieces, and gates that
-//! hold workers until others have come.
+//! Runs by workers: verdicts that were worked out by hand, numbers of skipped pieces, and gates
+//! that hold workers until others have come.
 
 mod fixtures;
 mod gates;

@@ -5,8 +5,8 @@ use bench_net::{BenchFault, Circuit, Sink, read_bench};
 use std::alloc::Global;
 
 /// A bench file, and the results of its circuit's calls: the signals by level, each signal's name
-/// and level, and the sinks, each with its signal. All numbers count from 0. A sink that is a pin is
-/// the number of the gate's signal and the place among its pins.
+/// and level, and the sinks, each with its signal. All numbers count from 0. A sink that is a pin
+/// is the number of the gate's signal and the place among its pins.
 struct Case {
     name: &'static str,
     text: &'static [u8],

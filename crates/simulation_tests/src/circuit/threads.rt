@@ -13,8 +13,8 @@ use test_threads::{read_tests_in_pieces, read_tests_in_threads};
 /// The number of sources.
 const WIDTH: u32 = 47;
 
-/// The number of tests, in a file of 3 megabytes.
-const ROWS: u32 = 65_536;
+/// The number of tests, in a file of 3 megabytes. The last block is short.
+const ROWS: u32 = 65_500;
 
 /// The number of gates, in a bench file of more than 64 kilobytes.
 const GATES: u32 = 3_000;
@@ -91,7 +91,8 @@ fn word_of(job: &Job, block: u32, signal: u32) -> Option<u64> {
     None
 }
 
-/// Returns whether a gate has the NAND of its sources' words on a block.
+/// Returns whether a gate has the NAND of its sources' words on a block. Past the last test, these
+/// have zeros.
 fn is_nand(job: &Job, block: u32, gate: u32) -> bool {
     let one = word_of(job, block, gate % WIDTH);
     let other = word_of(job, block, gate % 46);
@@ -111,14 +112,19 @@ fn are_nands(job: &Job, block: u32) -> bool {
     true
 }
 
-/// Returns whether a job has the tests of the file, and the words of its gates on 16 blocks.
+/// Returns whether the word of source 0 on the last block ends after its 28 tests.
+fn ends_in_zeros(job: &Job) -> bool {
+    word_of(job, 1_023, 0).is_some_and(|word| word >> 28 == 0)
+}
+
+/// Returns whether a job has the tests of the file, and the words of its gates on every 64th block.
 fn is_right(job: &Job) -> bool {
     for part in 0..16 {
-        if !are_nands(job, 64 * part + 63 - part) {
+        if !are_nands(job, 64 * part + 63) {
             return false;
         }
     }
-    have_bits(job.tests())
+    have_bits(job.tests()) && ends_in_zeros(job)
 }
 
 /// Returns whether a job is right once threads have given it the tests of the file again.

@@ -1,4 +1,4 @@
-//! Runs of one thread: how many pieces the moves of an order skip.
+//! Runs of one thread: how many pieces the moves of an order skip, and their errors.
 
 use crate::checks::check_ok;
 use crate::worker::fixtures::{BUFFER, JobText, has_firsts, job_of};
@@ -33,13 +33,32 @@ fn are_skipped(alloc: Global, job: &Job) -> Result<bool, RunFault> {
     Ok(true)
 }
 
+/// Numbers of workers and moves, each with its error.
+static REFUSED: [(u32, &[u32], RunFault); 5] = [
+    (4, &[0, 9, 4], RunFault::NoSuchMove(1)),
+    (4, &[4], RunFault::NoSuchMove(0)),
+    (64, &[63, 64], RunFault::NoSuchMove(1)),
+    (0, &[4], RunFault::NoWorkers),
+    (65, &[70], RunFault::TooManyWorkers),
+];
+
+/// Returns whether runs have these errors.
+fn are_refused(alloc: Global, job: &Job) -> bool {
+    for (workers, moves, fault) in &REFUSED {
+        if run_schedule(alloc, job, *workers, moves).err() != Some(*fault) {
+            return false;
+        }
+    }
+    true
+}
+
 /// Returns whether that holds of the job of the buffer.
 fn is_so(alloc: Global) -> Result<bool, SimFault> {
     let job = job_of(alloc, &TWO_BLOCKS)?;
-    Ok(are_skipped(alloc, &job)?)
+    Ok(are_skipped(alloc, &job)? && are_refused(alloc, &job))
 }
 
 #[test]
-fn worker_two_reports_block_one_before_block_zero(rt: HostRuntime) {
+fn runs_by_moves(rt: HostRuntime) {
     check_ok(&rt, is_so(rt.alloc()), "moves");
 }

@@ -59,16 +59,22 @@ fn ends_after_two<R: Threads + Wait + Clock + Sync>(
     Ok(is_right && gate.pieces() == 2)
 }
 
-/// The pieces of a buffer under 64 tests of 0 and one of 1 that a run waits for.
-static WAITED_FOR: [(u32, u32); 3] = [(0, 0), (1, 0), (0, 1)];
+/// Numbers of workers, and plans for a buffer under 64 tests of 0 and one of 1, each with the class
+/// and the block that the run waits for.
+static LEFT_OPEN: [(u32, Plan, (u32, u32)); 4] = [
+    (2, Plan::Stop(0, 0), (0, 0)),
+    (2, Plan::Stop(1, 0), (1, 0)),
+    (2, Plan::Stop(0, 1), (0, 1)),
+    // Both classes wait for block 0: the lower class is named.
+    (1, Plan::Stop(0, 0), (0, 0)),
+];
 
-/// Returns whether runs of two workers leave each of these pieces open if the gate stops its
-/// worker there.
+/// Returns whether runs with these plans leave these pieces open.
 fn are_left_open<R: Threads + Wait + Clock + Sync>(rt: &R, alloc: Global, job: &Job) -> bool {
-    for (class, block) in &WAITED_FOR {
+    for (workers, plan, (class, block)) in &LEFT_OPEN {
         let (class, block) = (*class, *block);
-        let gate = Planned::new(rt, Plan::Stop(class, block));
-        if run(rt, alloc, job, 2, &gate).err() != Some(RunFault::Unfinished { class, block }) {
+        let stopped = run(rt, alloc, job, *workers, &Planned::new(rt, *plan)).err();
+        if stopped != Some(RunFault::Unfinished { class, block }) {
             return false;
         }
     }
