@@ -2,6 +2,7 @@
 //! come, so the workers run at the same time.
 
 ghost use Rattle.std.specs.Prelude.{◌↔◌, ◌<◌, All, IsTrue};
+ghost use Rattle.region_runs.specs.ListRunners.{ServesLists};
 
 use crate::checks::check;
 use crate::worker::fixtures::{BUFFER, C17, C17_FIRSTS, JobText, has_firsts, job_of};
@@ -100,19 +101,38 @@ fn are_classes(classes: &[u32], count: u32) -> bool
     classes.iter().all(|class| *class < count)
 }
 
-/// Returns whether a runner of lists finds the first tests of three classes of C17, and then the
-/// verdicts. No test detects class 0, the class of G1 sa1. The second pieces of the eight classes
-/// that ones detect are skipped.
-fn runs_a_list(alloc: Global, job: &Job) -> Result<bool, AllocError> {
-    let classes = [21, 0, 1];
-    if !are_classes(&classes, job.classes().count()) {
+/// Returns whether a runner finds these first tests of classes of a job.
+fn finds(
+    runner: &mut ListRunner,
+    alloc: Global,
+    job: &Job,
+    classes: &[u32],
+    firsts: &[Option<u32>],
+) -> Result<bool, AllocError>
+    requires { ServesLists runner.old job.now }
+    ensures { ServesLists runner.new job.now }
+{
+    if !are_classes(classes, job.classes().count()) {
         return Ok(false);
     }
+    let found = runner.first_tests(alloc, job, classes)?;
+    Ok(found.as_slice() == firsts)
+}
+
+/// Returns whether a runner finds the first tests of three classes of C17, and then the verdicts.
+/// No test detects class 0, the class of G1 sa1. The second pieces of the eight classes that ones
+/// detect are skipped.
+fn runs_a_list(alloc: Global, job: &Job) -> Result<bool, AllocError> {
     let mut runner = ListRunner::new(alloc, job)?;
-    let firsts = runner.first_tests(alloc, job, &classes)?;
+    let is_found = finds(
+        &mut runner,
+        alloc,
+        job,
+        &[21, 0, 1],
+        &[Some(0), None, Some(64)],
+    )?;
     let verdicts = runner.verdicts(alloc, job)?;
-    let is_right = firsts.as_slice() == [Some(0), None, Some(64)].as_slice();
-    Ok(is_right && verdicts.detected() == 19 && verdicts.skipped() == 8)
+    Ok(is_found && verdicts.detected() == 19 && verdicts.skipped() == 8)
 }
 
 /// Returns whether a run of one worker skips a single piece of a job.
