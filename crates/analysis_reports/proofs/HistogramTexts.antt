@@ -1,53 +1,20 @@
 -- The histogram of the counts of a job, and the histogram of the files that the job was read from.
-use Rattle.std.proofs.Common.{◌≡◌, ◌+◌, ◌<◌, ◌≤◌, ◌∙◌, ◌++◌, ◌∷◌, [], ℕ, Bool, List, ap, arith}
-use Rattle.std.proofs.Common.{append_assoc, get_or, length, refl, subst, suc, sym, take, zero}
+use Rattle.std.proofs.Common.{◌≡◌, ◌+◌, ◌<◌, ◌≤◌, ◌∙◌, ◌++◌, ◌∷◌, [], ℕ, List, ap, arith}
+use Rattle.std.proofs.Common.{append_assoc, get_or, length, refl, suc, sym, take, zero}
 use Rattle.std.proofs.Math.Bool.{cond}
 use Rattle.std.specs.Prelude.{◌==◌, codes, decimal, Some, slice_get, zip}
 use Rattle.std.specs.List.{flat_map}
 use Rattle.std.proofs.lemmas.List.{same_lists}
 use Rattle.std.proofs.lemmas.List.Sums.{count_by-le-length, sum_by_more}
 use Rattle.std.proofs.lemmas.Option.{slice_get-get_or}
-use Rattle.fault_model.specs.declared.Model.{Model}
 use Rattle.patterns.specs.Least.{below}
 use Rattle.patterns.proofs.Public.{get_or-below, get_or-map-below, length-below}
 use Rattle.patterns.proofs.Public.{length-map-below}
-use Rattle.block_sim.specs.Parts.{Parts}
-use Rattle.n_detect.specs.Detections.{AreCounts}
-use Rattle.job_loading.specs.declared.fault.SimFault.{SimFault}
-use Rattle.job_loading.specs.declared.fault.SimFault.TheVariants as fault
-use Rattle.job_loading.specs.declared.split.Split.{Split}
-use Rattle.job_loading.specs.declared.split.Split.TheVariants as split
-use Rattle.job_loading.specs.Jobs.{IsJobFault, IsJobOf, IsReadFault}
-use Rattle.job_loading.specs.Splits.{IsSplitFault, IsSplitOf}
-use Rattle.analysis_reports.specs.Detected.{detection_report}
-use Rattle.region_runs.specs.Refused.{IsOpenFault}
-use Rattle.report.specs.EndToEnd.{IsJobReportFault, IsReportFault, IsTextFault}
-use Rattle.analysis_reports.specs.Detected.{IsCountedFault}
-use Rattle.analysis_reports.specs.Histogram.{IsHistogramReportOf}
-use Rattle.analysis_reports.specs.Histogram.{IsHistogramReportOfJob}
 use Rattle.analysis_reports.specs.Histogram.{faults_with, histogram, histogram_line, histogram_text}
 use Rattle.analysis_reports.specs.Histogram.{one_with}
 use Rattle.byte_output.specs.Output.{Output, TakesAll, TakesFront}
 use Rattle.byte_output.proofs.Public.{flat_map_cut, flat_map_taken, stopped, takes_more}
-use Rattle.analysis_reports.proofs.CountedTexts.{job_count_fault}
 use Rattle.threaded_lines.proofs.Public.{zipped_by}
-use Rattle.report.proofs.Public.{text_fault}
-
--- the histogram of a job of files is the histogram of the files
-pub histogram_of_texts : (m : Model) (bench text : List ℕ) (most : ℕ) (list : Bool) (job : Parts)
-    → IsJobOf m bench text job → (bytes : List ℕ) → IsHistogramReportOfJob job most list bytes
-    → IsHistogramReportOf m bench text most list bytes
-histogram_of_texts m bench text most list job of bytes of_job =
-    let are = subst (λ k. AreCounts k job.circuit job.tests.tests most of_job.0) of.3 of_job.1 in (
-      job.circuit,
-      job.tests,
-      of_job.0,
-      of.0,
-      of.1,
-      are,
-      of_job.2 ∙ ap (λ k. detection_report k job.circuit most of_job.0 list
-          ++ histogram_text (histogram most of_job.0)) of.3,
-    )
 
 -- one fault more
 pub with_more : (counts : List ℕ) (n i : ℕ) → i < length counts
@@ -81,45 +48,6 @@ is_histogram most counts faults count each =
 pub line_of_count : (count faults : ℕ) (a b : List ℕ) → a ≡ decimal count → b ≡ decimal faults
     → a ++ (codes " " ++ (b ++ (codes "\n" ++ []))) ≡ histogram_line (count, faults)
 line_of_count count faults a b e f = rw (e, f) (simp append_assoc)
-
--- the same for files whose number of pieces isn't limited
-read : (m : Model) (bench text : List ℕ) (workers : ℕ) (f : SimFault) → IsReadFault bench text f
-    → IsTextFault m bench text workers (λ job. IsOpenFault workers) f
-read m bench text workers (fault.Run f) h = absurd h
-read m bench text workers (fault.Report f) h = absurd h
-read m bench text workers (fault.Bench f) h = h
-read m bench text workers (fault.Tests f) h = h
-read m bench text workers (fault.Order f) h = h
-read m bench text workers (fault.Job f) h = h
-read m bench text workers fault.Memory h = h
-
--- errors of the files before anything is counted
-pub counted_refused : (m : Model) (bench text : List ℕ) (s : Split) (workers : ℕ) (f : SimFault)
-    → IsSplitFault m bench text s f → IsCountedFault m bench text s workers f
-counted_refused m bench text split.Whole workers f h = whole f h
-  where
-    whole : (f : SimFault) → IsJobFault m bench text f → IsReportFault m bench text workers f
-    whole (fault.Run f) h = absurd h
-    whole (fault.Report f) h = absurd h
-    whole (fault.Bench f) h = h
-    whole (fault.Tests f) h = h
-    whole (fault.Order f) h = h
-    whole (fault.Job f) h = h
-    whole fault.Memory h = h
-counted_refused m bench text (split.Parts n) workers f h = read m bench text workers f h
-counted_refused m bench text split.Fitting workers f h = read m bench text workers f h
-
--- errors of the counts of a job
-pub counted_fault : (m : Model) (bench text : List ℕ) (s : Split) (parts workers : ℕ) (job : Parts)
-    → IsJobOf m bench text job → IsSplitOf job s workers parts → (f : SimFault)
-    → IsJobReportFault workers (IsOpenFault workers) f
-    → IsCountedFault m bench text s workers f
-counted_fault m bench text split.Whole parts workers job of is f h =
-    job_count_fault m bench text workers job (of, is.2) f h
-counted_fault m bench text (split.Parts n) parts workers job of is f h =
-    text_fault m bench text workers (λ x. IsOpenFault workers) job of f h
-counted_fault m bench text split.Fitting parts workers job of is f h =
-    text_fault m bench text workers (λ x. IsOpenFault workers) job of f h
 
 -- the line of a count of the histogram is the line of a pair
 pair_at : (faults : List ℕ) (i : ℕ) → i < length faults

@@ -4,4 +4,3 @@ mod LaunchedPairs
 mod ReasonTexts
 mod CountedTexts
 mod HistogramTexts
-pub mod Public

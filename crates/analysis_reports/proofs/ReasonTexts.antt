@@ -1,20 +1,16 @@
 -- The texts of the undetected faults with their reasons.
-use Rattle.std.proofs.Common.{◌≡◌, ◌++◌, ◌∙◌, ℕ, Bool, List, [], ap, append_assoc, length, refl}
-use Rattle.std.proofs.Common.{subst, sym}
+use Rattle.std.proofs.Common.{◌≡◌, ◌++◌, ◌∙◌, ℕ, List, [], ap, append_assoc, length, refl}
+use Rattle.std.proofs.Common.{sym}
 use Rattle.std.specs.Prelude.{codes, decimal, None, Option, Some}
 use Rattle.bench_net.specs.Statement.{Statement}
-use Rattle.fault_model.specs.declared.Model.{Model}
-use Rattle.fault_model.specs.Collapse.{AreClassesOf}
 use Rattle.fault_model.specs.Fault.{Fault, FaultList}
 use Rattle.block_sim.specs.Parts.{BelongTogether, Parts}
-use Rattle.workers.specs.Verdict.{AreFirsts}
-use Rattle.job_loading.specs.Jobs.{IsJobOf}
 use Rattle.undetected.specs.declared.Reason.{Reason}
 use Rattle.undetected.specs.declared.Reason.TheVariants.{NoPath, NotActivated, NotObserved}
 use Rattle.undetected.specs.Reasons.{AreReasons}
-use Rattle.analysis_reports.specs.Reasons.{IsReasonReportOf, IsReasonReportOfJob, reason_count}
+use Rattle.analysis_reports.specs.Reasons.{reason_count}
 use Rattle.analysis_reports.specs.Reasons.{reason_line}
-use Rattle.analysis_reports.specs.Reasons.{reason_report, reason_text, reasons_line}
+use Rattle.analysis_reports.specs.Reasons.{reason_text, reasons_line}
 use Rattle.report.specs.Report.{fault_text}
 
 -- the line of a fault with this reason, and of a fault that has none
@@ -44,27 +40,3 @@ pub reasons_counted : (job : Parts) (firsts : List (Option ℕ)) (reasons : List
     → length reasons ≡ length job.list.list
 reasons_counted job firsts reasons together are =
     are.count ∙ ap (λ (l : FaultList). length l.list) (sym together.list)
-
--- the report of a job of files is the report of the files
-pub reasons_of_texts : (m : Model) (bench text : List ℕ) (wanted : Bool) (job : Parts)
-    → IsJobOf m bench text job → (bytes : List ℕ) → IsReasonReportOfJob job wanted bytes
-    → IsReasonReportOf m bench text wanted bytes
-reasons_of_texts m bench text wanted job is bytes of_job =
-    let firsts = of_job.0 in
-    let reasons = of_job.1 in
-    let classes = subst (λ k. AreClassesOf k job.circuit job.classes) is.3 is.2.classes in
-    let are = subst (λ k. AreFirsts k job.circuit job.tests.tests firsts) is.3 of_job.2 in
-    let why = subst (λ k. AreReasons k job.circuit job.tests.tests firsts reasons) is.3
-    of_job.3 in (
-      job.circuit,
-      job.tests,
-      job.classes,
-      firsts,
-      reasons,
-      is.0,
-      is.1,
-      classes,
-      are,
-      why,
-      of_job.4 ∙ ap (λ k. reason_report k job.circuit job.classes firsts reasons wanted) is.3,
-    )

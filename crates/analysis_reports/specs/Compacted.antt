@@ -2,11 +2,7 @@
 use Rattle.std.specs.Prelude.{◌≡◌, ℕ, List, ◌++◌, codes, decimal, flat_map, length, Result, Ok}
 use Rattle.std.specs.Prelude.{Err}
 use Rattle.bench_net.specs.Statement.{Statement}
-use Rattle.bench_net.specs.Scan.{sources}
-use Rattle.bench_net.specs.Refusal.{IsAccepted}
-use Rattle.fault_model.specs.declared.Model.{Model}
 use Rattle.fault_model.specs.Solution.{Test}
-use Rattle.patterns.specs.Tests.{TestList, HasTests}
 use Rattle.block_sim.specs.Parts.{Parts}
 use Rattle.compaction.specs.Steepest.{IsOrdered}
 use Rattle.test_columns.specs.Files.{file_text}
@@ -31,16 +27,8 @@ kept_text Numbers c kept numbers = flat_map number_line numbers
 abbrev pub count_of : List Test → List Test → KeptCount
 count_of tests kept = record { kept = length kept; all = length tests }
 
--- the bytes are the rows or numbers of a compaction of a test file for a bench file, under a model
--- and in an order; the count has the numbers of kept tests and of all tests
-abbrev pub IsKeptText : Model → List ℕ → List ℕ → KeptLayout → KeptCount → List ℕ → Type 0
-IsKeptText m bench text layout count bytes = (c : List Statement) × (tests : TestList)
-    × (kept : List Test) × (numbers : List ℕ) × IsAccepted bench c
-    × HasTests text (length (sources c)) tests × IsOrdered layout.order m c tests.tests kept numbers
-    × (count ≡ count_of tests.tests kept)
-    × (bytes ≡ kept_text layout.form c kept numbers)
-
--- the same for a job
+-- the bytes are the rows or numbers of a compaction of a job's tests, in an order; the count has the
+-- numbers of kept tests and of all tests
 abbrev pub IsKeptTextOfJob : Parts → KeptLayout → KeptCount → List ℕ → Type 0
 IsKeptTextOfJob job layout count bytes = (kept : List Test) × (numbers : List ℕ)
     × IsOrdered layout.order job.list.model job.circuit job.tests.tests kept numbers

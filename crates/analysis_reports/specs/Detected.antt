@@ -2,18 +2,10 @@
 use Rattle.std.specs.Prelude.{◌≡◌, ℕ, Bool, List, [], ◌++◌, count_by, codes, decimal}
 use Rattle.std.specs.Prelude.{flat_map, if◌then◌else◌, length, nat_le, zip}
 use Rattle.bench_net.specs.Statement.{Statement}
-use Rattle.bench_net.specs.Refusal.{IsAccepted}
-use Rattle.bench_net.specs.Scan.{sources}
 use Rattle.fault_model.specs.declared.Model.{Model}
 use Rattle.fault_model.specs.Fault.{Fault, faults}
-use Rattle.patterns.specs.Tests.{TestList, HasTests}
 use Rattle.block_sim.specs.Parts.{Parts}
 use Rattle.n_detect.specs.Detections.{AreCounts}
-use Rattle.job_loading.specs.declared.fault.SimFault.{SimFault}
-use Rattle.job_loading.specs.declared.split.Split.{Split}
-use Rattle.job_loading.specs.declared.split.Split.TheVariants as split
-use Rattle.region_runs.specs.Refused.{IsOpenFault}
-use Rattle.report.specs.EndToEnd.{IsReportFault, IsTextFault}
 use Rattle.report.specs.Report.{coverage_line, fault_text}
 
 -- a line: `FAULT COUNT`
@@ -31,25 +23,9 @@ detection_report m c most counts list =
     (if list then flat_map (count_line c) (zip (faults m c) counts) else [])
     ++ coverage_line (reached_count most counts) (length counts)
 
--- the bytes are this report of a bench file and a test file under a model: each fault has the
--- number of tests that detect it, counted up to this limit
-abbrev pub IsDetectionReportOf : Model → List ℕ → List ℕ → ℕ → Bool → List ℕ → Type 0
-IsDetectionReportOf m bench text most list bytes = (c : List Statement) × (tests : TestList)
-    × (counts : List ℕ) × IsAccepted bench c
-    × HasTests text (length (sources c)) tests × AreCounts m c tests.tests most counts
-    × (bytes ≡ detection_report m c most counts list)
-
--- the bytes are this report of a job
+-- the bytes are this report of a job: each fault has the number of tests that detect it, counted up
+-- to this limit
 abbrev pub IsDetectionReportOfJob : Parts → ℕ → Bool → List ℕ → Type 0
 IsDetectionReportOfJob job most list bytes = (counts : List ℕ)
     × AreCounts job.list.model job.circuit job.tests.tests most counts
     × (bytes ≡ detection_report job.list.model job.circuit most counts list)
-
--- The condition of each error: as for a run, if it is run whole; and else never the number of
--- pieces.
-abbrev pub IsCountedFault : Model → List ℕ → List ℕ → Split → ℕ → SimFault → Type 0
-IsCountedFault m bench text split.Whole workers f = IsReportFault m bench text workers f
-IsCountedFault m bench text (split.Parts count) workers f =
-    IsTextFault m bench text workers (λ job. IsOpenFault workers) f
-IsCountedFault m bench text split.Fitting workers f =
-    IsTextFault m bench text workers (λ job. IsOpenFault workers) f

@@ -1,12 +1,7 @@
 -- The number of faults that each number of tests detects.
 use Rattle.std.specs.Prelude.{◌≡◌, ◌+◌, ◌==◌, ℕ, Bool, List, ◌++◌, codes, count_by, decimal}
 use Rattle.std.specs.Prelude.{flat_map, if◌then◌else◌, length, map, zip}
-use Rattle.bench_net.specs.Statement.{Statement}
-use Rattle.bench_net.specs.Refusal.{IsAccepted}
-use Rattle.bench_net.specs.Scan.{sources}
-use Rattle.fault_model.specs.declared.Model.{Model}
 use Rattle.patterns.specs.Least.{below}
-use Rattle.patterns.specs.Tests.{TestList, HasTests}
 use Rattle.block_sim.specs.Parts.{Parts}
 use Rattle.n_detect.specs.Detections.{AreCounts}
 use Rattle.analysis_reports.specs.Detected.{detection_report}
@@ -29,15 +24,7 @@ histogram_line at = decimal at.0 ++ codes " " ++ decimal at.1 ++ codes "\n"
 abbrev pub histogram_text : List ℕ → List ℕ
 histogram_text faults = flat_map histogram_line (zip (below (length faults)) faults)
 
--- the bytes are the report of the counts and their histogram, for a bench file and a test file
--- under a model
-abbrev pub IsHistogramReportOf : Model → List ℕ → List ℕ → ℕ → Bool → List ℕ → Type 0
-IsHistogramReportOf m bench text most list bytes = (c : List Statement) × (tests : TestList)
-    × (counts : List ℕ) × IsAccepted bench c
-    × HasTests text (length (sources c)) tests × AreCounts m c tests.tests most counts
-    × (bytes ≡ detection_report m c most counts list ++ histogram_text (histogram most counts))
-
--- the same for a job
+-- the bytes are the report of the counts of a job and their histogram
 abbrev pub IsHistogramReportOfJob : Parts → ℕ → Bool → List ℕ → Type 0
 IsHistogramReportOfJob job most list bytes = (counts : List ℕ)
     × AreCounts job.list.model job.circuit job.tests.tests most counts

@@ -1,14 +1,11 @@
 -- The text of the undetected faults with their reasons.
 use Rattle.std.specs.Prelude.{◌≡◌, ℕ, Bool, true, false, List, [], ◌++◌, codes, count_by, decimal}
-use Rattle.std.specs.Prelude.{flat_map, length, Option, Some, None, zip}
+use Rattle.std.specs.Prelude.{flat_map, Option, Some, None, zip}
 use Rattle.std.specs.List.{slice_range}
 use Rattle.bench_net.specs.Statement.{Statement}
-use Rattle.bench_net.specs.Refusal.{IsAccepted}
-use Rattle.bench_net.specs.Scan.{sources}
 use Rattle.fault_model.specs.declared.Model.{Model}
-use Rattle.fault_model.specs.Collapse.{AreClassesOf, Collapsed}
+use Rattle.fault_model.specs.Collapse.{Collapsed}
 use Rattle.fault_model.specs.Fault.{Fault, faults}
-use Rattle.patterns.specs.Tests.{TestList, HasTests}
 use Rattle.block_sim.specs.Parts.{Parts}
 use Rattle.workers.specs.Verdict.{AreFirsts}
 use Rattle.region_runs.specs.declared.watch.ReasonCounts.{ReasonCounts}
@@ -74,16 +71,8 @@ reason_report m c classes firsts reasons wanted =
     flat_map (reason_line c) (zip (faults m c) reasons)
     ++ reason_totals m c classes firsts reasons wanted
 
--- the bytes are this report of a bench file and a test file under a model: each fault that no test
--- detects has its reason
-abbrev pub IsReasonReportOf : Model → List ℕ → List ℕ → Bool → List ℕ → Type 0
-IsReasonReportOf m bench text wanted bytes = (c : List Statement) × (tests : TestList)
-    × (classes : Collapsed) × (firsts : List (Option ℕ)) × (reasons : List (Option Reason))
-    × IsAccepted bench c × HasTests text (length (sources c)) tests × AreClassesOf m c classes
-    × AreFirsts m c tests.tests firsts × AreReasons m c tests.tests firsts reasons
-    × (bytes ≡ reason_report m c classes firsts reasons wanted)
-
--- the same for a job
+-- the bytes are the report of a job: each fault has the first test that detects it, or none, and
+-- then the reason for that
 abbrev pub IsReasonReportOfJob : Parts → Bool → List ℕ → Type 0
 IsReasonReportOfJob job wanted bytes = (firsts : List (Option ℕ)) × (reasons : List (Option Reason))
     × AreFirsts job.list.model job.circuit job.tests.tests firsts

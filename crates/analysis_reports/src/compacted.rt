@@ -3,13 +3,11 @@
 
 ghost use Rattle.std.specs.Prelude.{◌≡◌, ◌<◌, ◌≤◌, IfErr, IfOk, OnOk};
 ghost use Rattle.std.specs.List.{flat_map};
-ghost use Rattle.job_loading.specs.Splits.{HasSomePart};
 ghost use Rattle.byte_output.specs.Output.{Writes};
-ghost use Rattle.analysis_reports.specs.Compacted.{GivesOneOf, IsKeptText};
+ghost use Rattle.analysis_reports.specs.Compacted.{GivesOneOf};
 ghost use Rattle.analysis_reports.specs.Compacted.{IsKeptTextOfJob};
 ghost use Rattle.analysis_reports.specs.Compacted.{kept_text, number_line};
-ghost use Rattle.report.specs.EndToEnd.{IsJobTextFault, IsListFault, IsWatchedFault};
-ghost use Rattle.report.specs.EndToEnd.{IsWithin, WritesOneOf};
+ghost use Rattle.report.specs.EndToEnd.{IsJobTextFault, IsListFault, WritesOneOf};
 ghost use Rattle.region_runs.specs.Refused.{ArePartsWithin, IsPartsFault};
 ghost use Rattle.test_columns.specs.Files.{file_text};
 
@@ -17,9 +15,8 @@ use crate::whole::put_text;
 use bench_net::Circuit;
 use byte_output::{Out, OutFailed, put_pieces};
 use compaction::{Kept, TestOrder, compact};
-use fault_model::Model;
 use itoa::Buffer;
-use job_loading::{ReportFault, RunJob, SimFault, Split, Watch, split_run_of};
+use job_loading::{ReportFault, RunJob, SimFault, Watch};
 use patterns::Tests;
 use std::alloc::{AllocError, Global};
 use std::sync::Wait;
@@ -38,7 +35,7 @@ pub enum KeptForm {
 /// The order and the form in which the tests that a compaction keeps are written.
 #[derive(Clone, Copy, Debug, PartialEq, Eq)]
 pub struct KeptLayout {
-    /// Their order. With [`Model::Transition`] it is always the order of the list.
+    /// Their order. Under transition faults it is always the order of the list.
     pub order: TestOrder,
     /// Their form.
     pub form: KeptForm,
@@ -53,14 +50,14 @@ pub struct KeptCount {
     pub all: u32,
 }
 
-/// Reads a circuit and tests for it, and writes some of the tests, or their numbers in the list.
-/// They detect each fault of a model that the tests detect ([`compaction::compact`]). The tests are
-/// written as a test file that names its columns ([`test_columns::columns_line`]). Returns the
-/// number of kept tests.
+/// Runs a job in a number of parts, and writes some of its tests, or their numbers in the list. They
+/// detect each fault that all tests detect ([`compaction::compact`]). The tests are written as a
+/// test file that names its columns ([`test_columns::columns_line`]). Returns the number of kept
+/// tests.
 ///
-/// The gate observes each pass, and lets each piece pass. If the tests have more blocks than a
-/// window ([`region_runs::window_blocks`]), a pass goes window by window. It fails as
-/// [`report::simulate_text_watched`] does. It writes nothing before all kept tests are known.
+/// The gate observes each pass, and lets each piece pass. If the tests stand apart, a pass goes
+/// window by window. It fails as [`compaction::compact`] does, or for the output. It writes nothing
+/// before all kept tests are known.
 ///
 /// # Examples
 ///
@@ -72,35 +69,7 @@ pub struct KeptCount {
 /// 10
 /// 11
 /// ```
-pub fn compact_text_watched<R: Threads + Wait, G: Watch + Sync, W: Out>(
-    rt: &R,
-    alloc: Global,
-    model: Model,
-    bench: &[u8],
-    tests: &[u8],
-    split: Split,
-    workers: u32,
-    layout: KeptLayout,
-    gate: &G,
-    out: &mut W,
-) -> Result<KeptCount, SimFault>
-    requires split { HasSomePart split }
-    requires passing { G.passing gate.now }
-    ensures written { GivesOneOf (IsKeptText model bench.now tests.now layout) result
-        (W.seen out.old) (W.seen out.new) }
-    ensures refused { IfErr result (IsWatchedFault model bench.now tests.now split workers
-        (G.passing gate.now) (G.stops gate.now)) }
-    ensures workers { OnOk result ((0 < workers) × (workers ≤ 64)) }
-    ensures within { OnOk result (IsWithin model bench.now tests.now split) }
-{
-    let (made, parts) = split_run_of(rt, alloc, model, bench, tests, split, true, workers)?;
-    let mut run = made;
-    write_compacted(rt, alloc, &mut run, parts, workers, layout, gate, out)
-}
-
-/// Writes some of a job's tests, or their numbers, that detect each fault that all tests detect.
-/// Returns how many tests it keeps.
-fn write_compacted<R: Threads + Wait, G: Watch + Sync, W: Out>(
+pub fn write_kept_of_run<R: Threads + Wait, G: Watch + Sync, W: Out>(
     rt: &R,
     alloc: Global,
     run: &mut RunJob,

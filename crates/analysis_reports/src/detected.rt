@@ -6,20 +6,17 @@ ghost use Rattle.std.specs.List.{flat_map};
 ghost use Rattle.fault_model.specs.Fault.{faults};
 ghost use Rattle.block_sim.specs.Parts.{BelongTogether};
 ghost use Rattle.byte_output.specs.Output.{Writes};
-ghost use Rattle.analysis_reports.specs.Detected.{IsDetectionReportOf};
 ghost use Rattle.region_runs.specs.Refused.{IsOpenFault};
 ghost use Rattle.analysis_reports.specs.Detected.{IsDetectionReportOfJob};
 ghost use Rattle.analysis_reports.specs.Detected.{count_line, detection_report, reached_count};
-ghost use Rattle.job_loading.specs.Splits.{HasSomePart};
-ghost use Rattle.analysis_reports.specs.Detected.{IsCountedFault};
 ghost use Rattle.report.specs.EndToEnd.{IsJobReportFault, WritesOneOf};
 
 use bench_net::Circuit;
 use block_sim::Job;
 use byte_output::{Out, OutFailed};
-use fault_model::{Faults, Model};
+use fault_model::Faults;
 use itoa::Buffer;
-use job_loading::{ReportFault, SimFault, Split, Watch, split_run_of};
+use job_loading::{ReportFault, SimFault, Watch};
 use n_detect::detections;
 use region_runs::RunJob;
 use report::{put_coverage, put_fault_line};
@@ -27,14 +24,13 @@ use std::alloc::Global;
 use std::sync::Wait;
 use std::thread::Threads;
 
-/// Reads a circuit and tests for it, and writes how many tests detect each fault of a model. With
-/// `list` it writes a line for each fault. Then it writes how many faults at least `most` tests
-/// detect. The count of a fault ends at `most`.
+/// Runs a job in a number of parts, and writes how many tests detect each fault. With `list` it
+/// writes a line for each fault. Then it writes how many faults at least `most` tests detect. The
+/// count of a fault ends at `most`.
 ///
-/// The gate observes the run, and lets each piece pass. If the tests have more blocks than a window
-/// ([`region_runs::window_blocks`]), it runs window by window. It fails as
-/// [`report::simulate_text_in`] does with [`Split::Whole`], in the same order; else there is no
-/// limit on pieces.
+/// The gate observes the run, and lets each piece pass. If the tests stand apart, it runs window by
+/// window. It fails as [`n_detect::detections`] does, and then the run is as it was, or for the
+/// output.
 ///
 /// # Examples
 ///
@@ -49,39 +45,13 @@ use std::thread::Threads;
 /// stem z sa1 3
 /// 1 of 6 (16.66%)
 /// ```
-pub fn detections_text_watched<R: Threads + Wait, G: Watch + Sync, W: Out>(
-    rt: &R,
-    alloc: Global,
-    model: Model,
-    bench: &[u8],
-    tests: &[u8],
-    split: Split,
-    most: u32,
-    workers: u32,
-    list: bool,
-    gate: &G,
-    out: &mut W,
-) -> Result<(), SimFault>
-    requires split { HasSomePart split }
-    requires passing { G.passing gate.now }
-    ensures written { WritesOneOf (IsDetectionReportOf model bench.now tests.now most list) result
-        (W.seen out.old) (W.seen out.new) }
-    ensures refused { IfErr result (IsCountedFault model bench.now tests.now split workers) }
-    ensures workers { OnOk result ((0 < workers) × (workers ≤ 64)) }
-{
-    let (made, parts) = split_run_of(rt, alloc, model, bench, tests, split, true, workers)?;
-    let mut run = made;
-    report_counts(rt, alloc, &mut run, most, parts, workers, list, gate, out)
-}
-
-/// Counts for a run, and writes the report.
-fn report_counts<R: Threads + Wait, G: Watch + Sync, W: Out>(
+pub fn write_detections_of_run<R: Threads + Wait, G: Watch + Sync, W: Out>(
     rt: &R,
     alloc: Global,
     run: &mut RunJob,
-    most: u32,
     parts: u32,
     workers: u32,
+    most: u32,
     list: bool,
     gate: &G,
     out: &mut W,

@@ -3,22 +3,18 @@
 ghost use Rattle.std.specs.Prelude.{◌≡◌, ◌+◌, ◌-◌, ◌<◌, ◌≤◌, ◌^◌, ◌++◌, ℕ, IfErr, IfOk, OnOk};
 ghost use Rattle.std.specs.Prelude.{get_or, length};
 ghost use Rattle.block_sim.specs.Parts.{BelongTogether};
-ghost use Rattle.job_loading.specs.Splits.{HasSomePart};
 ghost use Rattle.byte_output.specs.Output.{Writes};
 ghost use Rattle.analysis_reports.specs.Detected.{detection_report};
 ghost use Rattle.region_runs.specs.Refused.{IsOpenFault};
 ghost use Rattle.report.specs.EndToEnd.{IsJobReportFault, WritesOneOf};
-ghost use Rattle.analysis_reports.specs.Detected.{IsCountedFault};
-ghost use Rattle.analysis_reports.specs.Histogram.{IsHistogramReportOf};
 ghost use Rattle.analysis_reports.specs.Histogram.{IsHistogramReportOfJob, histogram};
 ghost use Rattle.analysis_reports.specs.Histogram.{histogram_line, histogram_text, one_with};
 
 use crate::detected::write_detections;
 use block_sim::Job;
 use byte_output::{Out, OutFailed, put_pieces};
-use fault_model::Model;
 use itoa::Buffer;
-use job_loading::{ReportFault, SimFault, Split, Watch, split_run_of};
+use job_loading::{ReportFault, SimFault, Watch};
 use n_detect::detections;
 use region_runs::RunJob;
 use std::alloc::{AllocError, Global};
@@ -26,8 +22,8 @@ use std::sync::Wait;
 use std::thread::Threads;
 use workers::RunFault;
 
-/// Reads a circuit and tests for it, and writes how many tests detect each fault of a model, as
-/// [`crate::detections_text_watched`] does, and then the histogram. The histogram has a line `COUNT
+/// Runs a job in a number of parts, and writes how many tests detect each fault, as
+/// [`crate::write_detections_of_run`] does, and then the histogram. The histogram has a line `COUNT
 /// FAULTS` for each count from 0 to `most`, with the number of faults that this many tests detect.
 /// The last line counts the faults that at least `most` tests detect.
 ///
@@ -45,39 +41,13 @@ use workers::RunFault;
 /// 2 0
 /// 3 1
 /// ```
-pub fn histogram_text_watched<R: Threads + Wait, G: Watch + Sync, W: Out>(
-    rt: &R,
-    alloc: Global,
-    model: Model,
-    bench: &[u8],
-    tests: &[u8],
-    split: Split,
-    most: u32,
-    workers: u32,
-    list: bool,
-    gate: &G,
-    out: &mut W,
-) -> Result<(), SimFault>
-    requires split { HasSomePart split }
-    requires passing { G.passing gate.now }
-    ensures written { WritesOneOf (IsHistogramReportOf model bench.now tests.now most list) result
-        (W.seen out.old) (W.seen out.new) }
-    ensures refused { IfErr result (IsCountedFault model bench.now tests.now split workers) }
-    ensures workers { OnOk result ((0 < workers) × (workers ≤ 64)) }
-{
-    let (made, parts) = split_run_of(rt, alloc, model, bench, tests, split, true, workers)?;
-    let mut run = made;
-    report_histogram(rt, alloc, &mut run, most, parts, workers, list, gate, out)
-}
-
-/// Counts for a run, and writes the report and the histogram.
-fn report_histogram<R: Threads + Wait, G: Watch + Sync, W: Out>(
+pub fn write_histogram_of_run<R: Threads + Wait, G: Watch + Sync, W: Out>(
     rt: &R,
     alloc: Global,
     run: &mut RunJob,
-    most: u32,
     parts: u32,
     workers: u32,
+    most: u32,
     list: bool,
     gate: &G,
     out: &mut W,

@@ -17,13 +17,13 @@ mod reasoned;
 mod responses;
 mod whole;
 
-pub use compacted::{KeptCount, KeptForm, KeptLayout, compact_text_watched};
+pub use compacted::{KeptCount, KeptForm, KeptLayout, write_kept_of_run};
 pub use compaction::TestOrder;
-pub use detected::{detections_text_watched, write_detections};
-pub use histogram::{histogram_of, histogram_text_watched};
+pub use detected::{write_detections, write_detections_of_run};
+pub use histogram::{histogram_of, write_histogram_of_run};
 pub use launched::pairs_text_in;
 pub use reasoned::{
-    reason_counts, reasons_text_watched, words_of, write_reasons, write_reasons_in_threads,
+    reason_counts, words_of, write_reasons, write_reasons_in_threads, write_reasons_of_run,
 };
 pub use responses::responses_text_in;
 pub use undetected::Reason;

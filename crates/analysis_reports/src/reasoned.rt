@@ -1,16 +1,15 @@
 //! The report of the undetected faults with their reasons.
 
-ghost use Rattle.std.specs.Prelude.{◌≡◌, ◌<◌, ◌≤◌, IfErr, OnOk, Some, false};
+ghost use Rattle.std.specs.Prelude.{◌≡◌, ◌<◌, ◌≤◌, IfErr, OnOk, Some, true};
 ghost use Rattle.std.specs.Prelude.{count_by, length, slice_get, zip};
 ghost use Rattle.std.specs.List.{flat_map};
 ghost use Rattle.fault_model.specs.Fault.{faults};
 ghost use Rattle.block_sim.specs.Parts.{BelongTogether};
-ghost use Rattle.job_loading.specs.Splits.{HasSomePart};
 ghost use Rattle.byte_output.specs.Output.{Writes};
 ghost use Rattle.region_runs.specs.Refused.{ArePartsWithin, IsPartsFault};
 ghost use Rattle.analysis_reports.specs.Reasons.{reason_counts_of};
-ghost use Rattle.report.specs.EndToEnd.{IsJobTextFault, IsWatchedFault, IsWithin, WritesOneOf};
-ghost use Rattle.analysis_reports.specs.Reasons.{IsReasonReportOf, IsReasonReportOfJob, has_reason};
+ghost use Rattle.report.specs.EndToEnd.{IsJobTextFault, WritesOneOf};
+ghost use Rattle.analysis_reports.specs.Reasons.{IsReasonReportOfJob, has_reason};
 ghost use Rattle.analysis_reports.specs.Reasons.{reason_line, reason_report, reason_text};
 ghost use Rattle.analysis_reports.specs.Reasons.{reason_totals};
 ghost use Rattle.analysis_reports.specs.Reasons.{reasons_between, reasons_line};
@@ -19,9 +18,9 @@ use crate::reason_lines::ReasonLines;
 use bench_net::Circuit;
 use block_sim::Job;
 use byte_output::{Out, OutFailed, put_pieces};
-use fault_model::{Faults, Model};
+use fault_model::Faults;
 use itoa::Buffer;
-use job_loading::{ReasonCounts, ReportFault, RunJob, SimFault, Split, Watch, split_run_of};
+use job_loading::{ReasonCounts, ReportFault, RunJob, SimFault, Watch};
 use report::{Contents, Lines, put_fault_line, write_report_with};
 use std::alloc::Global;
 use std::sync::Wait;
@@ -30,13 +29,11 @@ use threaded_lines::put_in_threads;
 use undetected::{Reason, reasons};
 use workers::Verdicts;
 
-/// Reads a circuit and tests for it, and writes the report of the faults that no test detects, each
+/// Runs a job in a number of parts, and writes the report of the faults that no test detects, each
 /// with the reason why none does. The report has a line for each of these faults, and then the
 /// coverage line. With `classes` the coverage of the classes follows. Last comes the number of
-/// faults for each reason.
-///
-/// The gate and the split are as in [`report::simulate_text_watched`], and it fails as that
-/// function does.
+/// faults for each reason, which the gate learns, too. Else it works and fails as
+/// [`report::write_report_of_run`] does.
 ///
 /// # Examples
 ///
@@ -49,33 +46,7 @@ use workers::Verdicts;
 /// 3 of 6 (50.00%)
 /// 0 no path, 1 not activated, 2 not observed
 /// ```
-pub fn reasons_text_watched<R: Threads + Wait, G: Watch + Sync, W: Out>(
-    rt: &R,
-    alloc: Global,
-    model: Model,
-    bench: &[u8],
-    tests: &[u8],
-    split: Split,
-    workers: u32,
-    classes: bool,
-    gate: &G,
-    out: &mut W,
-) -> Result<(), SimFault>
-    requires { HasSomePart split }
-    ensures written { WritesOneOf (IsReasonReportOf model bench.now tests.now classes) result
-        (W.seen out.old) (W.seen out.new) }
-    ensures refused { IfErr result (IsWatchedFault model bench.now tests.now split workers
-        (G.passing gate.now) (G.stops gate.now)) }
-    ensures workers { OnOk result ((0 < workers) × (workers ≤ 64)) }
-    ensures within { OnOk result (IsWithin model bench.now tests.now split) }
-{
-    let (made, parts) = split_run_of(rt, alloc, model, bench, tests, split, false, workers)?;
-    let mut run = made;
-    report_reasons(rt, alloc, &mut run, parts, workers, classes, gate, out)
-}
-
-/// Runs a job, whose tests are its own, in parts, and writes the report.
-fn report_reasons<R: Threads + Wait, G: Watch + Sync, W: Out>(
+pub fn write_reasons_of_run<R: Threads + Wait, G: Watch + Sync, W: Out>(
     rt: &R,
     alloc: Global,
     run: &mut RunJob,
@@ -86,7 +57,7 @@ fn report_reasons<R: Threads + Wait, G: Watch + Sync, W: Out>(
     out: &mut W,
 ) -> Result<(), SimFault>
     requires job { BelongTogether run.old.parts }
-    requires own { run.old.apart ≡ false }
+    requires gate { run.old.apart ≡ true → G.passing gate.now }
     requires parts { 0 < parts }
     ensures written { WritesOneOf (IsReasonReportOfJob run.old.parts classes) result
         (W.seen out.old) (W.seen out.new) }
@@ -94,15 +65,15 @@ fn report_reasons<R: Threads + Wait, G: Watch + Sync, W: Out>(
         (IsPartsFault run.old.parts parts workers (G.passing gate.now) (G.stops gate.now))) }
     ensures workers { OnOk result ((0 < workers) × (workers ≤ 64)) }
     ensures within { OnOk result (ArePartsWithin run.old.parts parts) }
+    ensures kept { run.new ≡ run.old }
 {
     let verdicts = run.run(rt, alloc, parts, workers, gate)?;
-    let job = run.job();
-    let reasons = reasons(alloc, job, &verdicts)?;
+    let reasons = reasons(rt, alloc, run, &verdicts, workers)?;
     gate.explains(reason_counts(&reasons));
     write_reasons_in_threads(
         rt,
         alloc,
-        job,
+        run.job(),
         &verdicts,
         reasons.as_slice(),
         classes,

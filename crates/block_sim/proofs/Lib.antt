@@ -31,7 +31,6 @@ pub mod Public
 mod DeadRegions
 mod PartsOfJobs
 mod JobsUnder
-mod ActiveLanes
 mod ObservedStems
 mod ArrangedRoom
 mod CountedSignals

@@ -1,72 +1,54 @@
 //! The command `run` without `--detections`.
 
-ghost use Rattle.std.specs.Prelude.{IfOk, IfSome};
+ghost use Rattle.std.specs.Prelude.{◌<◌, IfOk, IfSome};
 ghost use Rattle.job_loading.specs.Splits.{HasSomePart};
-ghost use Rattle.command_line.specs.Form.{HasParts};
 
 use crate::choices::MAX_PARTS;
-use crate::command::read_contents;
-use crate::form::{Form, write_form};
+use crate::command::{read_contents, read_model, read_option};
+use crate::crew::read_crew;
+use crate::form::Form;
+use crate::form_run::{write_form, write_of_bytes};
 use crate::format::read_format;
+use crate::part_run::write_part;
 use crate::split::read_split;
 use crate::status::CommandError;
+use crate::summary::{Request, read_request, version_and_proof};
+use crate::tally::Found;
+use crate::threshold::{Threshold, check_threshold, read_threshold};
 use clap::ArgMatches;
 use command_basics::Source;
 use report::{Contents, Lines, Out, Split};
 use std::alloc::Global;
 use std::sync::Wait;
 use std::thread::Threads;
-use tables::Format;
+use tables::{Format, Summary};
 
-/// Returns the output that the command line requests of `run`.
-fn read_form<'a>(matches: &ArgMatches<'a>) -> Result<Form, CommandError<'a>>
-    ensures { IfOk result HasParts }
-{
+/// Returns the output that the command line requests of `run` without `--part`.
+fn read_form<'a>(matches: &ArgMatches<'a>) -> Result<Form, CommandError<'a>> {
     let contents = read_contents(matches)?;
-    let split = read_split(matches)?;
     let why = matches.get_flag("why");
-    if let Some(format) = read_format(matches)? {
-        return table_form(contents.lines, format, split, why);
-    }
-    match (matches.get_str("part"), split) {
-        (None, _) => report_form(contents, split, why),
-        (Some(text), Split::Whole) => read_part(text).ok_or(CommandError::Unfit("--part", NO_PART)),
-        (Some(_), _) => Err(CommandError::Unfit("--parts", BESIDE_PART)),
+    match read_format(matches)? {
+        Some(format) => table_form(contents.lines, format, why),
+        None => report_form(contents, why),
     }
 }
 
 /// Returns the form of a report, of the undetected faults with their reasons if `why` is set.
-fn report_form<'a>(contents: Contents, split: Split, why: bool) -> Result<Form, CommandError<'a>>
-    requires { HasSomePart split }
-    ensures { IfOk result HasParts }
-{
+fn report_form<'a>(contents: Contents, why: bool) -> Result<Form, CommandError<'a>> {
     match (why, contents.lines) {
-        (false, _) => Ok(Form::Report { contents, split }),
+        (false, _) => Ok(Form::Report(contents)),
         (true, Lines::Undetected) => Ok(Form::Reasons {
             classes: contents.classes,
-            split,
         }),
         (true, Lines::Omitted | Lines::All) => Err(CommandError::Unfit("--why", NO_WHY)),
     }
 }
 
 /// Returns the form of a table, of the undetected faults with their reasons if `why` is set.
-fn table_form<'a>(
-    lines: Lines,
-    format: Format,
-    split: Split,
-    why: bool,
-) -> Result<Form, CommandError<'a>>
-    requires { HasSomePart split }
-    ensures { IfOk result HasParts }
-{
+fn table_form<'a>(lines: Lines, format: Format, why: bool) -> Result<Form, CommandError<'a>> {
     match (why, lines) {
-        (false, _) => Ok(Form::Table {
-            lines,
-            format,
-            split,
-        }),
-        (true, Lines::Undetected) => Ok(Form::ReasonTable { format, split }),
+        (false, _) => Ok(Form::Table { lines, format }),
+        (true, Lines::Undetected) => Ok(Form::ReasonTable(format)),
         (true, Lines::Omitted | Lines::All) => Err(CommandError::Unfit("--why", NO_WHY)),
     }
 }
@@ -80,9 +62,10 @@ const BESIDE_PART: &str = "give --part or --parts, not both";
 /// The reason why the text of `--part` cannot be used.
 const NO_PART: &str = "give I/N: part I, from 1 to N, of N parts, at most 65536";
 
-/// Returns the part that a text `I/N` names, I from 1.
-fn read_part(text: &str) -> Option<Form>
-    ensures { IfSome result HasParts }
+/// Returns the part that a text `I/N` names, counted from 0, and the number of parts. `I` counts
+/// from 1.
+fn read_part(text: &str) -> Option<(u32, u32)>
+    ensures { IfSome result (λ named. named.0 < named.1) }
 {
     let (part, parts) = text.split_once('/')?;
     let number = part.parse::<u32>().ok()?;
@@ -90,13 +73,10 @@ fn read_part(text: &str) -> Option<Form>
     if number == 0 || number > parts || parts > MAX_PARTS {
         return None;
     }
-    Some(Form::Part {
-        part: number - 1,
-        parts,
-    })
+    Some((number - 1, parts))
 }
 
-/// Runs `run`.
+/// Runs `run` without `--detections`.
 pub(crate) fn do_run<'a, R: Threads + Wait, S: Source, W: Out, E: Out + Send>(
     rt: &R,
     alloc: Global,
@@ -106,5 +86,83 @@ pub(crate) fn do_run<'a, R: Threads + Wait, S: Source, W: Out, E: Out + Send>(
     err: &mut E,
 ) -> Result<(), CommandError<'a>> {
     let form = read_form(matches)?;
-    write_form(rt, alloc, matches, form, files, out, err)
+    let split = read_split(matches)?;
+    let Some(text) = matches.get_str("part") else {
+        return do_whole(rt, alloc, matches, form, split, files, out, err);
+    };
+    if split != Split::Whole {
+        return Err(CommandError::Unfit("--parts", BESIDE_PART));
+    }
+    match read_part(text) {
+        Some((part, parts)) => write_part(rt, alloc, matches, part, parts, files, out, err),
+        None => Err(CommandError::Unfit("--part", NO_PART)),
+    }
+}
+
+/// Runs all classes, writes the output, and compares the coverage with the threshold.
+fn do_whole<'a, R: Threads + Wait, S: Source, W: Out, E: Out + Send>(
+    rt: &R,
+    alloc: Global,
+    matches: &ArgMatches<'a>,
+    form: Form,
+    split: Split,
+    files: &mut S,
+    out: &mut W,
+    err: &mut E,
+) -> Result<(), CommandError<'a>>
+    requires { HasSomePart split }
+{
+    let threshold = read_threshold(matches)?;
+    let found = match read_request(matches, files)? {
+        Some(request) => run_summed(rt, alloc, matches, form, split, request, files, out, err)?,
+        None => write_form(rt, alloc, matches, form, split, files, out, err)?,
+    };
+    check_found(threshold, found)
+}
+
+/// Runs all classes, writes the output, and then the summary, which has the sums of the bytes of
+/// both files.
+fn run_summed<'a, R: Threads + Wait, S: Source, W: Out, E: Out + Send>(
+    rt: &R,
+    alloc: Global,
+    matches: &ArgMatches<'a>,
+    form: Form,
+    split: Split,
+    request: Request<'a>,
+    files: &mut S,
+    out: &mut W,
+    err: &mut E,
+) -> Result<Found, CommandError<'a>>
+    requires { HasSomePart split }
+{
+    let model = read_model(matches)?;
+    let bench = read_option(alloc, matches, "bench", files)?;
+    let tests = read_option(alloc, matches, "tests", files)?;
+    let workers = read_crew(matches, &bench, &tests)?;
+    let found = write_of_bytes(rt, alloc, matches, &bench, &tests, form, split, out, err)?;
+    let Some(counts) = found.counts else {
+        return Err(CommandError::Lost);
+    };
+    let (version, proved) = version_and_proof();
+    let summary = Summary {
+        version,
+        proved,
+        model,
+        bench: &bench,
+        tests: &tests,
+        counts,
+        reasons: found.reasons,
+        workers,
+        milliseconds: request.milliseconds(files),
+    };
+    request.write(alloc, &summary, files)?;
+    Ok(found)
+}
+
+/// Compares the coverage of a run of all classes with the threshold.
+fn check_found<'a>(threshold: Option<Threshold<'a>>, found: Found) -> Result<(), CommandError<'a>> {
+    match found.counts {
+        Some(counts) => check_threshold(threshold, counts.detected, counts.faults),
+        None => Err(CommandError::Lost),
+    }
 }

@@ -2,6 +2,7 @@
 
 ghost use Rattle.workers.specs.Verdict.{AreFirsts};
 
+use analysis_reports::KeptCount;
 use block_sim::Job;
 use patterns::Tests;
 use report::{Gate, ReasonCounts, RunCounts, Verdicts, Watch, count_run};
@@ -12,6 +13,7 @@ use std::sync::Mutex;
 pub(crate) struct Found {
     pub(crate) counts: Option<RunCounts>,
     pub(crate) reasons: Option<ReasonCounts>,
+    pub(crate) kept: Option<KeptCount>,
 }
 
 /// The results of a run, once they are known.
@@ -26,6 +28,7 @@ impl Tally {
             found: Mutex::new(Found {
                 counts: None,
                 reasons: None,
+                kept: None,
             }),
         }
     }
@@ -45,6 +48,13 @@ impl Tally {
     pub(crate) fn note_reasons(&self, reasons: ReasonCounts) {
         if let Some(mut found) = self.found.try_lock() {
             found.reasons = Some(reasons);
+        }
+    }
+
+    /// Notes the number of tests that a compaction keeps.
+    pub(crate) fn note_kept(&self, count: KeptCount) {
+        if let Some(mut found) = self.found.try_lock() {
+            found.kept = Some(count);
         }
     }
 

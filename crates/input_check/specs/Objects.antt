@@ -96,7 +96,6 @@ run_text taken = lines_text (
     ∷ (codes "blocks", option_map (λ t. t.blocks) taken)
     ∷ (codes "pieces", option_map (λ t. t.pieces) taken)
     ∷ (codes "memory_mb", option_map (λ t. megabytes t.bytes) taken)
-    ∷ (codes "all_words_memory_mb", option_map (λ t. megabytes t.bytes_with_all_words) taken)
     ∷ [])
 
 -- a warning after a comma and a line feed, and the array of all, in which the first has no comma

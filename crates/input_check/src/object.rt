@@ -178,7 +178,6 @@ fn add_taken(text: &mut Vec<u8>, taken: &TestCounts) -> Result<(), AllocError>
         numbered("blocks", u64::from(taken.blocks)),
         numbered("pieces", taken.pieces),
         numbered("memory_mb", megabytes(taken.bytes)),
-        numbered("all_words_memory_mb", megabytes(taken.bytes_with_all_words)),
     ];
     add_members(text, NEXT_LINE, &members)
 }
@@ -192,7 +191,6 @@ fn add_no_run(text: &mut Vec<u8>) -> Result<(), AllocError>
         missing("blocks"),
         missing("pieces"),
         missing("memory_mb"),
-        missing("all_words_memory_mb"),
     ];
     add_members(text, NEXT_LINE, &members)
 }

@@ -112,9 +112,5 @@ fn fmt_tests<W: fmt::Write>(taken: &TestCounts, f: &mut Formatter<W>) -> fmt::Re
     writeln!(
         f,
         "memory      {some:>10} MB, some, for {USUAL_WORKERS} workers"
-    )?;
-    match megabytes(taken.bytes_with_all_words) {
-        all if all > some => writeln!(f, "  --why     {all:>10} MB, some"),
-        _ => Ok(()),
-    }
+    )
 }

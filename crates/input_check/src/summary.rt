@@ -120,11 +120,6 @@ impl Counts {
             .saturating_add(each.saturating_mul(u64::from(workers)))
     }
 
-    /// Estimates the bytes of a run that has the words of all tests.
-    fn memory_with_all_words(&self, tests: u32, workers: u32) -> u64 {
-        self.memory(tests, self.text(tests), groups_of(tests), workers)
-    }
-
     /// Estimates the bytes of a test file that a run with this number of tests has at a time, if it
     /// reads a long file piece by piece.
     fn text_at_a_time(&self, tests: u32, workers: u32) -> u64 {
@@ -187,8 +182,6 @@ pub struct TestCounts {
     /// An estimate of the bytes of a run with four workers, which has the fault-free words of some
     /// tests at a time.
     pub bytes: u64,
-    /// The same for a run with the fault-free words of all tests: one that reports reasons.
-    pub bytes_with_all_words: u64,
 }
 
 /// Computes the size of a run of tests on a circuit with these counts.
@@ -201,7 +194,6 @@ pub fn count_tests(counts: &Counts, tests: &Tests) -> TestCounts
         blocks,
         pieces: u64::from(counts.classes).saturating_mul(u64::from(blocks)),
         bytes: counts.memory_in_windows(tests.count(), USUAL_WORKERS),
-        bytes_with_all_words: counts.memory_with_all_words(tests.count(), USUAL_WORKERS),
     }
 }
 

@@ -7,7 +7,6 @@
 
 mod fault;
 mod pieces;
-mod run_job;
 mod split;
 mod texts;
 
@@ -17,5 +16,4 @@ pub use region_runs::{ReasonCounts, RunJob, Watch};
 pub use split::{Split, split_run_for, split_run_in_pieces, split_run_of};
 pub use texts::{
     job_for, job_for_in_threads, job_of, job_of_in_threads, read_inputs, read_inputs_in_threads,
-    run_of_any_size,
 };

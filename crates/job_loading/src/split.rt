@@ -13,14 +13,13 @@ ghost use Rattle.job_loading.specs.Splits.{IsSplitFaultFor, IsSplitFaultForSome,
 
 use crate::fault::SimFault;
 use crate::pieces::read_job_in_pieces;
-use crate::run_job::run_with_tests;
 use crate::texts::{make_any_job_in_threads, read_inputs_in_threads};
 use bench_net::Circuit;
 use block_sim::{Job, JobFault, has_too_many_pieces};
 use fault_model::Model;
 use patterns::{MAX_PIECES, Tests};
 use region_runs::{RunJob, parts_for};
-use std::alloc::Global;
+use std::alloc::{AllocError, Global};
 use std::io::Read;
 use std::sync::Wait;
 use std::thread::Threads;
@@ -170,6 +169,29 @@ fn split_run_with<R: Threads + Wait>(
     let run = run_with_tests(rt, alloc, job, tests, apart, workers)?;
     let parts = parts_of_split(&run, split, workers);
     Ok((run, parts))
+}
+
+/// Makes the run of a job with these tests in place of its own. They stand apart if they may, and
+/// have more blocks than a window. If not, the threads compute the words of their blocks.
+fn run_with_tests<R: Threads + Wait>(
+    rt: &R,
+    alloc: Global,
+    job: Job,
+    tests: Tests,
+    apart: bool,
+    workers: u32,
+) -> Result<RunJob, AllocError>
+    requires { AreTestsFor job.circuit tests }
+    ensures job { IfOk result (λ run. IsJobUnder job.list.model job.circuit tests run.parts) }
+    ensures apart { IfOk result (λ run. run.apart ≡ true → apart ≡ true) }
+{
+    let mut run = RunJob::whole(job);
+    if apart {
+        run.set_tests(rt, alloc, tests, workers)?;
+    } else {
+        run.set_own_tests(rt, alloc, tests, workers)?;
+    }
+    Ok(run)
 }
 
 /// Returns the number of parts into which a run is split.

@@ -1,6 +1,6 @@
 //! The job of a bench file and a test file.
 
-ghost use Rattle.std.specs.Prelude.{◌≡◌, ◌≤◌, ◌⊎◌, length, IfErr, IfOk, IfSome, true};
+ghost use Rattle.std.specs.Prelude.{◌≡◌, ◌≤◌, ◌⊎◌, length, IfErr, IfOk, IfSome};
 ghost use Rattle.bench_net.specs.Circuit.{IsCircuit};
 ghost use Rattle.bench_net.specs.Refusal.{IsAccepted, IsRefused};
 ghost use Rattle.bench_net.specs.Scan.{sources};
@@ -8,16 +8,14 @@ ghost use Rattle.patterns.specs.Tests.{HasTests, IsTestList, IsTestRefusal, max_
 ghost use Rattle.block_sim.specs.Parts.{piece_count};
 ghost use Rattle.block_sim.specs.JobParts.{IsJobUnder};
 ghost use Rattle.job_loading.specs.Jobs.{AreTestsFor, IsInputFault, IsJobFault, IsJobOf};
-ghost use Rattle.job_loading.specs.Jobs.{IsGuessOf, IsPiecesFault, IsReadFault};
+ghost use Rattle.job_loading.specs.Jobs.{IsGuessOf, IsPiecesFault};
 
 use crate::fault::SimFault;
-use crate::run_job::make_run_in_threads;
 use bench_net::{BenchFault, Circuit, read_bench};
 use bench_threads::read_bench_in_threads;
 use block_sim::Job;
 use fault_model::{Model, collapse, list_faults_in};
 use patterns::{TestFault, Tests, read_tests};
-use region_runs::RunJob;
 use std::alloc::{AllocError, Global};
 use std::sync::Wait;
 use std::thread;
@@ -69,27 +67,6 @@ pub fn job_of_in_threads<R: Threads + Wait>(
 {
     let (circuit, tests) = read_inputs_in_threads(rt, alloc, bench, tests, workers)?;
     job_for_in_threads(rt, alloc, model, circuit, tests, workers)
-}
-
-/// Reads the job of a bench file and a test file under a model, for a run of any number of pieces,
-/// in about as many threads as there are workers ([`read_inputs_in_threads`],
-/// [`Job::under_model_in_threads`]). Its tests may stand apart if `apart` is set.
-pub fn run_of_any_size<R: Threads + Wait>(
-    rt: &R,
-    alloc: Global,
-    model: Model,
-    bench: &[u8],
-    tests: &[u8],
-    apart: bool,
-    workers: u32,
-) -> Result<RunJob, SimFault>
-    ensures job { IfOk result (λ run. IsJobOf model bench.now tests.now run.parts) }
-    ensures apart { IfOk result (λ run. run.apart ≡ true → apart ≡ true) }
-    ensures refused { IfErr result (IsReadFault bench.now tests.now) }
-{
-    let (circuit, tests) = read_inputs_in_threads(rt, alloc, bench, tests, workers)?;
-    let run = make_run_in_threads(rt, alloc, model, circuit, tests, apart, workers)?;
-    Ok(run)
 }
 
 /// Makes the job of a circuit and of tests for it under a model, for any number of pieces, in at

@@ -1,19 +1,15 @@
 -- The text of one part of a run.
-use Rattle.std.specs.Prelude.{◌≡◌, ⊤, ℕ, ◌+◌, Bool, true, false, List, ◌++◌, map, zip, flat_map}
+use Rattle.std.specs.Prelude.{◌≡◌, ℕ, ◌+◌, Bool, true, false, List, ◌++◌, map, zip, flat_map}
 use Rattle.std.specs.Prelude.{count_by, is_some, codes, decimal}
 use Rattle.bench_net.specs.Statement.{Statement}
 use Rattle.fault_model.specs.declared.Model.{Model}
 use Rattle.fault_model.specs.Fault.{Fault, faults}
 use Rattle.block_sim.specs.Parts.{Parts}
-use Rattle.workers.specs.Stops.{no_stop}
 use Rattle.region_runs.specs.declared.parts.PartVerdict.{PartVerdict}
 use Rattle.region_runs.specs.declared.parts.PartVerdict.TheVariants.{First, OtherPart}
 use Rattle.region_runs.specs.Part.{ArePartVerdicts}
-use Rattle.region_runs.specs.Refused.{IsPartFault}
 use Rattle.part_files.specs.declared.part_writer.Head.{Head}
-use Rattle.job_loading.specs.declared.fault.SimFault.{SimFault}
 use Rattle.job_loading.specs.Jobs.{IsJobOf}
-use Rattle.report.specs.EndToEnd.{IsTextFault}
 use Rattle.report.specs.Report.{first_text, fault_text}
 use Rattle.report.specs.RunIdentity.{model_name, sum_text}
 
@@ -109,8 +105,3 @@ IsPartTextOfJob h job bytes = (verdicts : List PartVerdict)
 abbrev pub IsPartTextOf : Model → List ℕ → List ℕ → ℕ → ℕ → List ℕ → Type 0
 IsPartTextOf m bench text part parts bytes = (job : Parts) × IsJobOf m bench text job
     × IsPartTextOfJob (head_of m bench text part parts) job bytes
-
--- the condition of each error of the file of one part of a run in this many parts
-abbrev pub IsPartReportFault : Model → List ℕ → List ℕ → ℕ → ℕ → ℕ → SimFault → Type 0
-IsPartReportFault m bench text part parts workers f =
-    IsTextFault m bench text workers (λ job. IsPartFault job parts part workers ⊤ no_stop) f

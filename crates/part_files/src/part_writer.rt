@@ -8,7 +8,7 @@ ghost use Rattle.block_sim.specs.Parts.{BelongTogether};
 ghost use Rattle.byte_output.specs.Output.{Writes};
 ghost use Rattle.region_runs.specs.Refused.{IsPartFault};
 ghost use Rattle.report.specs.EndToEnd.{IsJobReportFault, IsTextFault, WritesOneOf};
-ghost use Rattle.part_files.specs.PartText.{IsPartReportFault, IsPartTextOf, IsPartTextOfJob};
+ghost use Rattle.part_files.specs.PartText.{IsPartTextOf, IsPartTextOfJob};
 ghost use Rattle.part_files.specs.PartText.{end_line, head_line, is_found, is_own, job_part_text};
 ghost use Rattle.part_files.specs.PartText.{part_line, said_by, verdict_text};
 
@@ -17,13 +17,12 @@ use block_sim::Job;
 use byte_output::{Out, OutFailed, put_pieces};
 use fault_model::{Faults, Model};
 use itoa::Buffer;
-use job_loading::{ReportFault, RunJob, SimFault, Watch, run_of_any_size};
-use region_runs::{PartVerdict, part_of};
+use job_loading::{ReportFault, RunJob, SimFault, Split, Watch, split_run_of};
+use region_runs::{PartVerdict, part_of, run_part};
 use report::{first_text, model_name, put_fault_line, sum_of};
 use std::alloc::Global;
 use std::sync::Wait;
 use std::thread::Threads;
-use workers::OpenGate;
 
 /// The rule of parts, as a part file names it: by the stem of a class's region.
 const RULE: &str = "region";
@@ -31,44 +30,17 @@ const RULE: &str = "region";
 /// Reads a circuit and tests for it, runs one part of the fault classes, and writes its part file.
 /// The part counts from 0, of this number of parts. The file has the part and its run, and a line
 /// for each fault of the list. The line has the first detecting test, `none`, or `-` if the fault
-/// is in another part. Last comes how many faults of the part are detected. It works as
-/// [`report::simulate_text_in`] does.
+/// is in another part. Last comes how many faults of the part are detected.
+///
+/// It calls the gate when the run of the part begins and when it ends, and asks it before each piece
+/// of work. The gate decides whether there is a part file, but not its bytes. Under a gate that lets
+/// each piece pass it runs window by window if the tests have more blocks than a window, as
+/// [`report::simulate_text_watched`] does.
 ///
 /// It fails as [`report::simulate_text_in`] does, in the same order, except for the number of
 /// pieces. The whole has no limit: it fails with [`workers::RunFault::TooManyPieces`] if the part
-/// has too many. It checks the number of workers before the pieces.
-pub fn part_text_in<R: Threads + Wait, W: Out>(
-    rt: &R,
-    alloc: Global,
-    model: Model,
-    bench: &[u8],
-    tests: &[u8],
-    part: u32,
-    parts: u32,
-    workers: u32,
-    out: &mut W,
-) -> Result<(), SimFault>
-    requires { part < parts }
-    ensures written { WritesOneOf (IsPartTextOf model bench.now tests.now part parts) result
-        (W.seen out.old) (W.seen out.new) }
-    ensures refused { IfErr result
-        (IsPartReportFault model bench.now tests.now part parts workers) }
-    ensures workers { OnOk result ((0 < workers) × (workers ≤ 64)) }
-{
-    part_text_watched(
-        rt, alloc, model, bench, tests, part, parts, workers, &OpenGate, out,
-    )
-}
-
-/// Reads a circuit and tests for it, and writes the part file as [`part_text_in`] does, with the
-/// same bytes. It calls the gate when the run of the part begins and when it ends, and asks it
-/// before each piece of work. The gate decides whether there is a part file, but not its bytes.
-///
-/// Under a gate that lets each piece pass it runs window by window if the tests have more blocks
-/// than a window, as [`report::simulate_text_watched`] does.
-///
-/// It fails as [`part_text_in`] does. If the gate stops workers and not all classes of the part are
-/// settled, it fails with [`workers::RunFault::Unfinished`].
+/// has too many. It checks the number of workers before the pieces. If the gate stops workers and
+/// not all classes of the part are settled, it fails with [`workers::RunFault::Unfinished`].
 pub fn part_text_watched<R: Threads + Wait, G: Watch + Sync, W: Out>(
     rt: &R,
     alloc: Global,
@@ -89,8 +61,9 @@ pub fn part_text_watched<R: Threads + Wait, G: Watch + Sync, W: Out>(
     ensures workers { OnOk result ((0 < workers) × (workers ≤ 64)) }
 {
     let apart = gate.lets_all_pass();
-    let run = run_of_any_size(rt, alloc, model, bench, tests, apart, workers)?;
-    let mut run = run;
+    let split = Split::Parts(parts);
+    let (made, _parts) = split_run_of(rt, alloc, model, bench, tests, split, apart, workers)?;
+    let mut run = made;
     let bench_sum = sum_of(alloc, bench)?;
     let test_sum = sum_of(alloc, tests)?;
     let head = Head {
@@ -151,7 +124,7 @@ fn report_part<R: Threads + Wait, G: Watch + Sync, W: Out>(
 {
     let (part, parts) = (head.part, head.parts);
     gate.starts(count_classes(run.job(), part, parts), run.tests().blocks());
-    let verdicts = run.run_part(rt, alloc, part, parts, workers, gate)?;
+    let verdicts = run_part(rt, alloc, run, part, parts, workers, gate)?;
     gate.ends();
     let job = run.job();
     write_part(job.circuit(), job.faults(), head, verdicts.as_slice(), out)?;

@@ -23,5 +23,6 @@ mod WindowValues
 mod WindowSteps
 mod PartRefusals
 mod GivenTests
-mod PartsApart
+mod ReadWords
+mod PartsInView
 pub mod Public

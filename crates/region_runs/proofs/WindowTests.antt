@@ -39,7 +39,8 @@ initialized_down c tests window from end l b (suc k) of lt after i =
     let j = subst (IsInitialized c tests l b) next i in
     (j.0, of.each k (omega (arith, lt)) ∙ j.1, j.2)
 
-looks_up : (c : List Statement) (tests window : List Test) (from end : ℕ) (m : Model) (l : Line)
+-- a test of the window meets the condition of a model if the test of the list does
+pub looks_up : (c : List Statement) (tests window : List Test) (from end : ℕ) (m : Model) (l : Line)
     (b : Bool) (h k : ℕ) → IsWindowOf tests from end window → from ≡ 2 * h → k < length window
     → LooksBack c window m l b k → LooksBack c tests m l b (from + k)
 looks_up c tests window from end StuckAt l b h k of even lt back = tt
@@ -50,7 +51,8 @@ looks_up c tests window from end TransitionPairs l b h k of even lt back = (
   initialized_up c tests window from end l b k of lt back.1,
 )
 
-looks_down : (c : List Statement) (tests window : List Test) (from end : ℕ) (m : Model) (l : Line)
+-- and the other way round, unless the test before isn't in the window
+pub looks_down : (c : List Statement) (tests window : List Test) (from end : ℕ) (m : Model) (l : Line)
     (b : Bool) (h k : ℕ) → IsWindowOf tests from end window → from ≡ 2 * h → k < length window
     → (from ≡ 0) ⊎ (0 < k) → LooksBack c tests m l b (from + k) → LooksBack c window m l b k
 looks_down c tests window from end StuckAt l b h k of even lt after back = tt

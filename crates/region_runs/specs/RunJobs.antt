@@ -6,9 +6,10 @@ use Rattle.block_sim.specs.Parts.{Parts, with_tests}
 use Rattle.fault_ledger.specs.Seats.{ClosedFace}
 use Rattle.workers.specs.Verdict.{VerdictList}
 use Rattle.region_runs.specs.Part.{stretch_size}
-use Rattle.region_runs.specs.Stretches.{AreByStretches, IsOfStretches}
+use Rattle.region_runs.specs.declared.parts.PartVerdict.{PartVerdict}
+use Rattle.region_runs.specs.Stretches.{AreByStretches, IsOfStretches, IsPartOfStretches}
 use Rattle.region_runs.specs.Tasks.{Task}
-use Rattle.region_runs.specs.WindowLedgers.{AreOfWindows, IsOfWindows}
+use Rattle.region_runs.specs.WindowLedgers.{AreOfWindows, IsOfWindows, IsPartOfWindows}
 
 -- the view that contracts have of such a job: its parts, and whether its tests stand apart
 pub record RunParts : Type 0 where
@@ -38,3 +39,9 @@ AreKeptByLedgers task parts workers classes kept =
     ((ledger : ClosedFace)
     × AreByStretches task (stretch_size (length classes) parts) classes workers kept ledger)
     ⊎ AreOfWindows task workers classes (blocks (length task.job.tests.tests)) kept
+
+-- so were the verdicts on the classes of a part
+abbrev pub IsPartByLedgers : Parts → ℕ → ℕ → ℕ → List PartVerdict → Type 0
+IsPartByLedgers job parts part workers verdicts =
+    ((ledger : ClosedFace) × IsPartOfStretches job parts part workers verdicts ledger)
+    ⊎ IsPartOfWindows job parts part workers verdicts

@@ -4,6 +4,7 @@ use Rattle.std.specs.Prelude.{slice_get}
 use Rattle.fault_model.specs.Solution.{Test}
 use Rattle.patterns.specs.Making.{word_of}
 use Rattle.patterns.specs.Tests.{IsWord, TestList}
+use Rattle.block_sim.specs.Parts.{Parts, with_tests}
 use Rattle.region_runs.specs.declared.windows.Window.{Window}
 use Rattle.region_runs.specs.Tasks.{Task}
 use Rattle.region_sim.specs.Goals.{AreHits}
@@ -35,3 +36,12 @@ pub record GoesOnFrom (blocks first : ℕ) (window : Window) : Type 0 where
   pub some : first < window.end
   pub within : window.end ≤ blocks
   pub before : ((window.from ≡ 0) × (first ≡ 0)) ⊎ (suc window.from ≡ first)
+
+-- The job is that of a window of another one: its tests are those of the blocks from one up to
+-- another. They begin with the block before the first one that no window before has, if there is
+-- one.
+pub record IsWindowFor (all : Parts) (from first end : ℕ) (window : Parts) : Type 0 where
+  pub is : window ≡ with_tests all window.tests
+  pub of : IsWindowOf all.tests.tests (64 * from) (64 * end) window.tests.tests
+  pub before : ((from ≡ 0) × (first ≡ 0)) ⊎ (suc from ≡ first)
+  pub order : first ≤ end

@@ -7,11 +7,11 @@
 //! of the workers.
 //!
 //! [`run_in_parts`] runs all classes in some number of stretches, and [`run_open`] in a number that
-//! suits the workers. [`run_goal`] runs them for any [`region_sim::Goal`]. [`run_part`] runs the
-//! classes of one part of a run that several machines share. [`run_in_windows`] and
-//! [`run_part_in_windows`] do so on some blocks at a time, and a [`RunJob`] as its tests want it,
-//! under a gate that may observe the run ([`Watch`]). A [`ListRunner`] runs lists of classes in its
-//! caller's thread.
+//! suits the workers. [`run_goal`] runs them for any [`region_sim::Goal`]. [`run_in_windows`] does so
+//! on some blocks at a time, and a [`RunJob`] as its tests want it, under a gate that may observe the
+//! run ([`Watch`]). [`run_part`] runs the classes of one part of a run that several machines share,
+//! and [`RunJob::read_words`] reads the fault-free words. A [`ListRunner`] runs lists of classes in
+//! its caller's thread.
 #![tactic(auto)]
 
 mod class_order;
@@ -20,6 +20,7 @@ mod goal_run;
 mod list_runner;
 mod open_classes;
 mod open_run;
+mod part_run;
 mod parts;
 mod run_job;
 mod stretch_run;
@@ -28,17 +29,16 @@ mod stretches;
 mod watch;
 mod window_goal;
 mod windows;
+mod word_reader;
 
 pub use goal_run::{GoalRun, run_goal};
 pub use list_runner::ListRunner;
 pub use open_run::{run_classes, run_open};
-pub use parts::{
-    LedgerRun, PartVerdict, in_one_part, part_of, run_in_parts, run_over_ledger, run_part,
-};
+pub use part_run::run_part;
+pub use parts::{LedgerRun, PartVerdict, in_one_part, part_of, run_in_parts, run_over_ledger};
 pub use run_job::RunJob;
 pub use stretches::{parts_for, stretches_for};
 pub use watch::{ReasonCounts, Watch};
 pub use window_goal::WindowGoal;
-pub use windows::{
-    WindowRun, run_goal_in_windows, run_in_windows, run_part_in_windows, window_blocks,
-};
+pub use windows::{WindowRun, run_goal_in_windows, run_in_windows, window_blocks};
+pub use word_reader::WordReader;

@@ -10,23 +10,21 @@ ghost use Rattle.workers.specs.Verdict.{blocks_after, pieces_after};
 ghost use Rattle.region_runs.specs.StretchRuns.{AreAllKept, AreAllLowest, AreGivenBack, ArePut};
 ghost use Rattle.region_runs.specs.StretchRuns.{IsLowest, IsLowestAt, IsLowestIn, WaitsIn, run_at};
 ghost use Rattle.region_runs.specs.StretchRuns.{runs_from};
-ghost use Rattle.region_runs.specs.Part.{AreClassVerdicts, ArePartVerdicts, IsInOnePart};
+ghost use Rattle.region_runs.specs.Part.{AreClassVerdicts, IsInOnePart};
 ghost use Rattle.region_runs.specs.Part.{IsOfPart, first_in, stretch, stretch_count, stretch_size};
 ghost use Rattle.region_runs.specs.Cut.{IsCutOf};
-ghost use Rattle.region_runs.specs.Refused.{ArePartsWithin, IsPartFault, IsPartsFault};
-ghost use Rattle.region_runs.specs.Refused.{IsPartWithin};
+ghost use Rattle.region_runs.specs.Refused.{ArePartsWithin, IsPartsFault};
 ghost use Rattle.region_runs.specs.Refused.{IsStretchesFault};
 ghost use Rattle.region_runs.specs.Stretches.{AreApart, AreByStretches, AreShared};
-ghost use Rattle.region_runs.specs.Stretches.{IsOfStretches, IsPartOfStretches, crew_of};
+ghost use Rattle.region_runs.specs.Stretches.{IsOfStretches, crew_of};
 ghost use Rattle.region_runs.specs.Stretches.{shape_of_stretches};
 ghost use Rattle.region_runs.specs.Tasks.{AreKept, IsOpenAtFirst, task_of};
 
-use crate::class_order::{count_in, part_classes};
 use crate::fault_firsts::{OrderedFirsts, verdicts_in};
 use crate::goal_run::{GoalRun, run_goal};
 use crate::stretch_run::{Waiting, lower_of};
 use crate::stretch_workers::{Done, Served, empty_table, not_begun, take_parts};
-use crate::stretches::{Cut, filled, stretches_for};
+use crate::stretches::{Cut, filled};
 use block_sim::Job;
 use fault_ledger::{Closed, Finish, LedgerFault, Seat, SharedLedger};
 use patterns::BLOCK_SIZE;
@@ -140,47 +138,6 @@ pub(crate) fn first_in(verdict: PartVerdict) -> Option<u32>
     }
 }
 
-/// Runs the classes of a part, counted from 0, of this number of parts, as [`run_in_parts`] runs
-/// all: in a number of stretches that suits the workers. Returns for each fault of the uncollapsed
-/// list the first test that detects it, or none, if its class is in the part. Any other fault is in
-/// another part.
-///
-/// # Errors
-///
-/// The errors of [`run_in_parts`], but the limit of [`patterns::MAX_PIECES`] pieces applies to the
-/// part, and not to its stretches.
-pub fn run_part<G: Gate + Sync, R: Threads + Wait>(
-    rt: &R,
-    alloc: Global,
-    job: &Job,
-    part: u32,
-    parts: u32,
-    workers: u32,
-    gate: &G,
-) -> Result<Vec<PartVerdict>, RunFault>
-    requires { part < parts }
-    ensures verdicts { IfOk result (λ verdicts.
-        ArePartVerdicts job.now parts part verdicts.items) }
-    ensures workers { OnOk result ((0 < workers) × (workers ≤ 64)) }
-    ensures within { OnOk result (IsPartWithin job.now parts part) }
-    ensures stretches { IfOk result (λ verdicts. (ledger : ClosedFace)
-        × IsPartOfStretches job.now parts part workers verdicts.items ledger) }
-    ensures refused { IfErr result (IsPartFault job.now parts part workers
-        (G.passing gate.now) (G.stops gate.now)) }
-{
-    check_workers(workers)?;
-    let own = part_classes(alloc, job, part, parts)?;
-    let few = count_in(job, own.as_slice());
-    check_pieces(job, few)?;
-    let stretches = stretches_for(few, workers);
-    let done = run_list_for(rt, alloc, job, 0, own, stretches, workers, &FirstTest, gate)?;
-    let count = job.classes().count();
-    let found = done.kept.as_slice();
-    let table = by_class(alloc, count, done.classes.as_slice(), found)?;
-    let verdicts = of_faults(alloc, job, table.as_slice())?;
-    Ok(verdicts)
-}
-
 /// Runs all classes of a job in parts, by workers in threads of their own, numbered from 0, at most
 /// one for each part. A worker claims a part at a ledger that all share, which has a piece for each
 /// part with a class. It simulates the part by itself, reports it, and goes on to the next. It
@@ -191,7 +148,7 @@ pub fn run_part<G: Gate + Sync, R: Threads + Wait>(
 /// A part is here a stretch of the list of all classes, region by region in the order of the
 /// visits. So the data that a worker reads for one region are near to the data for the next. With n
 /// classes a stretch has n divided by the number of parts, rounded up; the last ones have fewer, or
-/// none. The parts of [`run_part`] instead depend on the stems, by a rule that a part file names,
+/// none. The parts of [`crate::run_part`] instead depend on the stems, by a rule that a part file names,
 /// so that other machines make the same parts.
 ///
 /// # Errors

@@ -1,26 +1,25 @@
 //! Jobs that run window by window if their tests have more blocks than a window.
 
-ghost use Rattle.std.specs.Prelude.{◌≡◌, ◌<◌, ◌≤◌, IfErr, IfNone, IfOk, IfSome, OnOk, false};
-ghost use Rattle.std.specs.Prelude.{[], length, true};
+ghost use Rattle.std.specs.Prelude.{◌≡◌, ◌<◌, ◌≤◌, ◌*◌, All, IfErr, IfNone, IfOk, IfSome, OnOk};
+ghost use Rattle.std.specs.Prelude.{[], false, length, true};
 ghost use Rattle.bench_net.specs.Scan.{sources};
 ghost use Rattle.counting_sort.specs.SortedPlaces.{ArePositions};
-ghost use Rattle.patterns.specs.Tests.{IsTestList, TestList};
+ghost use Rattle.patterns.specs.Tests.{IsTestList, TestList, blocks};
 ghost use Rattle.block_sim.specs.Parts.{BelongTogether, with_tests};
 ghost use Rattle.workers.specs.Verdict.{AreAfterHits, AreFirsts};
 ghost use Rattle.region_sim.specs.ClassOrder.{AreAllByRegion};
-ghost use Rattle.region_runs.specs.Part.{ArePartVerdicts};
-ghost use Rattle.region_runs.specs.Refused.{ArePartsWithin, IsOpenFault, IsPartFault, IsPartsFault};
-ghost use Rattle.region_runs.specs.Refused.{IsPartWithin};
+ghost use Rattle.region_runs.specs.Part.{stretch_size};
+ghost use Rattle.region_runs.specs.Refused.{ArePartsWithin, IsOpenFault, IsPartsFault};
+ghost use Rattle.region_runs.specs.Refused.{IsStretchesFault};
 ghost use Rattle.region_runs.specs.RunJobs.{AreByLedgers, AreKeptByLedgers};
 ghost use Rattle.region_runs.specs.Tasks.{AreKept, IsOpenAtFirst, task_of};
 
 use crate::goal_run::{GoalRun, run_goal};
-use crate::parts::{PartVerdict, run_in_parts, run_part};
+use crate::parts::{ListRun, run_in_parts, run_list_for};
 use crate::watch::Watch;
 use crate::window_goal::WindowGoal;
-use crate::windows::{
-    WindowRun, run_goal_in_windows, run_in_windows, run_part_in_windows, window_blocks,
-};
+use crate::windows::{WindowRun, run_goal_in_windows, run_in_windows, run_windows, window_blocks};
+use crate::word_reader::{WordReader, read_in_windows};
 use block_sim::{Job, SpentTests};
 use patterns::Tests;
 use std::alloc::{AllocError, Global};
@@ -28,6 +27,15 @@ use std::marker;
 use std::sync::Wait;
 use std::thread::Threads;
 use workers::{Gate, RunFault, Verdicts};
+
+/// What a goal keeps of the classes of a list, and the classes.
+#[derive(Drop)]
+pub(crate) struct ListKept<K> {
+    /// The classes.
+    pub(crate) classes: Vec<u32>,
+    /// What the goal keeps of each, of all tests.
+    pub(crate) kept: Vec<K>,
+}
 
 /// A job to be run. If its tests have more blocks than a window ([`window_blocks`]),
 /// they may stand apart, and it runs window by window.
@@ -215,34 +223,90 @@ impl RunJob {
         }
     }
 
-    /// Runs the classes of one part, counted from 0, of a number of parts, with the verdicts and
-    /// the errors of [`run_part`]. If the tests stand apart, it runs window by window
-    /// ([`run_part_in_windows`]), under a gate that lets each piece pass.
-    pub fn run_part<R: Threads + Wait, G: Gate + Sync>(
+    /// Runs a list of classes for a goal. If the tests are the job's own, workers claim stretches of
+    /// the list at a ledger that all share ([`run_list_for`]). If not, it runs window by window,
+    /// under a gate that lets each piece pass ([`run_windows`]).
+    pub(crate) fn run_list<A: WindowGoal + Sync, R: Threads + Wait, G: Gate + Sync>(
         &mut self,
         rt: &R,
         alloc: Global,
-        part: u32,
-        parts: u32,
+        classes: Vec<u32>,
+        stretches: u32,
         workers: u32,
+        goal: &A,
         gate: &G,
-    ) -> Result<Vec<PartVerdict>, RunFault>
+    ) -> Result<ListKept<A::Kept>, RunFault>
+    where
+        A::Kept: Send,
         requires gate { self.old.apart ≡ true → G.passing gate.now }
-        requires part { part < parts }
-        ensures verdicts { IfOk result (λ verdicts.
-            ArePartVerdicts self.old.parts parts part verdicts.items) }
-        ensures workers { OnOk result ((0 < workers) × (workers ≤ 64)) }
-        ensures within { OnOk result (IsPartWithin self.old.parts parts part) }
-        ensures refused { IfErr result (IsPartFault self.old.parts parts part workers
-            (G.passing gate.now) (G.stops gate.now)) }
-        ensures kept { self.new ≡ self.old }
+        requires some { 0 < stretches }
+        requires few { length classes.items ≤ length self.old.parts.classes.representative }
+        requires within { All (λ class. class < length self.old.parts.classes.representative)
+            classes.items }
+        requires workers { (0 < workers) × (workers ≤ 64) }
+        requires wanted { IsOpenAtFirst
+            (task_of self.old.parts 0 (A.wants goal.now) (A.means goal.now)) }
+        ensures classes { IfOk result (λ run. run.classes.items ≡ classes.items) }
+        ensures kept { IfOk result (λ run. AreKept (task_of self.old.parts 0 (A.wants goal.now)
+            (A.means goal.now)) classes.items run.kept.items) }
+        ensures ledgers { IfOk result (λ run. AreKeptByLedgers (task_of self.old.parts 0
+            (A.wants goal.now) (A.means goal.now)) stretches workers classes.items
+            run.kept.items) }
+        ensures refused { IfErr result (IsStretchesFault (task_of self.old.parts 0
+            (A.wants goal.now) (A.means goal.now)) (stretch_size (length classes.items) stretches)
+            classes.items stretches workers (G.passing gate.now) (G.stops gate.now)) }
+        ensures same { self.new ≡ self.old }
     {
         match &self.apart {
-            None => run_part(rt, alloc, &self.job, part, parts, workers, gate),
+            None => {
+                let done = run_list_for(
+                    rt, alloc, &self.job, 0, classes, stretches, workers, goal, gate,
+                )?;
+                let ListRun {
+                    classes,
+                    kept,
+                    ledger: _ledger,
+                } = done;
+                Ok(ListKept { classes, kept })
+            }
             Some(tests) => {
-                let blocks = window_blocks(self.job.circuit().signals());
+                let step = window_blocks(self.job.circuit().signals());
                 let job = &mut self.job;
-                run_part_in_windows(rt, alloc, job, tests, blocks, part, parts, workers, gate)
+                let all = classes.as_slice();
+                let kept = run_windows(
+                    rt, alloc, job, tests, step, all, false, workers, goal, gate,
+                )?;
+                Ok(ListKept { classes, kept })
+            }
+        }
+    }
+
+    /// Lets a reader read the fault-free words of all tests: of all blocks at once if the tests are
+    /// the job's own, and else window by window. At most as many threads as there are workers
+    /// compute the words of a window. It fails only for memory, and then the reader has read some
+    /// of the windows.
+    pub fn read_words<V: WordReader, R: Threads + Wait>(
+        &mut self,
+        rt: &R,
+        alloc: Global,
+        workers: u32,
+        reader: &mut V,
+    ) -> Result<(), RunFault>
+        requires { V.gathered reader.old self.old.parts 0 }
+        ensures gathered { OnOk result (V.gathered reader.new self.old.parts
+            (64 * blocks (length self.old.parts.tests.tests))) }
+        ensures refused { IfErr result (λ fault. fault ≡ RunFault.Memory) }
+        ensures same { self.new ≡ self.old }
+    {
+        match &self.apart {
+            None => {
+                let _tests = self.job.tests();
+                reader.read(&self.job);
+                Ok(())
+            }
+            Some(tests) => {
+                let step = window_blocks(self.job.circuit().signals());
+                read_in_windows(rt, alloc, &mut self.job, tests, step, workers, reader)
             }
         }
     }

@@ -14,17 +14,15 @@ ghost use Rattle.fault_ledger.specs.Seats.{ClosedFace};
 ghost use Rattle.workers.specs.Stops.{no_stop};
 ghost use Rattle.workers.specs.Verdict.{AreAfterHits, AreFirsts};
 ghost use Rattle.region_sim.specs.ClassOrder.{AreAllByRegion};
-ghost use Rattle.region_runs.specs.Part.{ArePartVerdicts};
-ghost use Rattle.region_runs.specs.Refused.{ArePartsWithin, IsOpenFault, IsPartFault, IsPartsFault};
-ghost use Rattle.region_runs.specs.Refused.{IsPartWithin};
+ghost use Rattle.region_runs.specs.Refused.{ArePartsWithin, IsOpenFault, IsPartsFault};
 ghost use Rattle.region_runs.specs.Tasks.{AreKept, IsOpenAtFirst, task_of};
 ghost use Rattle.region_runs.specs.WindowLedgers.{AreFoundByLedger, AreOfWindows};
-ghost use Rattle.region_runs.specs.WindowLedgers.{IsOfWindows, IsPartOfWindows};
+ghost use Rattle.region_runs.specs.WindowLedgers.{IsOfWindows};
 ghost use Rattle.region_runs.specs.Windows.{AreKeptBelow, AreWordsFrom, GoesOnFrom, IsWindowOf};
 
-use crate::class_order::{count_in, part_classes};
+use crate::class_order::count_in;
 use crate::fault_firsts::{OrderedFirsts, verdicts_in};
-use crate::parts::{ListRun, PartVerdict, by_class, of_faults, run_list_for};
+use crate::parts::{ListRun, run_list_for};
 use crate::stretch_workers::starts;
 use crate::stretches::stretches_for;
 use crate::window_goal::{WindowGoal, join_window, open_classes};
@@ -60,18 +58,18 @@ pub fn window_blocks(signals: u32) -> u32
 
 /// The blocks of a window.
 #[derive(Clone, Copy, Debug, PartialEq, Eq)]
-struct Window {
+pub(crate) struct Window {
     /// The block with which it begins: the one before its first, if there is one.
-    from: u32,
+    pub(crate) from: u32,
     /// The first block that no window before has.
-    first: u32,
+    pub(crate) first: u32,
     /// The block after its last.
-    end: u32,
+    pub(crate) end: u32,
 }
 
 impl Window {
     /// Returns the window of a number, counted from 0, if windows go on by `step` blocks.
-    fn new(number: u32, step: u32, blocks: u32) -> Window
+    pub(crate) fn new(number: u32, step: u32, blocks: u32) -> Window
         requires step { (0 < step) × (step ≤ 2047) }
         requires few { blocks ≤ 1024 }
         requires within { number * step < blocks }
@@ -209,7 +207,7 @@ where
 }
 
 /// Gives a job no tests, so that its fault-free words take no memory.
-fn forget_tests(alloc: Global, job: &mut Job) -> Result<(), AllocError>
+pub(crate) fn forget_tests(alloc: Global, job: &mut Job) -> Result<(), AllocError>
     ensures none { OnOk result (job.new.tests.tests ≡ []) }
     ensures kept { job.new ≡ with_tests job.old job.new.tests }
 {
@@ -250,7 +248,7 @@ fn turn_to<R: Threads + Wait>(
 
 /// Gives a job the tests of a window. It forgets those of the window before first, so that the job
 /// has the fault-free words of one window at a time.
-fn take_window<R: Threads + Wait>(
+pub(crate) fn take_window<R: Threads + Wait>(
     rt: &R,
     alloc: Global,
     job: &mut Job,
@@ -425,7 +423,7 @@ where
 }
 
 /// Runs classes on a list of tests, window by window. Returns what a goal keeps of each.
-fn run_windows<A: WindowGoal + Sync, G: Gate + Sync, R: Threads + Wait>(
+pub(crate) fn run_windows<A: WindowGoal + Sync, G: Gate + Sync, R: Threads + Wait>(
     rt: &R,
     alloc: Global,
     job: &mut Job,
@@ -597,61 +595,5 @@ pub fn run_in_windows<G: Gate + Sync, R: Threads + Wait>(
     } = done;
     let ordered = OrderedFirsts { positions, firsts };
     let verdicts = verdicts_in(rt, alloc, job, &ordered, blocks, workers)?;
-    Ok(verdicts)
-}
-
-/// Runs the classes of a part, counted from 0, of this number of parts, on a list of tests that is
-/// not the job's own, window by window as [`run_in_windows`] does. Returns what
-/// [`crate::run_part`] returns for a job with these tests.
-///
-/// # Errors
-///
-/// The errors of [`crate::run_part`]. No run ends unfinished.
-pub fn run_part_in_windows<G: Gate + Sync, R: Threads + Wait>(
-    rt: &R,
-    alloc: Global,
-    job: &mut Job,
-    tests: &Tests,
-    blocks_of_window: u32,
-    part: u32,
-    parts: u32,
-    workers: u32,
-    gate: &G,
-) -> Result<Vec<PartVerdict>, RunFault>
-    requires passing { G.passing gate.now }
-    requires window { 0 < blocks_of_window }
-    requires part { part < parts }
-    requires list { IsTestList tests.now }
-    requires width { tests.now.width ≡ length (sources job.old.circuit) }
-    ensures verdicts { IfOk result (λ verdicts.
-        ArePartVerdicts (with_tests job.old tests.now) parts part verdicts.items) }
-    ensures workers { OnOk result ((0 < workers) × (workers ≤ 64)) }
-    ensures within { OnOk result (IsPartWithin (with_tests job.old tests.now) parts part) }
-    ensures ledgers { IfOk result (λ verdicts. IsPartOfWindows (with_tests job.old tests.now) parts
-        part workers verdicts.items) }
-    ensures none { OnOk result (job.new.tests.tests ≡ []) }
-    ensures refused { IfErr result
-        (IsPartFault (with_tests job.old tests.now) parts part workers ⊤ no_stop) }
-    ensures kept { (some : TestList) × (job.new ≡ with_tests job.old some) }
-{
-    check_workers(workers)?;
-    let own = part_classes(alloc, job, part, parts)?;
-    check_pieces_of(count_in(job, own.as_slice()), tests.blocks())?;
-    let step = blocks_of_window.min(MAX_TESTS / BLOCK_SIZE);
-    let firsts = run_windows(
-        rt,
-        alloc,
-        job,
-        tests,
-        step,
-        own.as_slice(),
-        false,
-        workers,
-        &FirstTest,
-        gate,
-    )?;
-    let count = job.classes().count();
-    let table = by_class(alloc, count, own.as_slice(), firsts.as_slice())?;
-    let verdicts = of_faults(alloc, job, table.as_slice())?;
     Ok(verdicts)
 }

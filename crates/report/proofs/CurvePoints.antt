@@ -11,14 +11,8 @@ use Rattle.std.proofs.lemmas.List.Elements.{filter-append}
 use Rattle.std.proofs.lemmas.List.Sums.{count_by-le-length, sum_by-cons, sum_by_more}
 use Rattle.std.proofs.lemmas.Option.{get_or_from_slice_get}
 use Rattle.std.specs.Prelude.{slice_get}
-use Rattle.std.proofs.Common.{subst}
 use Rattle.std.proofs.Math.Seq.{take-append_seam}
 use Rattle.list_lemmas.proofs.Places.{place_within}
-use Rattle.fault_model.specs.declared.Model.{Model}
-use Rattle.block_sim.specs.Parts.{Parts}
-use Rattle.workers.specs.Verdict.{AreFirsts}
-use Rattle.job_loading.specs.Jobs.{IsJobOf}
-use Rattle.report.specs.Curve.{IsCurveOf, IsCurveOfJob}
 use Rattle.patterns.specs.Least.{below, from_up}
 use Rattle.compaction.specs.Compaction.{finds, is_first}
 use Rattle.report.specs.Curve.{counts_at, curve, found_by, is_found_by, news_at, point_at}
@@ -155,16 +149,3 @@ news_more firsts t i first at =
 -- the vector after its slice was overwritten
 pub written_over : (n : ℕ) (new old : List ℕ) → n ≡ length new → take n (new ++ old) ≡ new
 written_over n new old e = ap (λ k. take k (new ++ old)) e ∙ take-append_seam new old
-
--- the curve of a job of files is the curve of the files
-pub curve_of_texts : (m : Model) (bench text : List ℕ) (job : Parts) → IsJobOf m bench text job
-    → (bytes : List ℕ) → IsCurveOfJob job bytes → IsCurveOf m bench text bytes
-curve_of_texts m bench text job is bytes of_job = (
-  job.circuit,
-  job.tests,
-  of_job.0,
-  is.0,
-  is.1,
-  subst (λ k. AreFirsts k job.circuit job.tests.tests of_job.0) is.3 of_job.1,
-  of_job.2,
-)

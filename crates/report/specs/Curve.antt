@@ -1,12 +1,7 @@
 -- The curve of a run: the number of faults that are detected up to each test.
 use Rattle.std.specs.Prelude.{◌≡◌, ℕ, nat_le, Bool, false, List, ◌++◌, map, filter, flat_map}
 use Rattle.std.specs.Prelude.{length, Option, Some, None, count_by, codes, decimal, if◌then◌else◌}
-use Rattle.bench_net.specs.Statement.{Statement}
-use Rattle.bench_net.specs.Scan.{sources}
-use Rattle.bench_net.specs.Refusal.{IsAccepted}
-use Rattle.fault_model.specs.declared.Model.{Model}
 use Rattle.patterns.specs.Least.{below}
-use Rattle.patterns.specs.Tests.{TestList, HasTests}
 use Rattle.block_sim.specs.Parts.{Parts}
 use Rattle.workers.specs.Verdict.{AreFirsts, detected_count}
 use Rattle.compaction.specs.Compaction.{finds, is_first}
@@ -50,13 +45,6 @@ point_line total point = decimal point.test ++ codes " " ++ decimal point.detect
 abbrev pub curve_text : List CurvePoint → List (Option ℕ) → List ℕ
 curve_text points firsts = flat_map (point_line (length firsts)) points
     ++ coverage_line (detected_count firsts) (length firsts)
-
--- the bytes are the curve of a bench file and a test file under a model
-abbrev pub IsCurveOf : Model → List ℕ → List ℕ → List ℕ → Type 0
-IsCurveOf m bench text bytes = (c : List Statement) × (tests : TestList)
-    × (firsts : List (Option ℕ)) × IsAccepted bench c
-    × HasTests text (length (sources c)) tests × AreFirsts m c tests.tests firsts
-    × (bytes ≡ curve_text (curve (length tests.tests) firsts) firsts)
 
 -- the bytes are the curve of a job
 abbrev pub IsCurveOfJob : Parts → List ℕ → Type 0

@@ -4,25 +4,22 @@ ghost use Rattle.std.specs.Prelude.{◌≡◌, ◌+◌, ◌-◌, ◌<◌, ◌≤
 ghost use Rattle.std.specs.Prelude.{OnOk, true};
 ghost use Rattle.std.specs.List.{flat_map};
 ghost use Rattle.block_sim.specs.Parts.{BelongTogether};
-ghost use Rattle.job_loading.specs.Splits.{HasSomePart};
 ghost use Rattle.byte_output.specs.Output.{Writes};
-ghost use Rattle.report.specs.Curve.{IsCurveOf, IsCurveOfJob, curve, curve_text};
+ghost use Rattle.report.specs.Curve.{IsCurveOfJob, curve, curve_text};
 ghost use Rattle.report.specs.Curve.{counts_at, news_at, point_line};
-ghost use Rattle.report.specs.EndToEnd.{IsJobTextFault, IsReportFault, IsWatchedFault};
-ghost use Rattle.report.specs.EndToEnd.{IsWithin, WritesOneOf};
+ghost use Rattle.report.specs.EndToEnd.{IsJobTextFault, WritesOneOf};
 ghost use Rattle.region_runs.specs.Refused.{ArePartsWithin, IsPartsFault};
 
 use crate::report::{hundredths, put_coverage};
 use block_sim::Job;
 use byte_output::{Out, OutFailed, put_pieces};
-use fault_model::Model;
 use fault_model::laws::stems;
 use itoa::Buffer;
-use job_loading::{ReportFault, RunJob, SimFault, Split, Watch, split_run_of};
+use job_loading::{ReportFault, RunJob, SimFault, Watch};
 use std::alloc::{AllocError, Global};
 use std::sync::Wait;
 use std::thread::Threads;
-use workers::{OpenGate, Verdicts};
+use workers::Verdicts;
 
 /// A test that is the first to detect some fault, and the number of faults that this test and the
 /// tests before it detect. Tests count from 0.
@@ -36,11 +33,9 @@ pub struct CurvePoint {
     pub detected: u32,
 }
 
-/// Reads a circuit and tests for it, and writes the curve of the faults of a model. The curve has a
-/// line `TEST DETECTED P.PP` for each test that is the first to detect some fault, in order. The
-/// coverage line follows. The function works as [`crate::simulate_text_in`] does.
-///
-/// It fails as [`crate::simulate_text_in`] does, in the same order.
+/// Runs a job in a number of parts by workers in threads of their own, and writes its curve, as
+/// [`crate::write_report_of_run`] writes its report. The curve has a line `TEST DETECTED P.PP` for
+/// each test that is the first to detect some fault, in order. The coverage line follows.
 ///
 /// # Examples
 ///
@@ -52,59 +47,6 @@ pub struct CurvePoint {
 /// 3 5 83.33
 /// 5 of 6 (83.33%)
 /// ```
-pub fn curve_text_in<R: Threads + Wait, W: Out>(
-    rt: &R,
-    alloc: Global,
-    model: Model,
-    bench: &[u8],
-    tests: &[u8],
-    workers: u32,
-    out: &mut W,
-) -> Result<(), SimFault>
-    ensures written { WritesOneOf (IsCurveOf model bench.now tests.now) result (W.seen out.old)
-        (W.seen out.new) }
-    ensures refused { IfErr result (IsReportFault model bench.now tests.now workers) }
-    ensures workers { OnOk result ((0 < workers) × (workers ≤ 64)) }
-{
-    let split = Split::Whole;
-    curve_text_watched(
-        rt, alloc, model, bench, tests, split, workers, &OpenGate, out,
-    )
-}
-
-/// Reads a circuit and tests for it, and writes the curve that [`curve_text_in`] writes, with the
-/// same bytes, for each split of the run. It calls the gate when the run begins and when it ends,
-/// and asks it before each piece of work. The gate decides whether there is a curve, but not its
-/// bytes. It runs window by window as [`crate::simulate_text_watched`] does.
-///
-/// It fails as [`crate::simulate_text_watched`] does.
-pub fn curve_text_watched<R: Threads + Wait, G: Watch + Sync, W: Out>(
-    rt: &R,
-    alloc: Global,
-    model: Model,
-    bench: &[u8],
-    tests: &[u8],
-    split: Split,
-    workers: u32,
-    gate: &G,
-    out: &mut W,
-) -> Result<(), SimFault>
-    requires { HasSomePart split }
-    ensures written { WritesOneOf (IsCurveOf model bench.now tests.now) result (W.seen out.old)
-        (W.seen out.new) }
-    ensures refused { IfErr result (IsWatchedFault model bench.now tests.now split workers
-        (G.passing gate.now) (G.stops gate.now)) }
-    ensures workers { OnOk result ((0 < workers) × (workers ≤ 64)) }
-    ensures within { OnOk result (IsWithin model bench.now tests.now split) }
-{
-    let apart = gate.lets_all_pass();
-    let (run, parts) = split_run_of(rt, alloc, model, bench, tests, split, apart, workers)?;
-    let mut run = run;
-    write_curve_of_run(rt, alloc, &mut run, parts, workers, gate, out)
-}
-
-/// Runs a job in a number of parts by workers in threads of their own, and writes its curve, as
-/// [`crate::write_report_of_run`] writes its report.
 pub fn write_curve_of_run<R: Threads + Wait, G: Watch + Sync, W: Out>(
     rt: &R,
     alloc: Global,

@@ -23,9 +23,7 @@ mod watched;
 pub use byte_output::{Formatted, Out, OutFailed, Plain};
 pub use contents::{Contents, Lines};
 pub use counts::{RunCounts, count_run};
-pub use curve::{
-    CurvePoint, curve_of, curve_text_in, curve_text_watched, write_curve, write_curve_of_run,
-};
+pub use curve::{CurvePoint, curve_of, write_curve, write_curve_of_run};
 pub use in_threads::write_report_in_threads;
 pub use job_loading::{
     ReasonCounts, ReportFault, SimFault, Split, Watch, job_of, job_of_in_threads,

@@ -1,16 +1,13 @@
 -- The rows of tables of a curve from their numbers, given as texts; and the step from the curve of
 -- a job to the table of the files that the job was read from.
 use Rattle.std.proofs.Common.{◌≡◌, ◌∙◌, ◌<◌, ◌*◌, ◌/◌, ◌%◌, ◌++◌, [], ℕ, List, ap, append_assoc}
-use Rattle.std.proofs.Common.{arith, length, subst, sym}
+use Rattle.std.proofs.Common.{arith, length, sym}
 use Rattle.std.specs.Prelude.{Option, codes, decimal}
 use Rattle.std.proofs.lemmas.Fmt.{decimal_digit}
-use Rattle.fault_model.specs.declared.Model.{Model}
 use Rattle.block_sim.specs.Parts.{BelongTogether, Parts}
 use Rattle.workers.specs.Verdict.{AreFirsts}
-use Rattle.job_loading.specs.Jobs.{IsJobOf}
 use Rattle.report.specs.declared.curve.CurvePoint.{CurvePoint}
-use Rattle.tables.specs.declared.table.Format.{Format}
-use Rattle.tables.specs.CurveTables.{IsCurveTableOf, IsCurveTableOfJob, csv_point, json_point}
+use Rattle.tables.specs.CurveTables.{csv_point, json_point}
 use Rattle.tables.specs.Tables.{coverage_object}
 
 module _ (total : ℕ) (point : CurvePoint) (a b d whole tens ones : List ℕ)
@@ -45,20 +42,6 @@ sums_pieces found total a b whole tens ones e f g h i =
     let small : 10000 * found / total % 100 / 10 < 10 = omega arith in
     let last : 10000 * found / total % 100 % 10 < 10 = omega arith in
     rw (e, f, g, h, i, decimal_digit _ small, decimal_digit _ last) (simp append_assoc)
-
--- the table of a job's curve is the table of the files
-pub curve_of_texts : (m : Model) (bench text : List ℕ) (job : Parts) (format : Format)
-    → IsJobOf m bench text job → (bytes : List ℕ) → IsCurveTableOfJob job format bytes
-    → IsCurveTableOf m bench text format bytes
-curve_of_texts m bench text job format is bytes of_job = (
-  job.circuit,
-  job.tests,
-  of_job.0,
-  is.0,
-  is.1,
-  subst (λ k. AreFirsts k job.circuit job.tests.tests of_job.0) is.3 of_job.1,
-  of_job.2,
-)
 
 -- a run's verdicts are one for each fault of the job
 pub firsts_counted : (job : Parts) (firsts : List (Option ℕ)) → BelongTogether job

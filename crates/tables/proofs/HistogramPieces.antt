@@ -1,19 +1,15 @@
 -- The rows of tables of a histogram; and the step from the histogram of a job to the table of the
 -- files that the job was read from.
 use Rattle.std.proofs.Common.{◌≡◌, ◌<◌, ◌+◌, ◌∙◌, ◌++◌, [], ℕ, List, ap, arith, get_or, length}
-use Rattle.std.proofs.Common.{refl, subst, sym, take}
+use Rattle.std.proofs.Common.{refl, sym, take}
 use Rattle.std.proofs.lemmas.Option.{get_or_from_slice_get, slice_get-get_or, slice_get_within}
 use Rattle.std.specs.Prelude.{Some, codes, decimal, slice_get, zip}
 use Rattle.std.specs.List.{flat_map}
-use Rattle.fault_model.specs.declared.Model.{Model}
 use Rattle.patterns.specs.Least.{below}
 use Rattle.patterns.proofs.Public.{get_or-below, length-below}
-use Rattle.block_sim.specs.Parts.{Parts}
-use Rattle.n_detect.specs.Detections.{AreCounts}
 use Rattle.byte_output.proofs.Public.{flat_map_taken}
-use Rattle.job_loading.specs.Jobs.{IsJobOf}
 use Rattle.tables.specs.declared.table.Format.{Format}
-use Rattle.tables.specs.HistogramTables.{IsHistogramTableOf, IsHistogramTableOfJob, count_row}
+use Rattle.tables.specs.HistogramTables.{count_row}
 use Rattle.tables.specs.HistogramTables.{csv_count, json_count}
 use Rattle.tables.proofs.RowsByPairs.{zipped_at}
 
@@ -44,18 +40,3 @@ count_added format faults i lt =
     flat_map_taken (count_row format) pairs i (0, 0) (count_row format pair)
     (slice_get_within pairs i pair at)
     (ap (count_row format) (sym (get_or_from_slice_get pairs i pair (0, 0) at)))
-
--- the table of a job's histogram is the table of the files
-pub histogram_of_texts : (m : Model) (bench text : List ℕ) (most : ℕ) (format : Format)
-    (job : Parts) → IsJobOf m bench text job → (bytes : List ℕ)
-    → IsHistogramTableOfJob job most format bytes
-    → IsHistogramTableOf m bench text most format bytes
-histogram_of_texts m bench text most format job of bytes of_job = (
-  job.circuit,
-  job.tests,
-  of_job.0,
-  of.0,
-  of.1,
-  subst (λ k. AreCounts k job.circuit job.tests.tests most of_job.0) of.3 of_job.1,
-  of_job.2,
-)

@@ -1,19 +1,17 @@
 -- Tables of the undetected faults with their reasons.
 use Rattle.std.proofs.Common.{◌≡◌, ◌+◌, ◌∙◌, ◌++◌, [], ℕ, List, ap, append-nil, length, refl}
-use Rattle.std.proofs.Common.{subst, sym, take}
+use Rattle.std.proofs.Common.{sym, take}
 use Rattle.std.proofs.lemmas.Option.{get_or_from_slice_get, slice_get_within}
 use Rattle.std.specs.Prelude.{None, Option, Some, slice_get, zip}
 use Rattle.bench_net.specs.Statement.{Statement}
-use Rattle.fault_model.specs.declared.Model.{Model}
 use Rattle.fault_model.specs.Fault.{Fault, FaultList, fault_list, faults}
 use Rattle.block_sim.specs.Parts.{BelongTogether, Parts}
 use Rattle.byte_output.proofs.Public.{flat_map_taken}
 use Rattle.workers.specs.Verdict.{AreFirsts}
-use Rattle.job_loading.specs.Jobs.{IsJobOf}
 use Rattle.undetected.specs.declared.Reason.{Reason}
 use Rattle.undetected.specs.Reasons.{AreReasons}
 use Rattle.tables.specs.declared.table.Format.{Format}
-use Rattle.tables.specs.Reasons.{IsReasonTableOf, IsReasonTableOfJob, reason_row, reason_rows}
+use Rattle.tables.specs.Reasons.{IsReasonTableOfJob, reason_row, reason_rows}
 use Rattle.tables.specs.Reasons.{reason_table}
 use Rattle.tables.specs.Rows.{RowCells, row_cells}
 use Rattle.tables.proofs.RowsByPairs.{zipped_at}
@@ -56,28 +54,6 @@ reasons_table job firsts reasons format listed are why bytes is = (
   why,
   is ∙ ap (λ l. reason_table format job.circuit l firsts reasons) (ap (λ l. l.list) listed),
 )
-
--- the table of the job of files
-pub reasons_of_texts : (m : Model) (bench text : List ℕ) (job : Parts) (format : Format)
-    → IsJobOf m bench text job → (bytes : List ℕ) → IsReasonTableOfJob job format bytes
-    → IsReasonTableOf m bench text format bytes
-reasons_of_texts m bench text job format is bytes of_job =
-    let firsts = of_job.0 in
-    let reasons = of_job.1 in
-    let are = subst (λ k. AreFirsts k job.circuit job.tests.tests firsts) is.3 of_job.2 in
-    let why = subst (λ k. AreReasons k job.circuit job.tests.tests firsts reasons) is.3
-    of_job.3 in (
-      job.circuit,
-      job.tests,
-      firsts,
-      reasons,
-      is.0,
-      is.1,
-      are,
-      why,
-      of_job.4 ∙ ap (λ k. reason_table format job.circuit (faults k job.circuit) firsts reasons)
-          is.3,
-    )
 
 -- as many reasons as faults
 pub as_many : (job : Parts) (firsts : List (Option ℕ)) (reasons : List (Option Reason))

@@ -10,13 +10,12 @@ use Rattle.fault_model.specs.Fault.{FaultList, fault_list, faults}
 use Rattle.workers.specs.Verdict.{AreFirsts}
 use Rattle.job_loading.specs.declared.fault.SimFault.{SimFault}
 use Rattle.job_loading.specs.declared.fault.SimFault.TheVariants as fault
-use Rattle.job_loading.specs.Jobs.{IsJobOf}
 use Rattle.byte_output.specs.Output.{Output}
 use Rattle.report.specs.declared.contents.Lines.{Lines}
 use Rattle.report.specs.EndToEnd.{IsListingFault, WritesOneOf}
 use Rattle.tables.specs.declared.table.Format.{Format}
 use Rattle.report.specs.EndToEnd.{IsListFault}
-use Rattle.tables.specs.Tables.{IsClassTableOf, IsClassTableOfCircuit, IsFirstTableOf}
+use Rattle.tables.specs.Tables.{IsClassTableOf, IsClassTableOfCircuit}
 use Rattle.tables.specs.Tables.{IsFirstTableOfJob, IsTable, class_column, first_column, table_text}
 
 -- a text of one kind is a text of another kind
@@ -75,19 +74,3 @@ firsts_table job firsts lines format listed are bytes is = (
   is ∙ ap (λ l. table_text format job.circuit l (first_column firsts lines))
       (ap (λ l. l.list) listed),
 )
-
--- the table of the job of files
-pub firsts_of_texts : (m : Model) (bench text : List ℕ) (job : Parts) (lines : Lines)
-    (format : Format) → IsJobOf m bench text job → (bytes : List ℕ)
-    → IsFirstTableOfJob job lines format bytes → IsFirstTableOf m bench text lines format bytes
-firsts_of_texts m bench text job lines format is bytes of_job =
-    let are = subst (λ k. AreFirsts k job.circuit job.tests.tests of_job.0) is.3 of_job.1 in (
-      job.circuit,
-      job.tests,
-      of_job.0,
-      is.0,
-      is.1,
-      are,
-      of_job.2 ∙ ap (λ k. table_text format job.circuit (faults k job.circuit)
-          (first_column of_job.0 lines)) is.3,
-    )

@@ -1,11 +1,6 @@
 -- The bytes of tables of the curve of a run.
 use Rattle.std.specs.Prelude.{◌≡◌, ℕ, List, ◌++◌, codes, decimal, drop, flat_map, length}
 use Rattle.std.specs.Prelude.{Option}
-use Rattle.bench_net.specs.Refusal.{IsAccepted}
-use Rattle.bench_net.specs.Scan.{sources}
-use Rattle.bench_net.specs.Statement.{Statement}
-use Rattle.fault_model.specs.declared.Model.{Model}
-use Rattle.patterns.specs.Tests.{HasTests, TestList}
 use Rattle.block_sim.specs.Parts.{Parts}
 use Rattle.workers.specs.Verdict.{AreFirsts, detected_count}
 use Rattle.report.specs.declared.curve.CurvePoint.{CurvePoint}
@@ -47,15 +42,7 @@ curve_table Csv points detected total = points_csv (flat_map (point_row Csv tota
 curve_table Json points detected total =
     points_json detected total (flat_map (point_row Json total) points)
 
--- the bytes are the table of the curve of a bench file and a test file under a model
-abbrev pub IsCurveTableOf : Model → List ℕ → List ℕ → Format → List ℕ → Type 0
-IsCurveTableOf m bench text format bytes = (c : List Statement) × (tests : TestList)
-    × (firsts : List (Option ℕ)) × IsAccepted bench c
-    × HasTests text (length (sources c)) tests × AreFirsts m c tests.tests firsts
-    × (bytes ≡ curve_table format (curve (length tests.tests) firsts) (detected_count firsts)
-    (length firsts))
-
--- the same for a job
+-- the bytes are the table of the curve of a job
 abbrev pub IsCurveTableOfJob : Parts → Format → List ℕ → Type 0
 IsCurveTableOfJob job format bytes = (firsts : List (Option ℕ))
     × AreFirsts job.list.model job.circuit job.tests.tests firsts

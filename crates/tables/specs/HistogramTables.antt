@@ -1,11 +1,6 @@
 -- The bytes of tables of how many faults each number of tests detects.
 use Rattle.std.specs.Prelude.{◌≡◌, ℕ, List, ◌++◌, codes, decimal, drop, flat_map, length, zip}
-use Rattle.bench_net.specs.Refusal.{IsAccepted}
-use Rattle.bench_net.specs.Scan.{sources}
-use Rattle.bench_net.specs.Statement.{Statement}
-use Rattle.fault_model.specs.declared.Model.{Model}
 use Rattle.patterns.specs.Least.{below}
-use Rattle.patterns.specs.Tests.{HasTests, TestList}
 use Rattle.block_sim.specs.Parts.{Parts}
 use Rattle.n_detect.specs.Detections.{AreCounts}
 use Rattle.analysis_reports.specs.Detected.{reached_count}
@@ -45,16 +40,7 @@ abbrev pub histogram_table : Format → List ℕ → ℕ → ℕ → List ℕ
 histogram_table Csv faults reached total = counts_csv (count_rows Csv faults)
 histogram_table Json faults reached total = counts_json reached total (count_rows Json faults)
 
--- the bytes are the table of the histogram of a bench file and a test file under a model, for
--- counts up to a number
-abbrev pub IsHistogramTableOf : Model → List ℕ → List ℕ → ℕ → Format → List ℕ → Type 0
-IsHistogramTableOf m bench text most format bytes = (c : List Statement) × (tests : TestList)
-    × (counts : List ℕ) × IsAccepted bench c × HasTests text (length (sources c)) tests
-    × AreCounts m c tests.tests most counts
-    × (bytes ≡ histogram_table format (histogram most counts) (reached_count most counts)
-    (length counts))
-
--- the same for a job
+-- the bytes are the table of the histogram of a job's counts
 abbrev pub IsHistogramTableOfJob : Parts → ℕ → Format → List ℕ → Type 0
 IsHistogramTableOfJob job most format bytes = (counts : List ℕ)
     × AreCounts job.list.model job.circuit job.tests.tests most counts

@@ -4,12 +4,8 @@ use Rattle.std.specs.Prelude.{Option, Some, None, zip}
 use Rattle.std.specs.List.{flat_map}
 use Rattle.csv.specs.Writing.{default_writer, row_text}
 use Rattle.json.specs.Print.{quoted}
-use Rattle.bench_net.specs.Refusal.{IsAccepted}
-use Rattle.bench_net.specs.Scan.{sources}
 use Rattle.bench_net.specs.Statement.{Statement}
-use Rattle.fault_model.specs.declared.Model.{Model}
 use Rattle.fault_model.specs.Fault.{Fault, faults}
-use Rattle.patterns.specs.Tests.{HasTests, TestList}
 use Rattle.block_sim.specs.Parts.{Parts}
 use Rattle.workers.specs.Verdict.{AreFirsts, detected_count}
 use Rattle.undetected.specs.declared.Reason.{Reason}
@@ -69,16 +65,7 @@ abbrev pub reason_table : Format → List Statement → List Fault → List (Opt
 reason_table Csv c list firsts reasons = reason_csv c (zip list reasons)
 reason_table Json c list firsts reasons = reason_json c list firsts reasons
 
--- the bytes are the table of the undetected faults of a run of a bench file and a test file under a
--- model: each with the reason why no test detects it
-abbrev pub IsReasonTableOf : Model → List ℕ → List ℕ → Format → List ℕ → Type 0
-IsReasonTableOf m bench text format bytes = (c : List Statement) × (tests : TestList)
-    × (firsts : List (Option ℕ)) × (reasons : List (Option Reason)) × IsAccepted bench c
-    × HasTests text (length (sources c)) tests × AreFirsts m c tests.tests firsts
-    × AreReasons m c tests.tests firsts reasons
-    × (bytes ≡ reason_table format c (faults m c) firsts reasons)
-
--- the same for a job
+-- the bytes are the table of the undetected faults of a job, each with its reason
 abbrev pub IsReasonTableOfJob : Parts → Format → List ℕ → Type 0
 IsReasonTableOfJob job format bytes = (firsts : List (Option ℕ)) × (reasons : List (Option Reason))
     × AreFirsts job.list.model job.circuit job.tests.tests firsts

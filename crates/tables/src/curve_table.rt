@@ -3,9 +3,8 @@
 ghost use Rattle.std.specs.Prelude.{◌≡◌, ◌<◌, ◌≤◌, ◌++◌, codes, IfErr, IfOk, OnOk, true};
 ghost use Rattle.std.specs.List.{flat_map};
 ghost use Rattle.block_sim.specs.Parts.{BelongTogether};
-ghost use Rattle.job_loading.specs.Splits.{HasSomePart};
-ghost use Rattle.report.specs.EndToEnd.{IsJobTextFault, IsWatchedFault, IsWithin, WritesOneOf};
-ghost use Rattle.tables.specs.CurveTables.{IsCurveTableOf, IsCurveTableOfJob, csv_point};
+ghost use Rattle.report.specs.EndToEnd.{IsJobTextFault, WritesOneOf};
+ghost use Rattle.tables.specs.CurveTables.{IsCurveTableOfJob, csv_point};
 ghost use Rattle.tables.specs.CurveTables.{curve_table, json_point, point_row, points_csv};
 ghost use Rattle.tables.specs.CurveTables.{points_json};
 ghost use Rattle.tables.specs.Tables.{coverage_object};
@@ -13,23 +12,19 @@ ghost use Rattle.region_runs.specs.Refused.{ArePartsWithin, IsPartsFault};
 
 use crate::json_table::{add_pieces, hundredths, without_first};
 use crate::table::{Format, put_text};
-use fault_model::Model;
 use fault_model::laws::stems;
 use itoa::Buffer;
-use job_loading::{RunJob, split_run_of};
-use report::{CurvePoint, Out, SimFault, Split, Watch, curve_of};
+use job_loading::RunJob;
+use report::{CurvePoint, Out, SimFault, Watch, curve_of};
 use std::alloc::{AllocError, Global};
 use std::sync::Wait;
 use std::thread::Threads;
 
-/// Reads a circuit and tests for it, and writes a table of the curve of the faults of a model. It
-/// has a row for each test that is the first to detect some fault, in order. A row has the test's
-/// number from 0 and the number of faults that it is the first to detect. Then it has the number of
-/// faults that it and the tests before it detect, also in percent.
-///
-/// # Errors
-///
-/// The errors of `report::curve_text_watched`, which also describes the split and the gate.
+/// Runs a job in a number of parts by workers in threads of their own, and writes a table of its
+/// curve, as `report::write_report_of_run` writes its report. The table has a row for each test that
+/// is the first to detect some fault, in order. A row has the test's number from 0 and the number of
+/// faults that it is the first to detect. Then it has the number of faults that it and the tests
+/// before it detect, also in percent.
 ///
 /// # Examples
 ///
@@ -41,34 +36,6 @@ use std::thread::Threads;
 /// 1,1,2,33.33
 /// 3,3,5,83.33
 /// ```
-pub fn curve_table_watched<R: Threads + Wait, G: Watch + Sync, W: Out>(
-    rt: &R,
-    alloc: Global,
-    model: Model,
-    bench: &[u8],
-    tests: &[u8],
-    split: Split,
-    workers: u32,
-    format: Format,
-    gate: &G,
-    out: &mut W,
-) -> Result<(), SimFault>
-    requires { HasSomePart split }
-    ensures written { WritesOneOf (IsCurveTableOf model bench.now tests.now format) result
-        (W.seen out.old) (W.seen out.new) }
-    ensures refused { IfErr result (IsWatchedFault model bench.now tests.now split workers
-        (G.passing gate.now) (G.stops gate.now)) }
-    ensures workers { OnOk result ((0 < workers) × (workers ≤ 64)) }
-    ensures within { OnOk result (IsWithin model bench.now tests.now split) }
-{
-    let apart = gate.lets_all_pass();
-    let (run, parts) = split_run_of(rt, alloc, model, bench, tests, split, apart, workers)?;
-    let mut run = run;
-    write_curve_table_of_run(rt, alloc, &mut run, parts, workers, format, gate, out)
-}
-
-/// Runs a job in a number of parts by workers in threads of their own, and writes the table of its
-/// curve, as `report::write_report_of_run` writes its report.
 pub fn write_curve_table_of_run<R: Threads + Wait, G: Watch + Sync, W: Out>(
     rt: &R,
     alloc: Global,

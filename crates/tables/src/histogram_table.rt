@@ -3,13 +3,11 @@
 
 ghost use Rattle.std.specs.Prelude.{◌≡◌, ◌<◌, ◌≤◌, ◌^◌, ◌++◌, IfErr, IfOk, OnOk, length};
 ghost use Rattle.block_sim.specs.Parts.{BelongTogether};
-ghost use Rattle.job_loading.specs.Splits.{HasSomePart};
 ghost use Rattle.analysis_reports.specs.Detected.{reached_count};
 ghost use Rattle.region_runs.specs.Refused.{IsOpenFault};
 ghost use Rattle.report.specs.EndToEnd.{IsJobReportFault, WritesOneOf};
-ghost use Rattle.analysis_reports.specs.Detected.{IsCountedFault};
 ghost use Rattle.analysis_reports.specs.Histogram.{histogram};
-ghost use Rattle.tables.specs.HistogramTables.{IsHistogramTableOf, IsHistogramTableOfJob};
+ghost use Rattle.tables.specs.HistogramTables.{IsHistogramTableOfJob};
 ghost use Rattle.tables.specs.HistogramTables.{count_row, count_rows, counts_csv, counts_json};
 ghost use Rattle.tables.specs.HistogramTables.{csv_count, histogram_table, json_count};
 
@@ -17,23 +15,21 @@ use crate::curve_table::add_sums;
 use crate::json_table::{add_pieces, without_first};
 use crate::table::{Format, put_text};
 use analysis_reports::histogram_of;
-use fault_model::Model;
 use itoa::Buffer;
-use job_loading::split_run_of;
 use n_detect::detections;
 use region_runs::RunJob;
-use report::{Out, RunFault, SimFault, Split, Watch};
+use report::{Out, RunFault, SimFault, Watch};
 use std::alloc::{AllocError, Global};
 use std::sync::Wait;
 use std::thread::Threads;
 
-/// Reads a circuit and tests for it, and writes a table of how many faults of a model each number
-/// of tests detects. It has a row for each count from 0 to `most`. The last row counts the faults
-/// that at least `most` tests detect.
+/// Runs a job in a number of parts, and writes a table of how many faults each number of tests
+/// detects. It has a row for each count from 0 to `most`. The last row counts the faults that at
+/// least `most` tests detect.
 ///
 /// # Errors
 ///
-/// The errors of `analysis_reports::histogram_text_watched`.
+/// The errors of `analysis_reports::write_histogram_of_run`.
 ///
 /// # Examples
 ///
@@ -47,39 +43,13 @@ use std::thread::Threads;
 /// 2,0
 /// 3,1
 /// ```
-pub fn histogram_table_watched<R: Threads + Wait, G: Watch + Sync, W: Out>(
-    rt: &R,
-    alloc: Global,
-    model: Model,
-    bench: &[u8],
-    tests: &[u8],
-    split: Split,
-    most: u32,
-    workers: u32,
-    format: Format,
-    gate: &G,
-    out: &mut W,
-) -> Result<(), SimFault>
-    requires split { HasSomePart split }
-    requires passing { G.passing gate.now }
-    ensures written { WritesOneOf (IsHistogramTableOf model bench.now tests.now most format) result
-        (W.seen out.old) (W.seen out.new) }
-    ensures refused { IfErr result (IsCountedFault model bench.now tests.now split workers) }
-    ensures workers { OnOk result ((0 < workers) × (workers ≤ 64)) }
-{
-    let (made, parts) = split_run_of(rt, alloc, model, bench, tests, split, true, workers)?;
-    let mut run = made;
-    write_histogram(rt, alloc, &mut run, most, parts, workers, format, gate, out)
-}
-
-/// Counts for a run, and writes the table of the histogram.
-fn write_histogram<R: Threads + Wait, G: Watch + Sync, W: Out>(
+pub fn write_histogram_table_of_run<R: Threads + Wait, G: Watch + Sync, W: Out>(
     rt: &R,
     alloc: Global,
     run: &mut RunJob,
-    most: u32,
     parts: u32,
     workers: u32,
+    most: u32,
     format: Format,
     gate: &G,
     out: &mut W,

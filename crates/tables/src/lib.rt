@@ -16,10 +16,10 @@ mod row;
 mod summary;
 mod table;
 
-pub use curve_table::{curve_table_watched, write_curve_table_of_run};
-pub use histogram_table::histogram_table_watched;
+pub use curve_table::write_curve_table_of_run;
+pub use histogram_table::write_histogram_table_of_run;
 pub use laws::merged_table;
 pub use merged::write_merged_table;
-pub use reasons::reasons_table_watched;
+pub use reasons::write_reason_table_of_run;
 pub use summary::{Summary, summary_text};
-pub use table::{Format, faults_table_in, run_table_in, run_table_watched, write_table_of_run};
+pub use table::{Format, faults_table_in, write_table_of_run};

@@ -1,10 +1,9 @@
 //! Tables of the undetected faults with their reasons, from the bytes of files.
 
-ghost use Rattle.std.specs.Prelude.{◌≡◌, ◌<◌, ◌≤◌, IfErr, OnOk, false, length, zip};
+ghost use Rattle.std.specs.Prelude.{◌≡◌, ◌<◌, ◌≤◌, IfErr, OnOk, length, true, zip};
 ghost use Rattle.block_sim.specs.Parts.{BelongTogether};
-ghost use Rattle.job_loading.specs.Splits.{HasSomePart};
-ghost use Rattle.report.specs.EndToEnd.{IsJobTextFault, IsWatchedFault, IsWithin, WritesOneOf};
-ghost use Rattle.tables.specs.Reasons.{IsReasonTableOf, IsReasonTableOfJob, reason_csv};
+ghost use Rattle.report.specs.EndToEnd.{IsJobTextFault, WritesOneOf};
+ghost use Rattle.tables.specs.Reasons.{IsReasonTableOfJob, reason_csv};
 ghost use Rattle.tables.specs.Reasons.{reason_json, reason_table};
 ghost use Rattle.report.specs.EndToEnd.{IsListFault};
 ghost use Rattle.region_runs.specs.Refused.{ArePartsWithin, IsPartsFault};
@@ -15,22 +14,21 @@ use crate::reason_table::{reason_csv, reason_objects};
 use crate::table::{Format, put_text};
 use analysis_reports::{Reason, reason_counts};
 use block_sim::Job;
-use fault_model::Model;
-use job_loading::{RunJob, Watch, split_run_of};
-use report::{Lines, Out, SimFault, Split};
+use job_loading::{RunJob, Watch};
+use report::{Lines, Out, SimFault};
 use std::alloc::Global;
 use std::sync::Wait;
 use std::thread::Threads;
 use undetected::reasons;
 use workers::Verdicts;
 
-/// Reads a circuit and tests for it, and writes a table of the faults of a model that no test
-/// detects. Each has the reason why no test detects it. The reason is the last column, or the last
-/// member of each object.
+/// Runs a job in a number of parts, and writes a table of the faults that no test detects. Each has
+/// the reason why no test detects it. The reason is the last column, or the last member of each
+/// object.
 ///
 /// # Errors
 ///
-/// The errors of [`crate::run_table_watched`], which also describes the split and the gate.
+/// The errors of [`crate::write_table_of_run`].
 ///
 /// # Examples
 ///
@@ -40,33 +38,7 @@ use workers::Verdicts;
 /// kind,name,pin,defect,first,net,reason
 /// stem,b,,sa1,,b,not observed
 /// ```
-pub fn reasons_table_watched<R: Threads + Wait, G: Watch + Sync, W: Out>(
-    rt: &R,
-    alloc: Global,
-    model: Model,
-    bench: &[u8],
-    tests: &[u8],
-    split: Split,
-    workers: u32,
-    format: Format,
-    gate: &G,
-    out: &mut W,
-) -> Result<(), SimFault>
-    requires { HasSomePart split }
-    ensures written { WritesOneOf (IsReasonTableOf model bench.now tests.now format) result
-        (W.seen out.old) (W.seen out.new) }
-    ensures refused { IfErr result (IsWatchedFault model bench.now tests.now split workers
-        (G.passing gate.now) (G.stops gate.now)) }
-    ensures workers { OnOk result ((0 < workers) × (workers ≤ 64)) }
-    ensures within { OnOk result (IsWithin model bench.now tests.now split) }
-{
-    let (made, parts) = split_run_of(rt, alloc, model, bench, tests, split, false, workers)?;
-    let mut run = made;
-    write_run(rt, alloc, &mut run, parts, workers, format, gate, out)
-}
-
-/// Runs a job, whose tests are its own, in parts, and writes the table.
-fn write_run<R: Threads + Wait, G: Watch + Sync, W: Out>(
+pub fn write_reason_table_of_run<R: Threads + Wait, G: Watch + Sync, W: Out>(
     rt: &R,
     alloc: Global,
     run: &mut RunJob,
@@ -77,7 +49,7 @@ fn write_run<R: Threads + Wait, G: Watch + Sync, W: Out>(
     out: &mut W,
 ) -> Result<(), SimFault>
     requires job { BelongTogether run.old.parts }
-    requires own { run.old.apart ≡ false }
+    requires gate { run.old.apart ≡ true → G.passing gate.now }
     requires parts { 0 < parts }
     ensures written { WritesOneOf (IsReasonTableOfJob run.old.parts format) result
         (W.seen out.old) (W.seen out.new) }
@@ -85,12 +57,12 @@ fn write_run<R: Threads + Wait, G: Watch + Sync, W: Out>(
         (IsPartsFault run.old.parts parts workers (G.passing gate.now) (G.stops gate.now))) }
     ensures workers { OnOk result ((0 < workers) × (workers ≤ 64)) }
     ensures within { OnOk result (ArePartsWithin run.old.parts parts) }
+    ensures kept { run.new ≡ run.old }
 {
     let verdicts = run.run(rt, alloc, parts, workers, gate)?;
-    let job = run.job();
-    let reasons = reasons(alloc, job, &verdicts)?;
+    let reasons = reasons(rt, alloc, run, &verdicts, workers)?;
     gate.explains(reason_counts(&reasons));
-    write_table(alloc, job, &verdicts, reasons.as_slice(), format, out)
+    write_table(alloc, run.job(), &verdicts, reasons.as_slice(), format, out)
 }
 
 /// Writes the table of a job's undetected faults. It makes the whole text first, so an output gets

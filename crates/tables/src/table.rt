@@ -1,14 +1,12 @@
-//! Tables of faults, from the bytes of files.
+//! Tables of faults.
 
 ghost use Rattle.std.specs.Prelude.{◌≡◌, ◌<◌, ◌≤◌, IfErr, OnOk, length, true};
 ghost use Rattle.block_sim.specs.Parts.{BelongTogether};
 ghost use Rattle.fault_model.specs.Fault.{faults};
 ghost use Rattle.byte_output.specs.Output.{Writes};
-ghost use Rattle.job_loading.specs.Splits.{HasSomePart};
-ghost use Rattle.report.specs.EndToEnd.{IsJobTextFault, IsListingFault, IsReportFault};
-ghost use Rattle.report.specs.EndToEnd.{IsWatchedFault, IsWithin, WritesOneOf};
+ghost use Rattle.report.specs.EndToEnd.{IsJobTextFault, IsListingFault, WritesOneOf};
 ghost use Rattle.report.specs.EndToEnd.{IsListFault};
-ghost use Rattle.tables.specs.Tables.{IsClassTableOf, IsClassTableOfCircuit, IsFirstTableOf};
+ghost use Rattle.tables.specs.Tables.{IsClassTableOf, IsClassTableOfCircuit};
 ghost use Rattle.tables.specs.Tables.{IsFirstTableOfJob, IsTable, column_in, csv_table, json_table};
 ghost use Rattle.region_runs.specs.Refused.{ArePartsWithin, IsPartsFault};
 
@@ -18,8 +16,8 @@ use crate::json_table::{json_rows, put_json};
 use bench_net::{Circuit, read_bench};
 use byte_output::put_all;
 use fault_model::{Faults, Model, collapse, list_faults_in};
-use job_loading::{RunJob, Watch, split_run_of};
-use report::{Lines, OpenGate, Out, ReportFault, SimFault, Split};
+use job_loading::{RunJob, Watch};
+use report::{Lines, Out, ReportFault, SimFault};
 use std::alloc::Global;
 use std::sync::Wait;
 use std::thread::Threads;
@@ -141,70 +139,9 @@ fn write_classes<W: Out>(
     write_table(alloc, circuit, &list, &column, format, out)
 }
 
-/// Reads a circuit and tests for it, and writes a table of the faults of a model with the first
-/// test that detects each. Workers in threads of their own run the tests. With
-/// [`Lines::Undetected`] only the undetected faults have a row, and else all have one.
-///
-/// It fails as `report::simulate_text_in` does, in the same order.
-pub fn run_table_in<R: Threads + Wait, W: Out>(
-    rt: &R,
-    alloc: Global,
-    model: Model,
-    bench: &[u8],
-    tests: &[u8],
-    workers: u32,
-    lines: Lines,
-    format: Format,
-    out: &mut W,
-) -> Result<(), SimFault>
-    ensures written { WritesOneOf (IsFirstTableOf model bench.now tests.now lines format) result
-        (W.seen out.old) (W.seen out.new) }
-    ensures refused { IfErr result (IsReportFault model bench.now tests.now workers) }
-    ensures workers { OnOk result ((0 < workers) × (workers ≤ 64)) }
-{
-    let split = Split::Whole;
-    run_table_watched(
-        rt, alloc, model, bench, tests, split, workers, lines, format, &OpenGate, out,
-    )
-}
-
-/// Writes the table that [`run_table_in`] writes, for each split of the run. It calls the gate when
-/// the run begins and when it ends, and asks it before each piece of work. Under a gate that lets
-/// each piece pass it runs window by window if the tests have more blocks than a window, as
-/// `report::simulate_text_watched` does.
-///
-/// It fails as `report::curve_text_watched` does.
-pub fn run_table_watched<R: Threads + Wait, G: Watch + Sync, W: Out>(
-    rt: &R,
-    alloc: Global,
-    model: Model,
-    bench: &[u8],
-    tests: &[u8],
-    split: Split,
-    workers: u32,
-    lines: Lines,
-    format: Format,
-    gate: &G,
-    out: &mut W,
-) -> Result<(), SimFault>
-    requires { HasSomePart split }
-    ensures written { WritesOneOf (IsFirstTableOf model bench.now tests.now lines format) result
-        (W.seen out.old) (W.seen out.new) }
-    ensures refused { IfErr result (IsWatchedFault model bench.now tests.now split workers
-        (G.passing gate.now) (G.stops gate.now)) }
-    ensures workers { OnOk result ((0 < workers) × (workers ≤ 64)) }
-    ensures within { OnOk result (IsWithin model bench.now tests.now split) }
-{
-    let apart = gate.lets_all_pass();
-    let (run, parts) = split_run_of(rt, alloc, model, bench, tests, split, apart, workers)?;
-    let mut run = run;
-    write_table_of_run(
-        rt, alloc, &mut run, parts, workers, lines, format, gate, out,
-    )
-}
-
-/// Runs a job in a number of parts by workers in threads of their own, and writes the table of its
-/// first tests, as `report::write_report_of_run` writes its report.
+/// Runs a job in a number of parts by workers in threads of their own, and writes a table of its
+/// faults with the first test that detects each, as `report::write_report_of_run` writes its report.
+/// With [`Lines::Undetected`] only the undetected faults have a row, and else all have one.
 pub fn write_table_of_run<R: Threads + Wait, G: Watch + Sync, W: Out>(
     rt: &R,
     alloc: Global,

@@ -13,7 +13,7 @@ use Rattle.fault_model.specs.Detection.{HasBit, IsInitialized, LooksBack, name_o
 use Rattle.fault_model.specs.Fault.{Fault, faults}
 use Rattle.fault_model.specs.Solution.{Test}
 use Rattle.fault_model.proofs.Public.{carries, listed_model}
-use Rattle.block_sim.specs.Activation.{IsActivated}
+use Rattle.undetected.specs.Activation.{IsActivated}
 use Rattle.flat_circuit.specs.Origins.{Carries}
 use Rattle.undetected.specs.Activated.{stem_fault}
 

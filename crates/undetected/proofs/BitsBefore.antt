@@ -15,7 +15,7 @@ use Rattle.fault_model.specs.Detection.{HasBit, IsInitialized, LooksBack}
 use Rattle.fault_model.specs.Fault.{Fault}
 use Rattle.fault_model.specs.Solution.{Test}
 use Rattle.fault_model.proofs.Public.{has_solutions}
-use Rattle.block_sim.specs.Activation.{ActivatesAt}
+use Rattle.undetected.specs.Activation.{ActivatesAt}
 use Rattle.flat_circuit.specs.Words.{IsFaultFreeWord, lane}
 use Rattle.undetected.proofs.WordLanes.{lane_and, lane_ones, later_ones}
 

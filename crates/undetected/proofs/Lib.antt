@@ -1,7 +1,9 @@
 mod ActivatedAlike
 mod AddedTests
+mod AddedWindows
 mod BitsBefore
 mod KnownReasons
 mod LinesInCircuit
+mod ObservedSignals
 mod PinSignals
 mod WordLanes

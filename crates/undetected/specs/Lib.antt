@@ -1,2 +1,3 @@
 pub mod Activated
+pub mod Activation
 pub mod Reasons

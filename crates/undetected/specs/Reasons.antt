@@ -8,7 +8,7 @@ use Rattle.fault_model.specs.declared.Model.{Model}
 use Rattle.fault_model.specs.Detection.{DetectsAt}
 use Rattle.fault_model.specs.Fault.{Fault, faults}
 use Rattle.fault_model.specs.Solution.{Test}
-use Rattle.block_sim.specs.Activation.{IsActivated}
+use Rattle.undetected.specs.Activation.{IsActivated}
 use Rattle.flat_circuit.specs.Readers.{IsLive}
 use Rattle.undetected.specs.declared.Reason.{Reason}
 use Rattle.undetected.specs.declared.Reason.TheVariants.{NoPath, NotActivated, NotObserved}

@@ -1,7 +1,7 @@
 //! The reason of each fault.
 
-ghost use Rattle.std.specs.Prelude.{◌≡◌, ◌↔◌, ◌<◌, ℕ, IfOk, IsTrue, None, Option, Some};
-ghost use Rattle.std.specs.Prelude.{length, slice_get};
+ghost use Rattle.std.specs.Prelude.{◌≡◌, ◌↔◌, ◌<◌, ℕ, IfErr, IfOk, IsTrue, None, Option};
+ghost use Rattle.std.specs.Prelude.{Some, length, slice_get};
 ghost use Rattle.bench_net.specs.Scan.{names};
 ghost use Rattle.fault_model.specs.Fault.{Fault};
 ghost use Rattle.block_sim.specs.First.{IsFirst};
@@ -14,72 +14,120 @@ ghost use Rattle.undetected.specs.Reasons.{AreReasons, HasPath, HasReason, IsLin
 use crate::Reason;
 use crate::activations::Activations;
 use bench_net::Circuit;
-use block_sim::{Job, live_signals};
+use block_sim::live_signals;
 use fault_model::Line;
+use region_runs::RunJob;
 use std::alloc::{AllocError, Global};
-use workers::Verdicts;
+use std::sync::Wait;
+use std::thread::Threads;
+use workers::{RunFault, Verdicts};
 
 /// Returns for each fault of a job's uncollapsed list the reason why no test detects it; none for a
 /// detected fault. The verdicts are from a run of the job. It takes about a byte for each fault and
-/// three for each signal, and reads the fault-free words of all signals once.
-pub fn reasons(
+/// three for each signal, and reads the fault-free words of all tests once, window by window if the
+/// tests stand apart ([`RunJob::read_words`]).
+///
+/// # Errors
+///
+/// [`RunFault::Memory`] if memory runs out.
+pub fn reasons<R: Threads + Wait>(
+    rt: &R,
     alloc: Global,
-    job: &Job,
+    run: &mut RunJob,
+    verdicts: &Verdicts,
+    workers: u32,
+) -> Result<Vec<Option<Reason>>, RunFault>
+    requires { AreFirsts run.old.parts.list.model run.old.parts.circuit run.old.parts.tests.tests
+        verdicts.now.firsts }
+    ensures reasons { IfOk result (λ reasons. AreReasons run.old.parts.list.model
+        run.old.parts.circuit run.old.parts.tests.tests verdicts.now.firsts reasons.items) }
+    ensures refused { IfErr result (λ fault. fault ≡ RunFault.Memory) }
+    ensures kept { run.new ≡ run.old }
+{
+    let activations = activations(rt, alloc, run, workers)?;
+    let reasons = reasons_by(alloc, run, &activations, verdicts)?;
+    Ok(reasons)
+}
+
+/// Finds which faults of a job some test activates.
+fn activations<R: Threads + Wait>(
+    rt: &R,
+    alloc: Global,
+    run: &mut RunJob,
+    workers: u32,
+) -> Result<Activations, RunFault>
+    ensures known { IfOk result (λ known. AreActivations run.old.parts known) }
+    ensures refused { IfErr result (λ fault. fault ≡ RunFault.Memory) }
+    ensures kept { run.new ≡ run.old }
+{
+    let mut activations = Activations::none(alloc, run.job().circuit())?;
+    run.read_words(rt, alloc, workers, &mut activations)?;
+    Ok(activations)
+}
+
+/// Returns the reason of each fault of a job, from what some test activates.
+fn reasons_by(
+    alloc: Global,
+    run: &RunJob,
+    activations: &Activations,
     verdicts: &Verdicts,
 ) -> Result<Vec<Option<Reason>>, AllocError>
-    requires { AreFirsts job.now.list.model job.now.circuit job.now.tests.tests
-        verdicts.now.firsts }
-    ensures { IfOk result (λ reasons. AreReasons job.now.list.model job.now.circuit
-        job.now.tests.tests verdicts.now.firsts reasons.items) }
+    requires firsts { AreFirsts run.now.parts.list.model run.now.parts.circuit
+        run.now.parts.tests.tests verdicts.now.firsts }
+    requires known { AreActivations run.now.parts activations.now }
+    ensures { IfOk result (λ reasons. AreReasons run.now.parts.list.model run.now.parts.circuit
+        run.now.parts.tests.tests verdicts.now.firsts reasons.items) }
 {
-    let live = live_signals(alloc, job.circuit())?;
-    let activations = Activations::new(alloc, job)?;
-    let count = job.faults().count();
+    let _tests = run.tests();
+    let live = live_signals(alloc, run.job().circuit())?;
+    let count = run.job().faults().count();
     let mut reasons = Vec::with_capacity(alloc, count as usize)?;
     for fault in 0..count {
-        reasons.push(reason_at(job, &live, &activations, verdicts, fault))?;
+        reasons.push(reason_at(run, &live, activations, verdicts, fault))?;
     }
     Ok(reasons)
 }
 
 /// Returns the reason of the fault of a number, none if a test detects it.
 fn reason_at(
-    job: &Job,
+    run: &RunJob,
     live: &[bool],
     activations: &Activations,
     verdicts: &Verdicts,
     fault: u32,
 ) -> Option<Reason>
-    requires together { BelongTogether job.now }
-    requires firsts { AreFirsts job.now.list.model job.now.circuit job.now.tests.tests
-        verdicts.now.firsts }
-    requires live { AreLive job.now.circuit live.now }
-    requires room { length live.now ≡ length (names job.now.circuit) }
-    requires fault { fault < length job.now.list.list }
-    requires known { AreActivations job.now activations.now }
-    ensures { (f : Fault) (first : Option ℕ) → slice_get job.now.list.list fault ≡ Some f
+    requires together { BelongTogether run.now.parts }
+    requires firsts { AreFirsts run.now.parts.list.model run.now.parts.circuit
+        run.now.parts.tests.tests verdicts.now.firsts }
+    requires live { AreLive run.now.parts.circuit live.now }
+    requires room { length live.now ≡ length (names run.now.parts.circuit) }
+    requires fault { fault < length run.now.parts.list.list }
+    requires known { AreActivations run.now.parts activations.now }
+    ensures { (f : Fault) (first : Option ℕ) → slice_get run.now.parts.list.list fault ≡ Some f
         → slice_get verdicts.now.firsts fault ≡ Some first
-        → HasReason job.now.circuit job.now.tests.tests f first result }
+        → HasReason run.now.parts.circuit run.now.parts.tests.tests f first result }
 {
     match verdicts.first(fault) {
         Some(_) => None,
-        None => Some(reason_of(job, live, activations, fault)),
+        None => Some(reason_of(run, live, activations, fault)),
     }
 }
 
 /// Returns the reason of an undetected fault, by its number.
-fn reason_of(job: &Job, live: &[bool], activations: &Activations, fault: u32) -> Reason
-    requires live { AreLive job.now.circuit live.now }
-    requires room { length live.now ≡ length (names job.now.circuit) }
-    requires fault { fault < length job.now.list.list }
-    requires known { AreActivations job.now activations.now }
-    ensures { (f : Fault) → slice_get job.now.list.list fault ≡ Some f
-        → IsFirst job.now.circuit job.now.tests.tests f None
-        → IsReason job.now.circuit job.now.tests.tests f result }
+fn reason_of(run: &RunJob, live: &[bool], activations: &Activations, fault: u32) -> Reason
+    requires live { AreLive run.now.parts.circuit live.now }
+    requires room { length live.now ≡ length (names run.now.parts.circuit) }
+    requires fault { fault < length run.now.parts.list.list }
+    requires known { AreActivations run.now.parts activations.now }
+    ensures { (f : Fault) → slice_get run.now.parts.list.list fault ≡ Some f
+        → IsFirst run.now.parts.circuit run.now.parts.tests.tests f None
+        → IsReason run.now.parts.circuit run.now.parts.tests.tests f result }
 {
+    let _tests = run.tests();
+    let job = run.job();
     if !has_path(job.circuit(), live, job.faults().line_of(fault)) {
         Reason::NoPath
-    } else if !activations.of(job, fault) {
+    } else if !activations.of(run, fault) {
         Reason::NotActivated
     } else {
         Reason::NotObserved

@@ -6,13 +6,13 @@ use crate::memory::parts::{ORDER, is_want};
 use crate::memory::sweep::{Outcome, Trial, answered, refused};
 use crate::memory::written::{LISTING, REPORT};
 use analysis_reports::{
-    KeptForm, KeptLayout, TestOrder, compact_text_watched, detections_text_watched,
-    responses_text_in,
+    KeptForm, KeptLayout, TestOrder, responses_text_in, write_detections_of_run, write_kept_of_run,
 };
 use fault_model::Model;
+use job_loading::split_run_of;
 use report::{
-    Contents, Lines, OpenGate, Out, OutFailed, RunFault, SimFault, Split, curve_text_in,
-    faults_text, schedule_text, simulate_text, simulate_text_in_parts,
+    Contents, Lines, OpenGate, Out, OutFailed, RunFault, SimFault, Split, faults_text,
+    schedule_text, simulate_text, simulate_text_in_parts, write_curve_of_run,
 };
 use std::alloc::Global;
 use std::sync::Wait;
@@ -123,29 +123,34 @@ pub(crate) struct Written<'a, R> {
     pub(crate) tests: &'a [u8],
 }
 
-/// Writes the rows of a compaction of these tests for C17, in the order of the list.
-fn compacted<R: Threads + Wait>(
-    rt: &R,
-    alloc: Global,
-    tests: &[u8],
-    screen: &mut Screen,
-) -> Result<(), SimFault> {
-    let layout = KeptLayout {
-        order: TestOrder::AsListed,
-        form: KeptForm::Rows,
-    };
-    let (model, split) = (Model::StuckAt, Split::Whole);
-    let gate = &OpenGate;
-    match compact_text_watched(rt, alloc, model, C17, tests, split, 2, layout, gate, screen) {
-        Ok(_count) => Ok(()),
-        Err(fault) => Err(fault),
-    }
-}
+/// The layout of the rows of a compaction, in the order of the list.
+const ROWS: KeptLayout = KeptLayout {
+    order: TestOrder::AsListed,
+    form: KeptForm::Rows,
+};
 
 impl<R: Threads + Wait> Written<'_, R> {
+    /// Writes an output of a run of C17 under these tests.
+    fn write_of_run(&self, alloc: Global, screen: &mut Screen) -> Result<(), SimFault> {
+        let (rt, tests, gate) = (self.rt, self.tests, &OpenGate);
+        let (model, split) = (Model::StuckAt, Split::Whole);
+        let (made, parts) = split_run_of(rt, alloc, model, C17, tests, split, true, 2)?;
+        let mut run = made;
+        match self.call {
+            TextCall::Curve => write_curve_of_run(rt, alloc, &mut run, parts, 2, gate, screen),
+            TextCall::Compact => {
+                match write_kept_of_run(rt, alloc, &mut run, parts, 2, ROWS, gate, screen) {
+                    Ok(_count) => Ok(()),
+                    Err(fault) => Err(fault),
+                }
+            }
+            _ => { write_detections_of_run(rt, alloc, &mut run, parts, 2, 2, false, gate, screen) }
+        }
+    }
+
     fn write(&self, alloc: Global, screen: &mut Screen) -> Result<(), SimFault> {
         let (rt, tests, model) = (self.rt, self.tests, Model::StuckAt);
-        let (all, whole) = (Contents::of(Lines::All), Split::Whole);
+        let all = Contents::of(Lines::All);
         match self.call {
             TextCall::Simulate => simulate_text(rt, alloc, C17, tests, 2, true, screen),
             TextCall::InParts => {
@@ -153,13 +158,9 @@ impl<R: Threads + Wait> Written<'_, R> {
             }
             TextCall::Schedule => schedule_text(alloc, C17, tests, ORDER, 2, true, screen),
             TextCall::Faults => faults_text(alloc, C17, screen),
-            TextCall::Curve => curve_text_in(rt, alloc, model, C17, tests, 2, screen),
-            TextCall::Detections => {
-                detections_text_watched(
-                    rt, alloc, model, C17, tests, whole, 2, 2, false, &OpenGate, screen,
-                )
+            TextCall::Curve | TextCall::Detections | TextCall::Compact => {
+                self.write_of_run(alloc, screen)
             }
-            TextCall::Compact => compacted(rt, alloc, tests, screen),
             TextCall::Responses => responses_text_in(alloc, C17, tests, screen),
         }
     }
@@ -184,9 +185,9 @@ impl<R: Threads + Wait> Trial for Written<'_, R> {
             TextCall::InParts => "simulate_text_in_parts",
             TextCall::Schedule => "schedule_text",
             TextCall::Faults => "faults_text",
-            TextCall::Curve => "curve_text_in",
-            TextCall::Detections => "detections_text_watched",
-            TextCall::Compact => "compact_text_watched",
+            TextCall::Curve => "write_curve_of_run",
+            TextCall::Detections => "write_detections_of_run",
+            TextCall::Compact => "write_kept_of_run",
             TextCall::Responses => "responses_text_in",
         }
     }

@@ -9,7 +9,7 @@ use crate::worker::fixtures::{BUFFER, C17, C17_FIRSTS, JobText, has_firsts, job_
 use crate::worker::gates::{Plan, Planned};
 use block_sim::Job;
 use fault_model::Model;
-use region_runs::{ListRunner, run_in_parts, run_part};
+use region_runs::{ListRunner, run_in_parts};
 use std::alloc::{AllocError, Global};
 use std::process::Abort;
 use std::sync::Wait;
@@ -82,16 +82,26 @@ fn are_left_open<R: Threads + Wait + Clock + Sync>(rt: &R, alloc: Global, job: &
     true
 }
 
-/// Returns whether a part of three of a job, at whose last piece the gate stops the worker, names
-/// this piece, and so does a run in three parts.
+/// Returns whether two workers run a job to these verdicts after gates stopped runs of it.
+fn runs_again<R: Threads + Wait + Clock + Sync>(
+    rt: &R,
+    alloc: Global,
+    job: &Job,
+    firsts: &[Option<u32>],
+) -> Result<bool, RunFault> {
+    let verdicts = run(rt, alloc, job, 2, &OpenGate)?;
+    Ok(has_firsts(&verdicts, firsts))
+}
+
+/// Returns whether a run of a job in three parts, at whose last piece the gate stops the worker,
+/// names this piece.
 fn names_the_last<R: Threads + Wait + Clock + Sync>(rt: &R, alloc: Global, job: &Job) -> bool {
     let gate = Planned::new(rt, Plan::Stop(21, 0));
     let waiting = Some(RunFault::Unfinished {
         class: 21,
         block: 0,
     });
-    run_part(rt, alloc, job, 1, 3, 2, &gate).err() == waiting
-        && run_in_parts(rt, alloc, job, 3, 3, &gate).err() == waiting
+    run_in_parts(rt, alloc, job, 3, 3, &gate).err() == waiting
 }
 
 /// Returns whether all are below the number of classes.
@@ -152,7 +162,8 @@ enum Running {
     /// Do this many workers find the first tests of C17 in parts, with a gate of this plan?
     IsRunInParts(u32, Plan),
     EndsAfterTwo,
-    AreLeftOpen,
+    /// Do runs leave pieces open, and does one find these first tests afterwards?
+    AreLeftOpen(Firsts),
     NamesTheLast,
     RunsAList,
     SkipsOne,
@@ -221,10 +232,11 @@ static CASES: [Case; 12] = [
         },
         question: Running::EndsAfterTwo,
     },
+    // The same job then runs to its end under an open gate.
     Case {
         name: "one_of_two_workers_leaves_its_piece_open",
         job: TWO_BLOCKS,
-        question: Running::AreLeftOpen,
+        question: Running::AreLeftOpen(&BUFFER_FIRSTS),
     },
     // Each worker waits in a part of its own until the other has come.
     Case {
@@ -294,7 +306,9 @@ fn is_so<R: Threads + Wait + Clock + Sync>(
             is_run_in_parts(rt, alloc, job, workers, plan) == Ok(true)
         }
         Running::EndsAfterTwo => ends_after_two(rt, alloc, job) == Ok(true),
-        Running::AreLeftOpen => are_left_open(rt, alloc, job),
+        Running::AreLeftOpen(firsts) => {
+            are_left_open(rt, alloc, job) && runs_again(rt, alloc, job, firsts) == Ok(true)
+        }
         Running::NamesTheLast => names_the_last(rt, alloc, job),
         Running::RunsAList => runs_a_list(alloc, job) == Ok(true),
         Running::SkipsOne => skips_one(rt, alloc, job) == Ok(true),

@@ -10,7 +10,7 @@ use block_sim::Job;
 use fault_model::Model;
 use job_loading::SimFault;
 use patterns::{Tests, read_tests};
-use region_runs::{PartVerdict, run_in_windows, run_part_in_windows};
+use region_runs::run_in_windows;
 use std::alloc::Global;
 use std::sync::Wait;
 use std::thread::Threads;
@@ -38,18 +38,7 @@ fn edges(alloc: Global, job: &Job) -> Result<Tests, SimFault>
     Ok(read_tests(alloc, text.as_slice(), job.circuit().sources())?)
 }
 
-/// Returns whether the verdicts of a part are these first tests.
-fn are_firsts(verdicts: &[PartVerdict]) -> bool {
-    for fault in 0..FIRSTS.len() {
-        if verdicts.get(fault) != Some(&PartVerdict::First(FIRSTS[fault])) {
-            return false;
-        }
-    }
-    verdicts.len() == FIRSTS.len()
-}
-
-/// Returns whether runs in windows of this number of blocks have these first tests: all classes,
-/// and the one part of one.
+/// Returns whether a run in windows of this number of blocks has these first tests.
 fn run_so<R: Threads + Wait>(
     rt: &R,
     alloc: Global,
@@ -62,11 +51,7 @@ fn run_so<R: Threads + Wait>(
     requires width { tests.now.width ≡ length (sources job.old.circuit) }
 {
     let verdicts = run_in_windows(rt, alloc, job, tests, blocks, 1, 2, &OpenGate)?;
-    if !has_firsts(&verdicts, &FIRSTS) {
-        return Ok(false);
-    }
-    let part = run_part_in_windows(rt, alloc, job, tests, blocks, 0, 1, 2, &OpenGate)?;
-    Ok(are_firsts(part.as_slice()))
+    Ok(has_firsts(&verdicts, &FIRSTS))
 }
 
 /// Returns whether a job has these first tests by windows of this number of blocks.

@@ -11,6 +11,4 @@ returns c =
       c.missing-3.ensures.number,
       c.missing-4.ensures.name,
       c.missing-4.ensures.number,
-      c.missing-5.ensures.name,
-      c.missing-5.ensures.number,
     ) at c.add_members.ensures

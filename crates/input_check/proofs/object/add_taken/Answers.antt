@@ -11,10 +11,7 @@ returns c =
       c.numbered-3.ensures.number,
       c.numbered-4.ensures.name,
       c.numbered-4.ensures.number,
-      c.numbered-5.ensures.name,
-      c.numbered-5.ensures.number,
       c.from.ensures,
       c.from-2.ensures,
       c.megabytes.ensures,
-      c.megabytes-2.ensures,
     ) at c.add_members.ensures

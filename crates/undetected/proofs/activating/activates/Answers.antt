@@ -8,7 +8,7 @@ use Rattle.std.proofs.lemmas.Option.{get_or_from_slice_get}
 use Rattle.fault_model.specs.declared.Line.TheVariants as line
 use Rattle.fault_model.specs.Detection.{HasBit, LooksBack}
 use Rattle.list_lemmas.proofs.Places.{place_within}
-use Rattle.block_sim.specs.Activation.{ActivatesAt}
+use Rattle.undetected.specs.Activation.{ActivatesAt}
 use Rattle.flat_circuit.specs.Words.{lane}
 use Rattle.undetected.specs.Activated.{stem_fault}
 use Rattle.undetected.proofs.BitsBefore.{activating_lane, word_bit}

@@ -1,0 +1,90 @@
+-- The part of a run whose tests may stand apart.
+use Rattle.std.proofs.Common.{◌≡◌, ◌<◌, ◌≤◌, ◌*◌, ◌∙◌, ◌⊎◌, ℕ, List, Option, Some, ap, inl, inr}
+use Rattle.std.proofs.Common.{length, subst, sym}
+use Rattle.std.specs.Prelude.{slice_get}
+use Rattle.bench_net.specs.Statement.{Statement}
+use Rattle.fault_model.specs.Collapse.{Collapsed}
+use Rattle.fault_model.specs.Fault.{FaultList}
+use Rattle.patterns.specs.Tests.{TestList, blocks, max_pieces}
+use Rattle.block_sim.specs.Parts.{Parts, with_tests}
+use Rattle.workers.specs.declared.RunFault.{RunFault}
+use Rattle.workers.specs.declared.RunFault.TheVariants as run_fault
+use Rattle.workers.specs.Stops.{Stops}
+use Rattle.region_runs.specs.declared.parts.PartVerdict.{PartVerdict}
+use Rattle.region_runs.specs.declared.parts.PartVerdict.TheVariants.{First}
+use Rattle.region_runs.specs.Part.{ArePartOf, stretch_size, stretches_for}
+use Rattle.region_runs.specs.Refused.{IsPartFault}
+use Rattle.region_runs.specs.RunJobs.{AreKeptByLedgers, IsPartByLedgers}
+use Rattle.region_runs.specs.Stretches.{AreOfStretches}
+use Rattle.region_runs.specs.Tasks.{first_tests}
+use Rattle.region_runs.proofs.WindowSteps.{part_with}
+
+abbrev parts_with : List Statement → FaultList → Collapsed → TestList → Parts
+parts_with c list classes tests = record {
+  circuit = c;
+  list = list;
+  classes = classes;
+  tests = tests;
+}
+
+-- two jobs that differ in their tests alone
+in_view : (a b : Parts) → a.circuit ≡ b.circuit → a.list ≡ b.list → a.classes ≡ b.classes
+    → with_tests a b.tests ≡ b
+in_view a b c l k = ap (λ x. parts_with x a.list a.classes b.tests) c
+    ∙ (ap (λ x. parts_with b.circuit x a.classes b.tests) l
+    ∙ ap (λ x. parts_with b.circuit b.list x b.tests) k)
+
+-- have the same parts
+pub part_in_view : (a b : Parts) (parts part : ℕ) (classes : List ℕ) → a.circuit ≡ b.circuit
+    → a.list ≡ b.list → a.classes ≡ b.classes → ArePartOf a parts part classes
+    → ArePartOf b parts part classes
+part_in_view a b parts part classes c l k own =
+    subst (λ j. ArePartOf j parts part classes) (in_view a b c l k)
+    (part_with a b.tests parts part classes own)
+
+-- the error of a part that is past the limit on pieces
+pub large_part_fault : (job : Parts) (parts part workers few n : ℕ) (classes : List ℕ)
+    (P : Type 0) (S : Stops) (f : RunFault) → 0 < workers → workers ≤ 64
+    → ArePartOf job parts part classes → few ≡ length classes
+    → n ≡ blocks (length job.tests.tests)
+    → (f ≡ run_fault.TooManyPieces) × (max_pieces < few * n)
+    → IsPartFault job parts part workers P S f
+large_part_fault job parts part workers few n classes P S f some most own count e h =
+    subst (IsPartFault job parts part workers P S) (sym h.0) (
+      some,
+      most,
+      (
+        classes,
+        own,
+        subst (λ k. max_pieces < length classes * k) e
+            (subst (λ k. max_pieces < k * n) count h.1),
+      ),
+    )
+
+-- the verdicts of a part were found by ledgers if the first tests of its classes were
+pub part_by_ledgers : (job : Parts) (parts part workers n : ℕ) (classes : List ℕ)
+    (firsts : List (Option ℕ)) (verdicts : List PartVerdict) → ArePartOf job parts part classes
+    → n ≡ stretches_for (length classes) workers
+    → ((i class : ℕ) (first : Option ℕ) → slice_get job.classes.class_of i ≡ Some class
+    → slice_get verdicts i ≡ Some (First first)
+    → (k : ℕ) × (slice_get classes k ≡ Some class) × (slice_get firsts k ≡ Some first))
+    → AreKeptByLedgers (first_tests job) n workers classes firsts
+    → IsPartByLedgers job parts part workers verdicts
+part_by_ledgers job parts part workers n classes firsts verdicts own e each (inl h) = inl (
+  h.0,
+  record {
+    classes = classes;
+    are = own;
+    firsts = firsts;
+    of = subst (λ k. AreOfStretches job (stretch_size (length classes) k) classes workers firsts
+        h.0) e h.1;
+    each = each;
+  },
+)
+part_by_ledgers job parts part workers n classes firsts verdicts own e each (inr h) = inr (record {
+  classes = classes;
+  are = own;
+  firsts = firsts;
+  of = h;
+  each = each;
+})

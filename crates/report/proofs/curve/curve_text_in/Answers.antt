@@ -1,7 +1,0 @@
-use Rattle.report.proofs.WatchedRuns.{refused_open}
-use Rattle.report.proofs.curve.curve_text_in.Goals as goal
-
-pub returns-clause-refused : goal.returns-clause-refused
-returns-clause-refused g c =
-    refused_open c.args.model c.args.bench.now c.args.tests.now c.args.workers
-    c.curve_text_watched.result c.curve_text_watched.ensures.refused
