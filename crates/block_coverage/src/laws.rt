@@ -1,0 +1,15 @@
+//! Laws of blocks.
+
+ghost use Rattle.std.specs.Prelude.{ℕ};
+ghost use Rattle.block_coverage.specs.Blocks.{HoldsByName, HoldsInner};
+
+/// States that a fault is in a block exactly if its name is the block, the separator and any rest.
+pub fn block_holds()
+    ensures { (separator : ℕ) → HoldsByName separator }
+{}
+
+/// States that the faults of a block are among those of each block around it: a block that is a
+/// block of another one's name has all its faults.
+pub fn inner_block()
+    ensures { (separator : ℕ) → HoldsInner separator }
+{}
