@@ -1,3 +1,4 @@
+pub mod Blocks
 pub mod Histogram
 pub mod Detected
 pub mod Compacted

@@ -4,10 +4,12 @@
 //! [`histogram_text_watched`] the faults of each count. [`reasons_text_watched`] writes why no test
 //! detects a fault. [`compact_text_watched`] writes fewer tests that detect the same faults,
 //! [`responses_text_in`] the responses of the circuit without faults, and [`pairs_text_in`] the
-//! pairs of launch-on-capture tests. They are called as the functions of the crate `report` are,
+//! pairs of launch-on-capture tests. [`write_blocks_of_run`] writes the coverage of each block of a
+//! design. They are called as the functions of the crate `report` are,
 //! which writes their lines of faults and of coverage, and their contracts define the bytes.
 #![tactic(auto)]
 
+mod blocks;
 mod compacted;
 mod detected;
 mod histogram;
@@ -17,6 +19,7 @@ mod reasoned;
 mod responses;
 mod whole;
 
+pub use blocks::{detected_flags, write_blocks, write_blocks_of_run};
 pub use compacted::{KeptCount, KeptForm, KeptLayout, write_kept_of_run};
 pub use compaction::TestOrder;
 pub use detected::{write_detections, write_detections_of_run};

@@ -1,6 +1,7 @@
 -- Lists whose elements stand in an order, tests that some element passes, and counts.
 use Rattle.std.proofs.Common.{◌≡◌, ◌<◌, ◌≤◌, ◌+◌, ◌∙◌, ℕ, zero, suc, Bool, true, false, cond, ◌&&◌}
-use Rattle.std.proofs.Common.{◌||◌, refl, sym, ap, subst, List, [], ◌∷◌, ◌++◌, length, arith, inl, inr}
+use Rattle.std.proofs.Common.{◌||◌, refl, sym, ap, subst, List, [], ◌∷◌, ◌++◌, length, arith, inl}
+use Rattle.std.proofs.Common.{inr}
 use Rattle.std.proofs.Common.{get_or, map, set, not, drop}
 use Rattle.std.specs.Prelude.{AllPairs, Option, Some, None, count_by, slice_get, unwrap_or, zip}
 use Rattle.std.specs.List.{list_any, position_or_len}
@@ -149,6 +150,19 @@ none_counted t (x ∷ xs) e =
     let one : cond (t x) 1 0 ≡ 0 = ap (λ (b : Bool). cond {A = ℕ} b 1 0) parts.0 in
     let rest = none_counted t xs parts.1 in
     sum_by-cons (λ z. cond (t z) 1 0) x xs ∙ omega (arith, one, rest)
+
+pub some_counted : {X : Type 0} (t : X → Bool) (xs : List X) → list_any t xs ≡ true
+    → 0 < count_by t xs
+some_counted t [] e = cc
+some_counted {X} t (x ∷ xs) e =
+    let all = sum_by-cons (λ z. cond (t z) 1 0) x xs in
+    let more = go (t x) e (some_counted t xs) in
+    omega (arith, all, more)
+  where
+    go : (b : Bool) → (b || list_any t xs) ≡ true → (list_any t xs ≡ true → 0 < count_by t xs)
+        → 0 < cond b 1 0 + count_by t xs
+    go true h rest = omega arith
+    go false h rest = let lt = rest h in omega (arith, lt)
 
 -- elements of a list that pass a test and have a flag are no more than those that pass it
 pub flagged_within : {X : Type 0} (t : X → Bool) (xs : List X) (fs : List Bool)

@@ -80,7 +80,8 @@ listed_are s names blocks listed =
 -- ---- other names with the same blocks
 
 earlier : (s : ℕ) (names others : List Name) (a b : Name)
-    → first_fault s others a ≡ first_fault s names a → first_fault s others b ≡ first_fault s names b
+    → first_fault s others a ≡ first_fault s names a
+    → first_fault s others b ≡ first_fault s names b
     → ComesBefore s names a b → ComesBefore s others a b
 earlier s names others a b same other before = rw (same, other) before
 

@@ -18,7 +18,8 @@ use Rattle.block_coverage.specs.Tallies.{IsTally, names_at}
 use Rattle.block_coverage.proofs.InBlock.{in_nothing, in_other, not_itself}
 use Rattle.block_coverage.proofs.ListOrders.{any_of, flagged_within, mapped_same, mapped_set}
 use Rattle.block_coverage.proofs.ListOrders.{none_counted, zip_push}
-use Rattle.block_coverage.proofs.ListedBlocks.{Listed, distinct_blocks, in_ended_other, in_ended_own}
+use Rattle.block_coverage.proofs.ListedBlocks.{Listed, distinct_blocks, in_ended_other}
+use Rattle.block_coverage.proofs.ListedBlocks.{in_ended_own}
 use Rattle.block_coverage.proofs.ListedBlocks.{in_some, listed_are, listed_from, fresh}
 use Rattle.block_coverage.proofs.ListedBlocks.{listed_next, listed_other}
 

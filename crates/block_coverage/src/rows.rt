@@ -1,6 +1,6 @@
 //! The rows of all blocks of a fault list.
 
-ghost use Rattle.std.specs.Prelude.{◌≡◌, ◌<◌, ◌≤◌, ◌-◌, ◌^◌, IfOk, length, map};
+ghost use Rattle.std.specs.Prelude.{◌≡◌, ◌<◌, ◌≤◌, ◌-◌, ◌^◌, All, IfOk, length, map};
 ghost use Rattle.fault_model.specs.Fault.{faults};
 ghost use Rattle.block_coverage.specs.Blocks.{AreBlockRows, cells_in, fault_names};
 ghost use Rattle.block_coverage.specs.Tallies.{AreListedRows};
@@ -46,8 +46,9 @@ pub fn block_rows<'a>(
     requires list { list.now.list ≡ faults list.now.model circuit.now }
     requires count { length detected.now ≡ length list.now.list }
     requires ascii { separator < 128 }
-    ensures { IfOk result (λ rows. AreBlockRows separator
+    ensures rows { IfOk result (λ rows. AreBlockRows separator
         (fault_names circuit.now list.now.list) detected.now (map cells_in rows.items)) }
+    ensures some { IfOk result (λ rows. All (λ row. 0 < row.faults) rows.items) }
 {
     let rows = listed_rows(alloc, circuit, list, detected, separator)?;
     sorted(alloc, &rows, list.count())

@@ -1,12 +1,13 @@
-use Rattle.std.proofs.Common.{◌≡◌, ◌<◌, ◌≤◌, ◌∙◌, ℕ, List, ap, sym, subst, length, get_or, map, arith}
-use Rattle.std.specs.Prelude.{Result, Ok, Err, IfOk}
+use Rattle.std.proofs.Common.{◌≡◌, ◌<◌, ◌≤◌, ◌∙◌, ℕ, List, ap, sym, subst, length, get_or, map}
+use Rattle.std.proofs.Common.{arith}
+use Rattle.std.specs.Prelude.{All, Result, Ok, Err, IfOk}
 use Rattle.std.proofs.lemmas.List.{length-map}
 use Rattle.block_coverage.specs.declared.rows.BlockRow.{BlockRow}
 use Rattle.block_coverage.specs.Blocks.{AreBlockRows, cells_in, fault_name, fault_names}
 use Rattle.block_coverage.specs.Tallies.{AreSortedRows}
-use Rattle.block_coverage.proofs.SortedBlocks.{listed_within, sorted_rows}
+use Rattle.block_coverage.proofs.SortedBlocks.{listed_within, rows_some, sorted_rows}
 use Rattle.block_coverage.proofs.rows.block_rows.Goals as goal
-use Rattle.block_coverage.proofs.rows.block_rows.Goals.{After-count}
+use Rattle.block_coverage.proofs.rows.block_rows.Goals.{After-count, After-sorted}
 
 -- the listed rows, as they are lent
 lent : (c : After-count) → (k : ℕ) (d : BlockRow) → k < length c.deref.result.now
@@ -40,8 +41,11 @@ ok_as : {T E : Type 0} (A B : T → Type 0) (r : Result T E) → ((x : T) → A 
 ok_as A B (Ok x) then h = then x h
 ok_as A B (Err e) then h = h
 
-pub returns : goal.returns
-returns c =
+-- the sorted rows are those of all blocks
+sorted_are : (c : After-sorted) → IfOk c.sorted.result (λ rows. AreBlockRows c.args.separator
+    (fault_names c.args.circuit.now c.args.list.now.list) c.args.detected.now
+    (map cells_in rows.items))
+sorted_are c =
     let list = c.args.list.now.list in
     let names = fault_names c.args.circuit.now list in
     let rows = c.in_ok-rows.rows.items in
@@ -55,3 +59,14 @@ returns c =
     (subst (λ n. AreSortedRows n rows sorted.items) count
     (subst (λ l. AreSortedRows c.count.result l sorted.items) c.deref.ensures.value by)))
     c.sorted.ensures
+
+pub returns-clause-rows : goal.returns-clause-rows
+returns-clause-rows c = sorted_are (goal.at.returns-clause-rows c).After-sorted
+
+pub returns-clause-some : goal.returns-clause-some
+returns-clause-some c =
+    let names = fault_names c.args.circuit.now c.args.list.now.list in
+    ok_as (λ rows. AreBlockRows c.args.separator names c.args.detected.now
+    (map cells_in rows.items)) (λ rows. All (λ row. 0 < row.faults) rows.items) c.sorted.result
+    (λ rows are. rows_some c.args.separator names c.args.detected.now rows.items are)
+    (sorted_are (goal.at.returns-clause-some c).After-sorted)
