@@ -4,3 +4,4 @@ mod LaunchedPairs
 mod ReasonTexts
 mod CountedTexts
 mod HistogramTexts
+mod BlockTexts

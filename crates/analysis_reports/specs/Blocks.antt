@@ -4,7 +4,8 @@ use Rattle.std.specs.Prelude.{length, map}
 use Rattle.bench_net.specs.Statement.{Statement}
 use Rattle.fault_model.specs.Fault.{Fault}
 use Rattle.block_sim.specs.Parts.{Parts}
-use Rattle.block_coverage.specs.Blocks.{AreBlockRows, BlockCells, fault_names}
+use Rattle.block_coverage.specs.declared.rows.BlockRow.{BlockRow}
+use Rattle.block_coverage.specs.Blocks.{AreBlockRows, BlockCells, cells_in, fault_names}
 use Rattle.workers.specs.Verdict.{AreFirsts}
 use Rattle.report.specs.Report.{coverage_line}
 
@@ -12,6 +13,10 @@ use Rattle.report.specs.Report.{coverage_line}
 abbrev pub block_line : BlockCells → List ℕ
 block_line row =
     codes "block " ++ (row.name ++ (codes " " ++ coverage_line row.detected row.faults))
+
+-- the same from the form of the program
+abbrev pub row_line : BlockRow → List ℕ
+row_line row = block_line (cells_in row)
 
 -- how many flags are set
 abbrev pub flagged : List Bool → ℕ

@@ -4,17 +4,17 @@ ghost use Rattle.std.specs.Prelude.{◌≡◌, ◌<◌, ◌≤◌, ◌^◌, ◌+
 ghost use Rattle.std.specs.Prelude.{map, true};
 ghost use Rattle.std.specs.List.{flat_map};
 ghost use Rattle.fault_model.specs.Fault.{faults};
-ghost use Rattle.block_coverage.specs.Blocks.{cells_in};
+ghost use Rattle.block_coverage.specs.Blocks.{byte_of};
 ghost use Rattle.block_sim.specs.Parts.{BelongTogether};
 ghost use Rattle.byte_output.specs.Output.{Writes};
 ghost use Rattle.region_runs.specs.Refused.{ArePartsWithin, IsPartsFault};
 ghost use Rattle.report.specs.EndToEnd.{IsJobTextFault, IsListFault, WritesOneOf};
-ghost use Rattle.analysis_reports.specs.Blocks.{IsBlockReport, IsBlockReportOfJob, block_line};
-ghost use Rattle.analysis_reports.specs.Blocks.{flagged};
+ghost use Rattle.analysis_reports.specs.Blocks.{IsBlockReport, IsBlockReportOfJob, flagged};
+ghost use Rattle.analysis_reports.specs.Blocks.{row_line};
 ghost use Rattle.report.specs.Report.{coverage_line};
 
 use bench_net::Circuit;
-use block_coverage::{BlockRow, block_rows};
+use block_coverage::{BlockRow, Separator, block_rows};
 use byte_output::{Out, OutFailed, put_pieces};
 use fault_model::Faults;
 use job_loading::{ReportFault, RunJob, SimFault, Watch};
@@ -45,15 +45,14 @@ pub fn write_blocks_of_run<R: Threads + Wait, G: Watch + Sync, W: Out>(
     run: &mut RunJob,
     parts: u32,
     workers: u32,
-    separator: u8,
+    separator: Separator,
     gate: &G,
     out: &mut W,
 ) -> Result<(), SimFault>
     requires job { BelongTogether run.old.parts }
     requires gate { run.old.apart ≡ true → G.passing gate.now }
     requires parts { 0 < parts }
-    requires ascii { separator < 128 }
-    ensures written { WritesOneOf (IsBlockReportOfJob run.old.parts separator) result
+    ensures written { WritesOneOf (IsBlockReportOfJob run.old.parts (byte_of separator)) result
         (W.seen out.old) (W.seen out.new) }
     ensures refused { IfErr result (IsJobTextFault workers
         (IsPartsFault run.old.parts parts workers (G.passing gate.now) (G.stops gate.now))) }
@@ -94,25 +93,25 @@ pub fn write_blocks<W: Out>(
     circuit: &Circuit,
     list: &Faults,
     detected: &[bool],
-    separator: u8,
+    separator: Separator,
     out: &mut W,
 ) -> Result<(), SimFault>
     requires list { list.now.list ≡ faults list.now.model circuit.now }
     requires count { length detected.now ≡ length list.now.list }
-    requires ascii { separator < 128 }
-    ensures written { WritesOneOf (IsBlockReport separator circuit.now list.now.list detected.now)
-        result (W.seen out.old) (W.seen out.new) }
+    ensures written { WritesOneOf (IsBlockReport (byte_of separator) circuit.now list.now.list
+        detected.now) result (W.seen out.old) (W.seen out.new) }
     ensures refused { IfErr result IsListFault }
 {
     let signals = circuit.signals();
     prove!(signals > 0);
+    let total = list.count();
     let rows = block_rows(alloc, circuit, list, detected, separator)?;
-    put_blocks(count_flags(detected), list.count(), &rows, out)?;
+    put_blocks(count_flags(detected), total, &rows, out)?;
     Ok(())
 }
 
 /// Returns how many flags are set, of less than 2^32.
-fn count_flags(flags: &[bool]) -> u32
+pub fn count_flags(flags: &[bool]) -> u32
     requires { length flags.now < 2 ^ 32 }
     ensures { result ≡ flagged flags.now }
 {
@@ -129,7 +128,7 @@ fn put_blocks<W: Out>(
     requires some { 0 < faults }
     requires each { All (λ row. 0 < row.faults) rows.now }
     ensures { Writes result (W.seen out.old) (W.seen out.new)
-        (coverage_line detected faults ++ flat_map block_line (map cells_in rows.now)) }
+        (coverage_line detected faults ++ flat_map row_line rows.now) }
 {
     put_coverage(detected, faults, "", out)?;
     put_lines(rows, out)?;
@@ -140,7 +139,7 @@ fn put_blocks<W: Out>(
 fn put_lines<W: Out>(rows: &[BlockRow], out: &mut W) -> Result<(), OutFailed>
     requires { All (λ row. 0 < row.faults) rows.now }
     ensures { Writes result (W.seen out.old) (W.seen out.new)
-        (flat_map block_line (map cells_in rows.now)) }
+        (flat_map row_line rows.now) }
 {
     for row in rows {
         put_line(*row, out)?;
@@ -151,7 +150,7 @@ fn put_lines<W: Out>(rows: &[BlockRow], out: &mut W) -> Result<(), OutFailed>
 /// Writes the line of a row.
 fn put_line<W: Out>(row: BlockRow, out: &mut W) -> Result<(), OutFailed>
     requires { 0 < row.faults }
-    ensures { Writes result (W.seen out.old) (W.seen out.new) (block_line (cells_in row)) }
+    ensures { Writes result (W.seen out.old) (W.seen out.new) (row_line row) }
 {
     put_pieces(&["block ", row.name, " "], out)?;
     put_coverage(row.detected, row.faults, "", out)

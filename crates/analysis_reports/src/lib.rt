@@ -19,7 +19,7 @@ mod reasoned;
 mod responses;
 mod whole;
 
-pub use blocks::{detected_flags, write_blocks, write_blocks_of_run};
+pub use blocks::{count_flags, detected_flags, write_blocks, write_blocks_of_run};
 pub use compacted::{KeptCount, KeptForm, KeptLayout, write_kept_of_run};
 pub use compaction::TestOrder;
 pub use detected::{write_detections, write_detections_of_run};

@@ -9,6 +9,7 @@ use Rattle.fault_model.specs.declared.Line.{Line}
 use Rattle.fault_model.specs.declared.Line.TheVariants.{Stem, Pin, Data, Out}
 use Rattle.fault_model.specs.Fault.{Fault}
 use Rattle.block_coverage.specs.declared.rows.BlockRow.{BlockRow}
+use Rattle.block_coverage.specs.declared.separator.Separator.{Separator}
 
 -- the name of a line: that of the stem, of the gate that has the pin, of the flip-flop, or of the
 -- observed signal
@@ -102,6 +103,9 @@ pub record AreBlockRows (separator : ℕ) (names : List Name) (flags : List Bool
   pub ordered : AllPairs (StandsAbove separator names flags) blocks
   pub rows_are : rows ≡ map (block_cells separator names flags) blocks
 
--- a row from the form of the program
+-- the byte of a separator from the form of the program, and a row
+abbrev pub byte_of : Separator → ℕ
+byte_of separator = separator.byte
+
 abbrev pub cells_in : BlockRow → BlockCells
 cells_in row = record { name = row.name.now; detected = row.detected; faults = row.faults }

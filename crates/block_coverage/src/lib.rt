@@ -8,8 +8,10 @@
 mod laws;
 mod owner;
 mod rows;
+mod separator;
 mod sorted;
 mod tally;
 
 pub use laws::{block_holds, inner_block};
 pub use rows::{BlockRow, block_rows};
+pub use separator::Separator;

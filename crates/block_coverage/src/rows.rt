@@ -2,10 +2,11 @@
 
 ghost use Rattle.std.specs.Prelude.{◌≡◌, ◌<◌, ◌≤◌, ◌-◌, ◌^◌, All, IfOk, length, map};
 ghost use Rattle.fault_model.specs.Fault.{faults};
-ghost use Rattle.block_coverage.specs.Blocks.{AreBlockRows, cells_in, fault_names};
+ghost use Rattle.block_coverage.specs.Blocks.{AreBlockRows, byte_of, cells_in, fault_names};
 ghost use Rattle.block_coverage.specs.Tallies.{AreListedRows};
 
 use crate::owner::name_of;
+use crate::separator::Separator;
 use crate::sorted::sorted;
 use crate::tally::Tally;
 use bench_net::Circuit;
@@ -41,16 +42,15 @@ pub fn block_rows<'a>(
     circuit: &'a Circuit,
     list: &Faults,
     detected: &[bool],
-    separator: u8,
+    separator: Separator,
 ) -> Result<Vec<BlockRow<'a>>, AllocError>
     requires list { list.now.list ≡ faults list.now.model circuit.now }
     requires count { length detected.now ≡ length list.now.list }
-    requires ascii { separator < 128 }
-    ensures rows { IfOk result (λ rows. AreBlockRows separator
+    ensures rows { IfOk result (λ rows. AreBlockRows (byte_of separator)
         (fault_names circuit.now list.now.list) detected.now (map cells_in rows.items)) }
     ensures some { IfOk result (λ rows. All (λ row. 0 < row.faults) rows.items) }
 {
-    let rows = listed_rows(alloc, circuit, list, detected, separator)?;
+    let rows = listed_rows(alloc, circuit, list, detected, separator.byte())?;
     sorted(alloc, &rows, list.count())
 }
 

@@ -1,3 +1,4 @@
+pub mod BlockTables
 pub mod CurveTables
 pub mod HistogramTables
 pub mod Reasons

@@ -2,6 +2,7 @@
 //! (RFC 8259), and the summary of a run.
 #![tactic(auto)]
 
+mod block_table;
 mod column;
 mod csv_table;
 mod curve_table;
@@ -16,6 +17,7 @@ mod row;
 mod summary;
 mod table;
 
+pub use block_table::{merged_flags, write_block_table, write_block_table_of_run};
 pub use curve_table::write_curve_table_of_run;
 pub use histogram_table::write_histogram_table_of_run;
 pub use laws::merged_table;

@@ -17,7 +17,7 @@ lent c k d lt =
     let list = c.args.list.now.list in
     let names = fault_names c.args.circuit.now list in
     let is = c.deref.ensures.value in
-    let within = listed_within c.args.separator names c.args.detected.now c.in_ok-rows.rows.items
+    let within = listed_within c.byte.result names c.args.detected.now c.in_ok-rows.rows.items
     c.in_ok-rows.ensures.rows k d (subst (λ (l : List BlockRow). k < length l) is lt) in
     let row = ap (λ (l : List BlockRow). get_or l k d) is in
     let faults = ap (λ (r : BlockRow). r.faults) row in
@@ -42,7 +42,7 @@ ok_as A B (Ok x) then h = then x h
 ok_as A B (Err e) then h = h
 
 -- the sorted rows are those of all blocks
-sorted_are : (c : After-sorted) → IfOk c.sorted.result (λ rows. AreBlockRows c.args.separator
+sorted_are : (c : After-sorted) → IfOk c.sorted.result (λ rows. AreBlockRows c.byte.result
     (fault_names c.args.circuit.now c.args.list.now.list) c.args.detected.now
     (map cells_in rows.items))
 sorted_are c =
@@ -52,21 +52,25 @@ sorted_are c =
     let count : c.count.result ≡ length names =
     c.count.ensures ∙ sym (length-map list (fault_name c.args.circuit.now)) in
     ok_as (λ sorted. AreSortedRows c.count.result c.deref.result.now sorted.items)
-    (λ sorted. AreBlockRows c.args.separator names c.args.detected.now (map cells_in sorted.items))
+    (λ sorted. AreBlockRows c.byte.result names c.args.detected.now (map cells_in sorted.items))
     c.sorted.result
-    (λ sorted by. sorted_rows c.args.separator names c.args.detected.now rows sorted.items
+    (λ sorted by. sorted_rows c.byte.result names c.args.detected.now rows sorted.items
     c.in_ok-rows.ensures.rows
     (subst (λ n. AreSortedRows n rows sorted.items) count
     (subst (λ l. AreSortedRows c.count.result l sorted.items) c.deref.ensures.value by)))
     c.sorted.ensures
 
 pub returns-clause-rows : goal.returns-clause-rows
-returns-clause-rows c = sorted_are (goal.at.returns-clause-rows c).After-sorted
+returns-clause-rows c =
+    let names = fault_names c.args.circuit.now c.args.list.now.list in
+    subst (λ byte. IfOk c.sorted.result (λ rows. AreBlockRows byte names c.args.detected.now
+    (map cells_in rows.items))) c.byte.ensures.byte
+    (sorted_are (goal.at.returns-clause-rows c).After-sorted)
 
 pub returns-clause-some : goal.returns-clause-some
 returns-clause-some c =
     let names = fault_names c.args.circuit.now c.args.list.now.list in
-    ok_as (λ rows. AreBlockRows c.args.separator names c.args.detected.now
+    ok_as (λ rows. AreBlockRows c.byte.result names c.args.detected.now
     (map cells_in rows.items)) (λ rows. All (λ row. 0 < row.faults) rows.items) c.sorted.result
-    (λ rows are. rows_some c.args.separator names c.args.detected.now rows.items are)
+    (λ rows are. rows_some c.byte.result names c.args.detected.now rows.items are)
     (sorted_are (goal.at.returns-clause-some c).After-sorted)
