@@ -63,7 +63,14 @@ pub fn write_blocks_of_run<R: Threads + Wait, G: Watch + Sync, W: Out>(
     let verdicts = run.run(rt, alloc, parts, workers, gate)?;
     let detected = detected_flags(alloc, &verdicts)?;
     let job = run.job();
-    write_blocks(alloc, job.circuit(), job.faults(), &detected, separator, out)
+    write_blocks(
+        alloc,
+        job.circuit(),
+        job.faults(),
+        &detected,
+        separator,
+        out,
+    )
 }
 
 /// Returns whether each fault is detected, by its number.

@@ -17,7 +17,11 @@ impl Separator {
     pub fn of(byte: u8) -> Option<Separator>
         ensures { MatchOption result (128 ≤ byte) (λ separator. byte_of separator ≡ byte) }
     {
-        if byte < 128 { Some(Separator { byte }) } else { None }
+        if byte < 128 {
+            Some(Separator { byte })
+        } else {
+            None
+        }
     }
 
     /// Returns the byte.

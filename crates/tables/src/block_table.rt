@@ -167,7 +167,13 @@ fn csv_of_blocks(
         ≡ blocks_csv detected faults (map cells_in rows.now)) }
 {
     let mut writer = WriterBuilder::new().from_writer(Vec::new(alloc));
-    put_fields(&mut writer, "block", "detected", "faults", "percent".as_bytes())?;
+    put_fields(
+        &mut writer,
+        "block",
+        "detected",
+        "faults",
+        "percent".as_bytes(),
+    )?;
     put_numbers(alloc, &mut writer, "(circuit)", detected, faults)?;
     for row in rows {
         put_numbers(alloc, &mut writer, row.name, row.detected, row.faults)?;
@@ -190,7 +196,13 @@ fn put_numbers<'a>(
     let mut found = Buffer::new();
     let mut all = Buffer::new();
     let percent = percent_text(alloc, detected, faults)?;
-    put_fields(writer, name, found.format(detected), all.format(faults), &percent)
+    put_fields(
+        writer,
+        name,
+        found.format(detected),
+        all.format(faults),
+        &percent,
+    )
 }
 
 /// Returns the percentage of a part, rounded down.

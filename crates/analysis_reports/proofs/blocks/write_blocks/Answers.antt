@@ -23,7 +23,7 @@ returns-in_err-put_blocks-clause-written g c =
       blocks_text flags (map cells_in rows),
       (map cells_in rows, c.in_ok-rows.ensures.rows, refl),
       rw (text_of_rows flags rows c.count_flags.result c.count-total.result
-      c.count_flags.ensures (c.count-total.ensures ∙ sym c.requires.count)) at wrote,
+          c.count_flags.ensures (c.count-total.ensures ∙ sym c.requires.count)) at wrote,
     )
 
 pub returns-clause-written : goal.returns-clause-written
@@ -34,5 +34,5 @@ returns-clause-written g c =
       blocks_text flags (map cells_in rows),
       (map cells_in rows, c.in_ok-rows.ensures.rows, refl),
       rw (text_of_rows flags rows c.count_flags.result c.count-total.result
-      c.count_flags.ensures (c.count-total.ensures ∙ sym c.requires.count)) at wrote,
+          c.count_flags.ensures (c.count-total.ensures ∙ sym c.requires.count)) at wrote,
     )
