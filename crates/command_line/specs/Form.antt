@@ -2,6 +2,7 @@
 use Rattle.std.specs.Prelude.{◌≡◌, ⊤, ℕ, List, Option, Some}
 use Rattle.bench_net.specs.Refusal.{IsAccepted}
 use Rattle.fault_model.specs.declared.Model.{Model}
+use Rattle.block_coverage.specs.Blocks.{byte_of}
 use Rattle.block_sim.specs.Parts.{BelongTogether, Parts}
 use Rattle.job_loading.specs.declared.fault.SimFault.{SimFault}
 use Rattle.job_loading.specs.declared.fault.SimFault.TheVariants as fault
@@ -9,10 +10,12 @@ use Rattle.job_loading.specs.Jobs.{IsJobOf}
 use Rattle.report.specs.Curve.{IsCurveOfJob}
 use Rattle.report.specs.EndToEnd.{IsReportOfJob}
 use Rattle.analysis_reports.specs.declared.compacted.KeptCount.{KeptCount}
+use Rattle.analysis_reports.specs.Blocks.{IsBlockReportOfJob}
 use Rattle.analysis_reports.specs.Compacted.{IsKeptTextOfJob}
 use Rattle.analysis_reports.specs.Detected.{IsDetectionReportOfJob}
 use Rattle.analysis_reports.specs.Histogram.{IsHistogramReportOfJob}
 use Rattle.analysis_reports.specs.Reasons.{IsReasonReportOfJob}
+use Rattle.tables.specs.BlockTables.{IsBlockTableOfJob}
 use Rattle.tables.specs.CurveTables.{IsCurveTableOfJob}
 use Rattle.tables.specs.HistogramTables.{IsHistogramTableOfJob}
 use Rattle.tables.specs.Reasons.{IsReasonTableOfJob}
@@ -28,6 +31,9 @@ IsFormOfJob job (form.Report contents) bytes = IsReportOfJob job contents bytes
 IsFormOfJob job (form.Table lines format) bytes = IsFirstTableOfJob job lines format bytes
 IsFormOfJob job (form.Reasons classes) bytes = IsReasonReportOfJob job classes bytes
 IsFormOfJob job (form.ReasonTable format) bytes = IsReasonTableOfJob job format bytes
+IsFormOfJob job (form.Blocks separator) bytes = IsBlockReportOfJob job (byte_of separator) bytes
+IsFormOfJob job (form.BlockTable separator format) bytes =
+    IsBlockTableOfJob job (byte_of separator) format bytes
 IsFormOfJob job form.Curve bytes = IsCurveOfJob job bytes
 IsFormOfJob job (form.CurveTable format) bytes = IsCurveTableOfJob job format bytes
 IsFormOfJob job (form.Detections most list) bytes = IsDetectionReportOfJob job most list bytes

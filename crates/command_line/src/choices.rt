@@ -45,6 +45,9 @@ pub(crate) enum Choice {
     Undetected,
     Why,
     Classes,
+    /// The coverage of each block of a run, and of merged part files.
+    Blocks,
+    MergeBlocks,
     Pairs,
     Numbers,
     /// The order of the tests that a compaction keeps.
@@ -194,6 +197,25 @@ fn classes_flag<'a>(alloc: Global) -> Arg<'a> {
         .help("Print the coverage of the fault classes, too")
 }
 
+/// Returns the option `--blocks S`.
+fn blocks_option<'a>(alloc: Global) -> Result<Arg<'a>, AllocError> {
+    Arg::new(alloc, "blocks")
+        .long("blocks")
+        .value_name("S")
+        .help("Print the coverage of each block, too; S ends a block in a name, such as .")
+        .conflicts_with("list")?
+        .conflicts_with("undetected")?
+        .conflicts_with("classes")
+}
+
+/// Returns the option `--blocks S` of `run`.
+fn run_blocks_option<'a>(alloc: Global) -> Result<Arg<'a>, AllocError> {
+    blocks_option(alloc)?
+        .conflicts_with("why")?
+        .conflicts_with("part")?
+        .conflicts_with("detections")
+}
+
 /// Returns the flag `--pairs` of `responses`.
 fn pairs_flag<'a>(alloc: Global) -> Arg<'a> {
     Arg::new(alloc, "pairs")
@@ -231,7 +253,7 @@ fn test_order_option<'a>(alloc: Global) -> Arg<'a> {
 
 /// Returns the option `--bench FILE` of `merge`.
 fn merge_bench_option<'a>(alloc: Global) -> Arg<'a> {
-    let help = "The circuit of the run, for --classes and --format";
+    let help = "The circuit of the run, for --classes, --blocks and --format";
     file_option(alloc, "bench", 'b', help).required(false)
 }
 
@@ -355,6 +377,8 @@ pub(crate) fn option<'a>(
         Choice::Undetected => undetected_flag(alloc)?,
         Choice::Why => why_flag(alloc)?,
         Choice::Classes => classes_flag(alloc),
+        Choice::Blocks => run_blocks_option(alloc)?,
+        Choice::MergeBlocks => blocks_option(alloc)?.requires_arg("bench")?,
         Choice::Pairs => pairs_flag(alloc),
         Choice::Numbers => numbers_flag(alloc),
         Choice::TestOrder => test_order_option(alloc),

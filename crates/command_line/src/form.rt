@@ -7,17 +7,18 @@ ghost use Rattle.command_line.specs.Form.{IsFormOfJob};
 
 use crate::tally::Tally;
 use analysis_reports::{
-    KeptLayout, write_detections_of_run, write_histogram_of_run, write_kept_of_run,
-    write_reasons_of_run,
+    KeptLayout, write_blocks_of_run, write_detections_of_run, write_histogram_of_run,
+    write_kept_of_run, write_reasons_of_run,
 };
+use block_coverage::Separator;
 use job_loading::RunJob;
 use report::{Contents, Lines, Out, SimFault, Watch, write_curve_of_run, write_report_of_run};
 use std::alloc::Global;
 use std::sync::Wait;
 use std::thread::Threads;
 use tables::{
-    Format, write_curve_table_of_run, write_histogram_table_of_run, write_reason_table_of_run,
-    write_table_of_run,
+    Format, write_block_table_of_run, write_curve_table_of_run, write_histogram_table_of_run,
+    write_reason_table_of_run, write_table_of_run,
 };
 
 /// The output of a run of all classes.
@@ -26,21 +27,42 @@ pub(crate) enum Form {
     /// The report.
     Report(Contents),
     /// The table of the first tests.
-    Table { lines: Lines, format: Format },
+    Table {
+        lines: Lines,
+        format: Format,
+    },
     /// The report of the undetected faults with their reasons.
-    Reasons { classes: bool },
+    Reasons {
+        classes: bool,
+    },
     /// The table of the undetected faults with their reasons.
     ReasonTable(Format),
+    /// The coverage of each block.
+    Blocks(Separator),
+    /// The table of the coverage of each block.
+    BlockTable {
+        separator: Separator,
+        format: Format,
+    },
     /// The curve.
     Curve,
     /// The table of the curve.
     CurveTable(Format),
     /// The report of how many tests detect each fault, with a line for each if `list` is set.
-    Detections { most: u32, list: bool },
+    Detections {
+        most: u32,
+        list: bool,
+    },
     /// That report, and then the histogram.
-    Histogram { most: u32, list: bool },
+    Histogram {
+        most: u32,
+        list: bool,
+    },
     /// The table of the histogram.
-    HistogramTable { most: u32, format: Format },
+    HistogramTable {
+        most: u32,
+        format: Format,
+    },
     /// The tests that a compaction keeps.
     Kept(KeptLayout),
 }
@@ -75,6 +97,12 @@ pub(crate) fn write_form_of_run<R: Threads + Wait, G: Watch + Sync, W: Out>(
         }
         Form::ReasonTable(format) => {
             write_reason_table_of_run(rt, alloc, run, parts, workers, format, gate, out)
+        }
+        Form::Blocks(separator) => {
+            write_blocks_of_run(rt, alloc, run, parts, workers, separator, gate, out)
+        }
+        Form::BlockTable { separator, format } => {
+            write_block_table_of_run(rt, alloc, run, parts, workers, separator, format, gate, out)
         }
         Form::Curve => write_curve_of_run(rt, alloc, run, parts, workers, gate, out),
         Form::CurveTable(format) => {

@@ -5,6 +5,7 @@
 #![tactic(auto)]
 
 mod arguments;
+mod blocks;
 mod check;
 mod choices;
 mod columns;

@@ -1,20 +1,27 @@
 //! The command `merge`.
 
+ghost use Rattle.std.specs.Prelude.{◌≡◌, IfOk, length};
+ghost use Rattle.fault_model.specs.Fault.{faults};
+ghost use Rattle.part_files.specs.Merging.{run_of};
+
+use crate::blocks::read_separator;
 use crate::command::{read_file, read_lines, read_option};
 use crate::format::read_format;
 use crate::status::{CommandError, NO_MEMORY, UNWRITTEN, merge_fault, part_fault};
 use crate::threshold::{check_threshold, read_threshold};
+use analysis_reports::write_blocks;
 use bench_net::{Circuit, read_bench};
+use block_coverage::Separator;
 use clap::ArgMatches;
 use command_basics::{Source, model_named};
-use fault_model::{Classes, Model, collapse, list_faults_in};
+use fault_model::{Classes, Faults, Model, collapse, list_faults_in};
 use part_files::{
     Merge, MergeFault, Merged, PartHeader, read_part, write_merged, write_merged_with_classes,
 };
 use report::{Lines, Out, ReportFault, SimFault, sum_of};
 use std::alloc::{AllocError, Global};
 use std::str::from_utf8;
-use tables::{Format, write_merged_table};
+use tables::{Format, merged_flags, write_block_table, write_merged_table};
 
 /// The output of `merge`.
 #[derive(Clone, Copy)]
@@ -25,19 +32,25 @@ enum Outcome {
     Classes,
     /// A table.
     Table(Format),
+    /// The coverage of each block, as a table if a format is given.
+    Blocks(Separator, Option<Format>),
 }
 
 /// The reason why `--format` cannot be used without a circuit.
 const NO_CIRCUIT: &str = "give --bench FILE, too: the circuit of the run";
 
 /// The reason why `--bench` cannot be used without an option that needs it.
-const NO_USE: &str = "give it with --classes, --format csv or --format json";
+const NO_USE: &str = "give it with --classes, --blocks, --format csv or --format json";
 
 /// Reads from the command line the output that it requests.
 fn read_outcome<'a>(matches: &ArgMatches<'a>) -> Result<Outcome, CommandError<'a>> {
     let has_circuit = matches.get_str("bench").is_some();
     let classes = matches.get_flag("classes");
-    match read_format(matches)? {
+    let format = read_format(matches)?;
+    if let Some(separator) = read_separator(matches)? {
+        return Ok(Outcome::Blocks(separator, format));
+    }
+    match format {
         Some(format) if has_circuit => Ok(Outcome::Table(format)),
         Some(_) => Err(CommandError::Unfit("--format", NO_CIRCUIT)),
         None if classes => Ok(Outcome::Classes),
@@ -77,6 +90,11 @@ pub(crate) fn do_merge<'a, S: Source, W: Out>(
             let bench = read_option(alloc, matches, "bench", files)?;
             let model = model_for(alloc, matches, first, &text, &bench)?;
             write_table(alloc, model, &bench, first, &merged, lines, format, out)?;
+        }
+        Outcome::Blocks(separator, format) => {
+            let bench = read_option(alloc, matches, "bench", files)?;
+            let model = model_for(alloc, matches, first, &text, &bench)?;
+            write_block_coverage(alloc, model, &bench, first, &merged, separator, format, out)?;
         }
     }
     check_threshold(threshold, merged.detected(), merged.total())
@@ -196,10 +214,35 @@ fn write_classes<'a, W: Out>(
     }
 }
 
-/// Writes the table of a merged run of a bench file under a model.
+/// Returns the circuit of a bench file, and its faults under a model.
 ///
 /// If the part file at `path` has another number of faults than the circuit, the error names the
 /// first line that only one has.
+fn read_list<'a>(
+    alloc: Global,
+    model: Model,
+    bench: &[u8],
+    path: &'a str,
+    merged: &Merged<'_>,
+) -> Result<(Circuit, Faults), CommandError<'a>>
+    ensures list { IfOk result (λ read. read.1.list ≡ faults read.1.model read.0) }
+    ensures count { IfOk result (λ read.
+        length (run_of merged.now).firsts ≡ length read.1.list) }
+{
+    let circuit = read_circuit(alloc, bench)?;
+    let Ok(list) = list_faults_in(alloc, &circuit, model) else {
+        return Err(NO_MEMORY);
+    };
+    let total = merged.total();
+    if total != list.count() {
+        let line = u64::from(total.min(list.count())) + 2;
+        return Err(CommandError::Part(path, MergeFault::Differs(line)));
+    }
+    Ok((circuit, list))
+}
+
+/// Writes the table of a merged run of a bench file under a model, whose part file at `path` was
+/// read first.
 fn write_table<'a, W: Out>(
     alloc: Global,
     model: Model,
@@ -210,16 +253,36 @@ fn write_table<'a, W: Out>(
     format: Format,
     out: &mut W,
 ) -> Result<(), CommandError<'a>> {
-    let circuit = read_circuit(alloc, bench)?;
-    let Ok(list) = list_faults_in(alloc, &circuit, model) else {
+    let (circuit, list) = read_list(alloc, model, bench, path, merged)?;
+    match write_merged_table(alloc, merged, &circuit, &list, lines, format, out) {
+        Ok(()) => Ok(()),
+        Err(fault) => Err(CommandError::Sim(fault)),
+    }
+}
+
+/// Writes the coverage of each block of a merged run, as a table if a format is given. The other
+/// values are as in [`write_table`].
+fn write_block_coverage<'a, W: Out>(
+    alloc: Global,
+    model: Model,
+    bench: &[u8],
+    path: &'a str,
+    merged: &Merged<'_>,
+    separator: Separator,
+    format: Option<Format>,
+    out: &mut W,
+) -> Result<(), CommandError<'a>> {
+    let (circuit, list) = read_list(alloc, model, bench, path, merged)?;
+    let Ok(detected) = merged_flags(alloc, merged) else {
         return Err(NO_MEMORY);
     };
-    let total = merged.total();
-    if total != list.count() {
-        let line = u64::from(total.min(list.count())) + 2;
-        return Err(CommandError::Part(path, MergeFault::Differs(line)));
-    }
-    match write_merged_table(alloc, merged, &circuit, &list, lines, format, out) {
+    let done = match format {
+        Some(format) => {
+            write_block_table(alloc, &circuit, &list, &detected, separator, format, out)
+        }
+        None => write_blocks(alloc, &circuit, &list, &detected, separator, out),
+    };
+    match done {
         Ok(()) => Ok(()),
         Err(fault) => Err(CommandError::Sim(fault)),
     }

@@ -104,7 +104,7 @@ static CHECK_CHOICES: [Choice; 4] = [
 ];
 
 /// The options of `run`.
-static RUN_CHOICES: [Choice; 16] = [
+static RUN_CHOICES: [Choice; 17] = [
     Choice::Bench,
     Choice::Tests,
     Choice::Model,
@@ -117,6 +117,7 @@ static RUN_CHOICES: [Choice; 16] = [
     Choice::Undetected,
     Choice::Why,
     Choice::Classes,
+    Choice::Blocks,
     Choice::RunFormat,
     Choice::RunFailUnder,
     Choice::Summary,
@@ -165,10 +166,11 @@ static SCHEDULE_CHOICES: [Choice; 8] = [
 static FAULTS_CHOICES: [Choice; 3] = [Choice::Bench, Choice::Model, Choice::Format];
 
 /// The options of `merge`.
-static MERGE_CHOICES: [Choice; 7] = [
+static MERGE_CHOICES: [Choice; 8] = [
     Choice::List,
     Choice::Undetected,
     Choice::MergeClasses,
+    Choice::MergeBlocks,
     Choice::MergeFormat,
     Choice::MergeBench,
     Choice::FailUnder,
@@ -276,6 +278,13 @@ number of faults for each reason. Without test 11 these are:
 no path        no OUTPUT line and no flip-flop is reached from the line
 not activated  no test sets the other bit, or no pair launches the transition
 not observed   a test activates the fault, and none detects it
+
+--blocks . prints after the coverage that of each block, the most undetected
+first. Each . in a name ends a block: the faults at u.v.z are in u and in u.v. A
+pin is in the block of its gate, a data pin in that of its flip-flop.
+
+    block u 3 of 6 (50.00%)
+    block u.v 1 of 2 (50.00%)
 
 A test file of 4 MiB or more is read piece by piece, each other FILE whole. One
 FILE can be -, the standard input.";

@@ -3,6 +3,7 @@
 ghost use Rattle.std.specs.Prelude.{◌<◌, IfOk, IfSome};
 ghost use Rattle.job_loading.specs.Splits.{HasSomePart};
 
+use crate::blocks::read_separator;
 use crate::choices::MAX_PARTS;
 use crate::command::{read_contents, read_model, read_option};
 use crate::crew::read_crew;
@@ -15,6 +16,7 @@ use crate::status::CommandError;
 use crate::summary::{Request, read_request, version_and_proof};
 use crate::tally::Found;
 use crate::threshold::{Threshold, check_threshold, read_threshold};
+use block_coverage::Separator;
 use clap::ArgMatches;
 use command_basics::Source;
 use report::{Contents, Lines, Out, Split};
@@ -27,9 +29,21 @@ use tables::{Format, Summary};
 fn read_form<'a>(matches: &ArgMatches<'a>) -> Result<Form, CommandError<'a>> {
     let contents = read_contents(matches)?;
     let why = matches.get_flag("why");
-    match read_format(matches)? {
+    let format = read_format(matches)?;
+    if let Some(separator) = read_separator(matches)? {
+        return Ok(blocks_form(separator, format));
+    }
+    match format {
         Some(format) => table_form(contents.lines, format, why),
         None => report_form(contents, why),
+    }
+}
+
+/// Returns the form of the coverage of blocks, as a table if a format is given.
+fn blocks_form(separator: Separator, format: Option<Format>) -> Form {
+    match format {
+        Some(format) => Form::BlockTable { separator, format },
+        None => Form::Blocks(separator),
     }
 }
 
