@@ -27,42 +27,25 @@ pub(crate) enum Form {
     /// The report.
     Report(Contents),
     /// The table of the first tests.
-    Table {
-        lines: Lines,
-        format: Format,
-    },
+    Table { lines: Lines, format: Format },
     /// The report of the undetected faults with their reasons.
-    Reasons {
-        classes: bool,
-    },
+    Reasons { classes: bool },
     /// The table of the undetected faults with their reasons.
     ReasonTable(Format),
     /// The coverage of each block.
     Blocks(Separator),
     /// The table of the coverage of each block.
-    BlockTable {
-        separator: Separator,
-        format: Format,
-    },
+    BlockTable(Separator, Format),
     /// The curve.
     Curve,
     /// The table of the curve.
     CurveTable(Format),
     /// The report of how many tests detect each fault, with a line for each if `list` is set.
-    Detections {
-        most: u32,
-        list: bool,
-    },
+    Detections { most: u32, list: bool },
     /// That report, and then the histogram.
-    Histogram {
-        most: u32,
-        list: bool,
-    },
+    Histogram { most: u32, list: bool },
     /// The table of the histogram.
-    HistogramTable {
-        most: u32,
-        format: Format,
-    },
+    HistogramTable { most: u32, format: Format },
     /// The tests that a compaction keeps.
     Kept(KeptLayout),
 }
@@ -101,7 +84,7 @@ pub(crate) fn write_form_of_run<R: Threads + Wait, G: Watch + Sync, W: Out>(
         Form::Blocks(separator) => {
             write_blocks_of_run(rt, alloc, run, parts, workers, separator, gate, out)
         }
-        Form::BlockTable { separator, format } => {
+        Form::BlockTable(separator, format) => {
             write_block_table_of_run(rt, alloc, run, parts, workers, separator, format, gate, out)
         }
         Form::Curve => write_curve_of_run(rt, alloc, run, parts, workers, gate, out),

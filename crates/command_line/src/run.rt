@@ -42,7 +42,7 @@ fn read_form<'a>(matches: &ArgMatches<'a>) -> Result<Form, CommandError<'a>> {
 /// Returns the form of the coverage of blocks, as a table if a format is given.
 fn blocks_form(separator: Separator, format: Option<Format>) -> Form {
     match format {
-        Some(format) => Form::BlockTable { separator, format },
+        Some(format) => Form::BlockTable(separator, format),
         None => Form::Blocks(separator),
     }
 }
