@@ -149,15 +149,15 @@ fn put_lines<W: Out>(rows: &[BlockRow], out: &mut W) -> Result<(), OutFailed>
         (flat_map row_line rows.now) }
 {
     for row in rows {
-        put_line(*row, out)?;
+        put_line(row, out)?;
     }
     Ok(())
 }
 
 /// Writes the line of a row.
-fn put_line<W: Out>(row: BlockRow, out: &mut W) -> Result<(), OutFailed>
-    requires { 0 < row.faults }
-    ensures { Writes result (W.seen out.old) (W.seen out.new) (row_line row) }
+fn put_line<W: Out>(row: &BlockRow, out: &mut W) -> Result<(), OutFailed>
+    requires { 0 < row.now.faults }
+    ensures { Writes result (W.seen out.old) (W.seen out.new) (row_line row.now) }
 {
     put_pieces(&["block ", row.name, " "], out)?;
     put_coverage(row.detected, row.faults, "", out)

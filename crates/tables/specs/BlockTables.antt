@@ -34,11 +34,14 @@ abbrev pub blocks_csv : ℕ → ℕ → List BlockCells → List ℕ
 blocks_csv detected faults rows = blocks_header
     ++ (csv_block (codes "(circuit)") detected faults ++ flat_map csv_row rows)
 
--- the JSON object of a row, on a line of its own after a comma
+-- the JSON object of a block, by its quoted name, on a line of its own after a comma
+abbrev pub block_object : List ℕ → ℕ → ℕ → List ℕ
+block_object name detected faults = codes ",\n{\"block\":" ++ (name ++ (codes ",\"detected\":"
+    ++ (decimal detected ++ (codes ",\"faults\":" ++ (decimal faults
+    ++ (codes ",\"percent\":" ++ (percentage detected faults ++ codes "}")))))))
+
 abbrev pub json_row : BlockCells → List ℕ
-json_row row = codes ",\n{\"block\":" ++ (quoted row.name ++ (codes ",\"detected\":"
-    ++ (decimal row.detected ++ (codes ",\"faults\":" ++ (decimal row.faults
-    ++ (codes ",\"percent\":" ++ (percentage row.detected row.faults ++ codes "}")))))))
+json_row row = block_object (quoted row.name) row.detected row.faults
 
 -- a JSON object of the sums and of an array of rows, in which the first row has no comma before it
 abbrev pub json_blocks : ℕ → ℕ → List ℕ → List ℕ

@@ -279,15 +279,15 @@ fn json_rows(alloc: Global, rows: &[BlockRow]) -> Result<Vec<u8>, AllocError>
 {
     let mut text = Vec::new(alloc);
     for row in rows {
-        add_json_row(&mut text, alloc, *row)?;
+        add_json_row(&mut text, alloc, row)?;
     }
     Ok(text)
 }
 
 /// Adds the object of a row.
-fn add_json_row(rows: &mut Vec<u8>, alloc: Global, row: BlockRow) -> Result<(), AllocError>
-    requires { 0 < row.faults }
-    ensures { OnOk result (rows.new.items ≡ rows.old.items ++ json_row (cells_in row)) }
+fn add_json_row(rows: &mut Vec<u8>, alloc: Global, row: &BlockRow) -> Result<(), AllocError>
+    requires { 0 < row.now.faults }
+    ensures { OnOk result (rows.new.items ≡ rows.old.items ++ json_row (cells_in row.now)) }
 {
     let name = quoted(alloc, row.name)?;
     let hundredths = hundredths(row.detected, row.faults);
