@@ -1,6 +1,7 @@
 -- The texts of the coverage of blocks.
-use Rattle.std.proofs.Common.{◌≡◌, ◌∙◌, ◌++◌, [], ◌∷◌, ℕ, Bool, List, ap, append_assoc, length, refl}
-use Rattle.std.proofs.Common.{map, subst, sym}
+use Rattle.std.proofs.Common.{◌≡◌, ◌∙◌, ◌++◌, [], ◌∷◌, ℕ, Bool, List, ap, append_assoc, length}
+use Rattle.std.proofs.Common.{refl}
+use Rattle.std.proofs.Common.{map, sym}
 use Rattle.std.specs.Prelude.{Option, codes, flat_map, is_some}
 use Rattle.std.proofs.lemmas.List.{length-map}
 use Rattle.block_sim.specs.Parts.{BelongTogether, Parts}

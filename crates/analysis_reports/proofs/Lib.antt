@@ -5,3 +5,4 @@ mod ReasonTexts
 mod CountedTexts
 mod HistogramTexts
 mod BlockTexts
+pub mod Public

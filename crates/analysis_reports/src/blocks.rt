@@ -1,6 +1,7 @@
 //! The report of the coverage of each block.
 
-ghost use Rattle.std.specs.Prelude.{◌≡◌, ◌<◌, ◌≤◌, ◌^◌, ◌++◌, All, IfErr, IfOk, OnOk, is_some, length};
+ghost use Rattle.std.specs.Prelude.{◌≡◌, ◌<◌, ◌≤◌, ◌^◌, ◌++◌, All, IfErr, IfOk, OnOk, is_some};
+ghost use Rattle.std.specs.Prelude.{length};
 ghost use Rattle.std.specs.Prelude.{map, true};
 ghost use Rattle.std.specs.List.{flat_map};
 ghost use Rattle.fault_model.specs.Fault.{faults};

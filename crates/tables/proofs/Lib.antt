@@ -1,3 +1,4 @@
+mod BlockPieces
 mod CurvePieces
 mod HistogramPieces
 mod Nets

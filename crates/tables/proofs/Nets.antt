@@ -1,16 +1,12 @@
 -- The names of the signals that lines carry, from the results of the calls of a circuit.
 use Rattle.std.proofs.Common.{◌≡◌, ◌<◌, ℕ, zero, suc, refl, ◌∙◌, ap, List, [], ◌∷◌, length}
-use Rattle.std.proofs.Common.{arith, drop}
-use Rattle.std.proofs.lemmas.Option.{get_or_from_slice_get, slice_get-map, slice_get_within}
-use Rattle.std.specs.Prelude.{Contains, Option, Some, None, map, option_map, slice_get}
+use Rattle.std.proofs.lemmas.Option.{slice_get_within}
+use Rattle.std.specs.Prelude.{Option, Some, None, map, option_map, slice_get}
 use Rattle.std.specs.Prelude.{slice_index_or, unwrap_or}
 use Rattle.bench_net.specs.declared.Kind.{Kind}
-use Rattle.bench_net.specs.declared.ScanCell.{ScanCell}
 use Rattle.bench_net.specs.Statement.{Name, Statement, Input, Output, Gate, Dff}
-use Rattle.bench_net.specs.Scan.{names, signal, definition, gate_line, gate_of, cells, name_of}
-use Rattle.bench_net.proofs.Public.{definition_defines, defined_among, name_of-signal, of_cell}
-use Rattle.list_lemmas.proofs.Members.{contained}
-use Rattle.list_lemmas.proofs.Places.{at_place}
+use Rattle.bench_net.specs.Scan.{names, signal, definition, gate_line, gate_of}
+use Rattle.bench_net.proofs.Public.{definition_defines}
 use Rattle.fault_model.specs.Detection.{argument}
 pub use Rattle.block_coverage.proofs.Public.{mapped_at, q_named, signal_named, stored_at}
 

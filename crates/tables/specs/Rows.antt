@@ -6,7 +6,8 @@ use Rattle.fault_model.specs.declared.Line.TheVariants.{Stem, Pin, Data, Out}
 use Rattle.fault_model.specs.declared.Model.{Model}
 use Rattle.fault_model.specs.Detection.{name_on}
 use Rattle.fault_model.specs.Fault.{Fault}
-use Rattle.report.specs.Report.{cell_text, defect_text, signal_text}
+use Rattle.block_coverage.specs.Blocks.{owner}
+use Rattle.report.specs.Report.{defect_text}
 use Rattle.tables.specs.declared.row.Place.{Place}
 use Rattle.tables.specs.declared.row.FaultRow.{FaultRow}
 
@@ -35,10 +36,7 @@ kind_text (Out output) = codes "out"
 
 -- the name of the stem, of the gate that has the pin, of the flip-flop, or of the observed signal
 abbrev pub owner_text : List Statement → Line → List ℕ
-owner_text c (Stem s) = signal_text c s
-owner_text c (Pin gate pin) = signal_text c gate
-owner_text c (Data cell) = cell_text c cell
-owner_text c (Out output) = net_text c (Out output)
+owner_text c l = unwrap_or (owner c l) []
 
 -- the number of a gate's pin, or of an OUTPUT line, from 1
 abbrev pub pin_number : Line → Option ℕ

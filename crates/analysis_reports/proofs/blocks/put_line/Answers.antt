@@ -1,4 +1,3 @@
-use Rattle.std.proofs.Common.{sym}
 use Rattle.std.proofs.lemmas.Result.{err_from_is_err_and}
 use Rattle.byte_output.proofs.Public.{stopped_before, writes_same, writes_then}
 use Rattle.report.specs.Report.{coverage_line}

@@ -1,4 +1,4 @@
-use Rattle.std.proofs.Common.{◌≡◌, ◌∙◌, ap, length, map, subst, sym}
+use Rattle.std.proofs.Common.{ap, map}
 use Rattle.std.specs.Prelude.{is_some}
 use Rattle.fault_model.specs.Fault.{FaultList}
 use Rattle.block_coverage.specs.Blocks.{byte_of}
