@@ -90,7 +90,7 @@ pub fn detected_flags(alloc: Global, verdicts: &Verdicts) -> Result<Vec<bool>, A
 }
 
 /// Writes the coverage of a fault list and of each block, as [`write_blocks_of_run`] does.
-/// `detected` says for each fault of the list whether a test detects it.
+/// `detected` has a flag for each fault of the list: whether a test detects it.
 ///
 /// # Errors
 ///

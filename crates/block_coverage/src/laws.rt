@@ -8,8 +8,8 @@ pub fn block_holds()
     ensures { (separator : ℕ) → HoldsByName separator }
 {}
 
-/// States that the faults of a block are among those of each block around it: a block that is a
-/// block of another one's name has all its faults.
+/// States that each block around a block has all its faults: a block of a block's name is one of
+/// the names of all its faults.
 pub fn inner_block()
     ensures { (separator : ℕ) → HoldsInner separator }
 {}

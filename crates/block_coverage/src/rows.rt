@@ -26,10 +26,10 @@ pub struct BlockRow<'a> {
 
 /// Returns the rows of all blocks of a fault list.
 ///
-/// A fault has the name of its stem, of the gate that has the pin, of the flip-flop that has the
-/// data pin, or of the signal that an OUTPUT line observes. Each place of the separator in the name
-/// ends a block: with `.` a fault at `u.v.z` is in the blocks `u` and `u.v`. `detected` says for
-/// each fault of the list, by its number, whether a test detects it.
+/// A pin has the name of its gate, a data pin that of its flip-flop, and an OUTPUT line that of the
+/// signal that it observes. Each place of the separator in the name ends a block: with `.` a fault
+/// at `u.v.z` is in the blocks `u` and `u.v`. `detected` has a flag for each fault of the list:
+/// whether a test detects it.
 ///
 /// The blocks with most undetected faults come first, and blocks with equally many in the order of
 /// their first faults. Of two with the same first fault the shorter one comes first.

@@ -90,7 +90,7 @@ pub fn write_block_table_of_run<R: Threads + Wait, G: Watch + Sync, W: Out>(
 }
 
 /// Writes the table of the coverage of the blocks of a fault list, as [`write_block_table_of_run`]
-/// does. `detected` says for each fault of the list whether a test detects it.
+/// does. `detected` has a flag for each fault of the list: whether a test detects it.
 ///
 /// # Errors
 ///
