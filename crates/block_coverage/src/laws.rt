@@ -8,8 +8,8 @@ pub fn block_holds()
     ensures { (separator : ℕ) → HoldsByName separator }
 {}
 
-/// States that each block around a block has all its faults: a block of a block's name is one of
-/// the names of all its faults.
+/// States that a block has all faults of the blocks inside it: if a block's name has another block,
+/// each of its faults is in that one, too.
 pub fn inner_block()
     ensures { (separator : ℕ) → HoldsInner separator }
 {}
