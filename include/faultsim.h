@@ -269,8 +269,9 @@ uint32_t fs_count(fs_job *job, uint32_t block, const uint32_t *classes, size_t c
                   uint32_t most, uint32_t *counts, size_t counts_len);
 
 /* Counts the tests that detect each class of a list, up to `most` for a class. The lengths are
- * equal, and the arrays don't overlap. It takes no memory. It simulates class by class, and so takes
- * many times as long as fs_simulate: ask it only for classes that fs_simulate detects. */
+ * equal, and the arrays don't overlap. The list may have any order, and a class more than once. It
+ * simulates region by region, as fs_simulate does, and leaves out a class whose count is `most`. On
+ * any status but FS_DONE `counts` is as it was. */
 uint32_t fs_detections(fs_job *job, const uint32_t *classes, size_t classes_len, uint32_t most,
                        uint32_t *counts, size_t counts_len);
 

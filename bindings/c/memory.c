@@ -102,6 +102,13 @@ static uint32_t add_counts(void) {
     return fs_count(&job, 0, classes, n.classes, 5, firsts, n.classes);
 }
 
+static uint32_t detections(void) {
+    return fs_detections(&job, classes, n.classes, 5, firsts, n.classes);
+}
+
+/* The same for one class, which takes another way. */
+static uint32_t detections_of_one(void) { return fs_detections(&job, classes, 1, 1, firsts, 1); }
+
 /* The calls about the circuit in arrays, over memory of the program. */
 static uint32_t circuit_without(void) {
     static uint32_t numbers[4096], pins[4096], one;
@@ -154,8 +161,6 @@ static uint32_t without(void) {
         status = fs_responses(&job, (uint64_t *)text, n.blocks * observers);
     if (!status)
         status = fs_detecting(&job, 0, 0, &word);
-    if (!status)
-        status = fs_detections(&job, classes, n.classes, 5, firsts, n.classes);
     return status ? status : fs_version() - FAULTSIM_VERSION;
 }
 
@@ -258,6 +263,8 @@ static long refuse_all(void) {
     refused += refuse("fs_simulate", simulate);
     refused += refuse("fs_lanes", class_lanes);
     refused += refuse("fs_count", add_counts);
+    refused += refuse("fs_detections", detections);
+    refused += refuse("fs_detections of a class", detections_of_one);
     refused += refuse("fs_fault_text", fault_text);
     refused += refuse("fs_report", report);
     refused += refuse("fs_job_share", share_it);

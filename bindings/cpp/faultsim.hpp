@@ -367,8 +367,8 @@ public:
     }
 
     // Counts how many tests detect each class of a list, no more than `most` of a class. The
-    // lengths are equal. Spans that overlap are out of range. It simulates class by class, and so
-    // takes many times as long as simulate.
+    // lengths are equal. Spans that overlap are out of range. It simulates region by region, and
+    // leaves out a class whose count is `most`.
     void detections(std::span<const std::uint32_t> classes, std::uint32_t most,
                     std::span<std::uint32_t> counts) const {
         detail::check_apart(classes, counts);

@@ -539,7 +539,7 @@ impl Job {
     }
 
     /// Counts how many tests detect each class of a list, no more than `most` of a class. It
-    /// simulates class by class, and so takes many times as long as [`Job::simulate`].
+    /// simulates region by region, and leaves out a class whose count is `most`.
     pub fn detections(&self, classes: &[u32], most: u32) -> Result<Vec<u32>, Error> {
         let mut counts = vec![0; classes.len()];
         // SAFETY: as above; the call tests the classes.

@@ -8,4 +8,5 @@ mod Options
 mod ObservedSignals
 mod ListsOfJobs
 mod LastTests
+mod MovedTests
 mod BlockLanes

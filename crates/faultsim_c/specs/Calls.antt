@@ -16,7 +16,6 @@ use Rattle.block_sim.specs.Flips.{AreObserving}
 use Rattle.block_sim.specs.Parts.{BelongTogether, Parts}
 use Rattle.flat_circuit.specs.Regions.{IsStemOfClass}
 use Rattle.flat_circuit.specs.Words.{IsFaultFreeWord}
-use Rattle.n_detect.specs.Detections.{IsCount}
 use Rattle.report.specs.declared.contents.Contents.{Contents}
 use Rattle.report.specs.declared.contents.Lines.{Lines}
 use Rattle.report.specs.declared.contents.Lines.TheVariants.{Omitted, Undetected}
@@ -99,14 +98,6 @@ pub record AreFirstNumbers (found : List (Option ℕ)) (firsts : List ℕ) : Typ
 abbrev pub AreClassesOf : Parts → List ℕ → Type 0
 AreClassesOf parts classes = (fault : ℕ) → fault < length parts.list.list
     → slice_index classes fault ≡ slice_index parts.classes.class_of fault
-
--- for each class of a list the number of tests that detect its faults, counted up to `most`
-pub record AreClassCounts (parts : Parts) (classes : List ℕ) (most : ℕ) (counts : List ℕ) :
-    Type 0 where
-  pub count : length counts ≡ length classes
-  pub each : (k class n : ℕ) (f : Fault) → slice_get classes k ≡ Some class
-      → IsClassOf parts.list.model parts.circuit f class
-      → slice_get counts k ≡ Some n → IsCount parts.circuit parts.tests.tests most f n
 
 -- the number of the signal at which the region of the class ends
 pub record IsStemAt (parts : Parts) (class stem : ℕ) : Type 0 where

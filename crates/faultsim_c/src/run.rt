@@ -31,13 +31,12 @@ pub(crate) fn simulate(
 /// Finds the first test that detects each fault.
 pub(crate) fn fault_firsts(
     alloc: Global,
-    session: &mut Session,
+    session: &Session,
     firsts: &mut [u32],
 ) -> Result<(), AllocError>
-    requires { length firsts.old ≡ length session.old.list.list }
-    ensures done { IfOk result (λ _. AreFaultFirsts session.old firsts.new) }
+    requires { length firsts.old ≡ length session.now.list.list }
+    ensures done { IfOk result (λ _. AreFaultFirsts session.now firsts.new) }
     ensures untouched { IfErr result (λ _. firsts.new ≡ firsts.old) }
-    ensures kept { session.new ≡ session.old }
 {
     let _tests = session.job().tests();
     let verdicts = session.verdicts(alloc)?;

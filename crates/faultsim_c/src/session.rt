@@ -8,11 +8,8 @@ ghost use Rattle.patterns.specs.Tests.{HasTests, IsTestList, TestList, blocks};
 ghost use Rattle.block_sim.specs.First.{AreDetecting};
 ghost use Rattle.block_sim.specs.Flips.{AreObserving};
 ghost use Rattle.block_sim.specs.Parts.{BelongTogether, with_tests};
-ghost use Rattle.fault_model.specs.Collapse.{IsClassOf};
-ghost use Rattle.fault_model.specs.Fault.{Fault};
-ghost use Rattle.n_detect.specs.Detections.{IsCount};
 ghost use Rattle.workers.specs.Verdict.{AreClassFirsts, AreFirsts};
-ghost use Rattle.region_runs.specs.ListRunners.{ServesLists};
+ghost use Rattle.class_lists.specs.Lists.{AreClassCounts, ServesClasses};
 ghost use Rattle.faultsim_c.specs.Calls.{IsCircuitJob, IsJobOfTexts};
 ghost use Rattle.faultsim_c.specs.Statuses.{IsBenchReply, IsTestsReply, IsTextsReply, IsUntaken};
 ghost use Rattle.faultsim_c.specs.Statuses.{IsNextReply, IsWordsReply};
@@ -22,8 +19,8 @@ use crate::following::after_last;
 use crate::status::Refusal;
 use bench_net::{Circuit, read_bench};
 use block_sim::{Job, Workspace, detecting, observing};
+use class_lists::ListSimulation;
 use fault_model::{Model as FaultModel, collapse, list_faults_in};
-use n_detect::class_detections;
 use patterns::{Tests, read_tests};
 use region_runs::ListRunner;
 use std::alloc::{AllocError, Global};
@@ -36,18 +33,18 @@ use workers::Verdicts;
 pub(crate) struct Session {
     job: Arc<Job>,
     workspace: Workspace,
-    runner: ListRunner,
+    lists: ListSimulation,
 }
 
 impl Model for Session {
     ghost use Rattle.block_sim.specs.Parts.{HasRoom, Parts};
-    ghost use Rattle.region_runs.specs.ListRunners.{ServesLists};
+    ghost use Rattle.class_lists.specs.Lists.{ServesClasses};
 
     ghost Value = { Parts };
 
     ghost view = { λ s. s.job.value };
 
-    ghost invariant = { λ s. HasRoom s.workspace s.job.value × ServesLists s.runner s.job.value };
+    ghost invariant = { λ s. HasRoom s.workspace s.job.value × ServesClasses s.lists s.job.value };
 }
 
 impl Session {
@@ -83,12 +80,12 @@ impl Session {
         ensures { IfOk result (λ session. session ≡ job) }
     {
         let workspace = Workspace::new(alloc, &job)?;
-        let runner = ListRunner::new(alloc, &job)?;
+        let lists = ListSimulation::new(alloc, &job)?;
         let job = Arc::new(alloc, job)?;
         Ok(Session {
             job,
             workspace,
-            runner,
+            lists,
         })
     }
 
@@ -97,12 +94,12 @@ impl Session {
         ensures { IfOk result (λ session. session ≡ self.now) }
     {
         let workspace = Workspace::new(alloc, &self.job)?;
-        let runner = ListRunner::new(alloc, &self.job)?;
+        let lists = ListSimulation::new(alloc, &self.job)?;
         let job = Arc::try_clone(&self.job)?;
         Ok(Session {
             job,
             workspace,
-            runner,
+            lists,
         })
     }
 
@@ -148,7 +145,7 @@ impl Session {
         ensures kept { IfErr result (λ _. self.new ≡ self.old) }
     {
         let new = Tests::from_words(alloc, self.job.circuit().sources(), count, words)?;
-        let tests = after_last(alloc, self.job.tests(), &new)?;
+        let tests = after_last(alloc, self.job.tests(), new)?;
         self.set_tests(alloc, alone, tests)
     }
 
@@ -202,14 +199,20 @@ impl Session {
         observing(&self.job, &mut self.workspace, signal, block)
     }
 
-    /// Returns the number of tests that detect a class. Counting ends at `most`.
-    pub(crate) fn detections(&mut self, class: u32, most: u32) -> u32
-        requires { class < length self.old.classes.representative }
-        ensures count { (f : Fault) → IsClassOf self.old.list.model self.old.circuit f class
-            → IsCount self.old.circuit self.old.tests.tests most f result }
+    /// Returns for each class of a list the number of tests that detect it. Counting ends at
+    /// `most`.
+    pub(crate) fn detections(
+        &mut self,
+        alloc: Global,
+        classes: &[u32],
+        most: u32,
+    ) -> Result<Vec<u32>, AllocError>
+        requires { All (λ class. class < length self.old.classes.representative) classes.now }
+        ensures counts { IfOk result (λ counts.
+            AreClassCounts self.old classes.now most counts.items) }
         ensures kept { self.new ≡ self.old }
     {
-        class_detections(&self.job, &mut self.workspace, class, most)
+        self.lists.detections(alloc, &self.job, classes, most)
     }
 
     /// Returns the first test that detects each class of a list, or none.
@@ -223,16 +226,16 @@ impl Session {
             self.old.circuit self.old.tests.tests classes.now firsts.items) }
         ensures kept { self.new ≡ self.old }
     {
-        self.runner.first_tests(alloc, &self.job, classes)
+        self.lists.first_tests(alloc, &self.job, classes)
     }
 
     /// Returns the verdicts on all faults.
-    pub(crate) fn verdicts(&mut self, alloc: Global) -> Result<Verdicts, AllocError>
-        ensures firsts { IfOk result (λ verdicts. AreFirsts self.old.list.model
-            self.old.circuit self.old.tests.tests verdicts.firsts) }
-        ensures kept { self.new ≡ self.old }
+    pub(crate) fn verdicts(&self, alloc: Global) -> Result<Verdicts, AllocError>
+        ensures { IfOk result (λ verdicts. AreFirsts self.now.list.model self.now.circuit
+            self.now.tests.tests verdicts.firsts) }
     {
-        self.runner.verdicts(alloc, &self.job)
+        let mut runner = ListRunner::new(alloc, &self.job)?;
+        runner.verdicts(alloc, &self.job)
     }
 }
 

@@ -777,8 +777,8 @@ class Job:
 
     def detections(self, most: int, classes: Optional[Iterable[int]] = None) -> Numbers:
         """How many tests detect each class of a list, or of all, counted up to `most`: an array
-        of the shape (classes,). It simulates class by class, and so takes many times as long as
-        `simulate`."""
+        of the shape (classes,). It simulates region by region, and leaves out a class whose count
+        is `most`."""
         asked = self._all() if classes is None else _numbers(classes, "I")
         counts = _room(len(asked), "I")
         status = self._call(

@@ -7,4 +7,4 @@ pub returns-clause-done : goal.returns-clause-done
 returns-clause-done c =
     faults_told c.args.session.now c.in_ok-verdicts.verdicts.firsts c.write_verdicts.new.firsts
     (subst BelongTogether c.job.ensures c.tests-tests.ensures.together)
-    c.in_ok-verdicts.ensures.firsts c.write_verdicts.ensures
+    c.in_ok-verdicts.ensures c.write_verdicts.ensures

@@ -1,0 +1,7 @@
+mod NumberedPlaces
+mod ListOrders
+mod OpenPlaces
+mod ListRuns
+mod ClassHits
+mod TakenCounts
+mod ClassCounts

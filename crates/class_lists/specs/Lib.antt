@@ -1,0 +1,3 @@
+pub mod Lists
+pub mod ListRuns
+pub mod Orders

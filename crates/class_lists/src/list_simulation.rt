@@ -1,0 +1,142 @@
+//! The simulation of lists of classes of a job, one list after another.
+
+ghost use Rattle.std.specs.Prelude.{◌≡◌, ◌<◌, All, IfOk, None, length, map, slice_index_or};
+ghost use Rattle.workers.specs.Verdict.{AreClassFirsts};
+ghost use Rattle.n_detect.specs.ListLanes.{numbers_at};
+ghost use Rattle.class_lists.specs.Lists.{AreClassCounts, ServesClasses};
+
+use crate::count::counts_of;
+use crate::list_order::{number_at, order_of};
+use crate::list_run::run;
+use block_sim::Job;
+use region_sim::class_order::{ClassOrder, class_order};
+use region_sim::{FirstTest, RegionSimulation};
+use std::alloc::{AllocError, Global};
+use std::marker::Model;
+
+/// A simulation of lists of classes of a job in the thread of its caller, one list after another.
+/// Each of several threads has its own.
+///
+/// It keeps room for the simulation of regions, and the rank of each class, by which classes of one
+/// region are adjacent. Both depend only on the circuit and the classes of the job, and not on its
+/// tests.
+#[derive(Drop)]
+pub struct ListSimulation {
+    regions: RegionSimulation,
+    ranks: Vec<u32>,
+}
+
+impl Model for ListSimulation {
+    ghost use Rattle.class_lists.specs.Lists.{ListsSimulated};
+
+    ghost Value = { ListsSimulated };
+
+    ghost view = { λ s. record { regions = s.regions; ranks = s.ranks.items } };
+}
+
+impl ListSimulation {
+    /// Makes room for the lists of a job. It takes a few words and numbers for each signal, and a
+    /// number for each class.
+    pub fn new(alloc: Global, job: &Job) -> Result<ListSimulation, AllocError>
+        ensures { IfOk result (λ lists. ServesClasses lists job.now) }
+    {
+        let regions = RegionSimulation::new(alloc, job)?;
+        let order = class_order(alloc, job)?;
+        let ClassOrder {
+            classes: _classes,
+            positions,
+        } = order;
+        Ok(ListSimulation {
+            regions,
+            ranks: positions,
+        })
+    }
+
+    /// Returns for each class of a list the first test that detects its faults, or none if no test
+    /// does. The list may have any order, and name a class more than once. Classes of a region are
+    /// simulated together.
+    ///
+    /// Beside the simulation it takes a few numbers for each class of the list. Only for a list of
+    /// a sixteenth of all classes and more does it take some time for each class of the job.
+    pub fn first_tests(
+        &mut self,
+        alloc: Global,
+        job: &Job,
+        classes: &[u32],
+    ) -> Result<Vec<Option<u32>>, AllocError>
+        requires serves { ServesClasses self.old job.now }
+        requires classes { All (λ class. class < length job.now.classes.representative)
+            classes.now }
+        ensures firsts { IfOk result (λ firsts. AreClassFirsts job.now.list.model
+            job.now.circuit job.now.tests.tests classes.now firsts.items) }
+        ensures serves { ServesClasses self.new job.now }
+    {
+        let count = job.classes().count();
+        let order = order_of(alloc, self.ranks.as_slice(), count, classes)?;
+        let listed = order.classes.as_slice();
+        let found = run(alloc, job, listed, &mut self.regions, &FirstTest)?;
+        let firsts = firsts_at(alloc, found.as_slice(), order.positions.as_slice())?;
+        Ok(firsts)
+    }
+
+    /// Counts the tests that detect the faults of each class of a list. A count ends at `most`, so
+    /// more tests may detect a class with `most`. The list may have any order, and name a class
+    /// more than once. It takes the time and memory of [`ListSimulation::first_tests`], but goes on
+    /// with a class behind its first test.
+    pub fn detections(
+        &mut self,
+        alloc: Global,
+        job: &Job,
+        classes: &[u32],
+        most: u32,
+    ) -> Result<Vec<u32>, AllocError>
+        requires serves { ServesClasses self.old job.now }
+        requires classes { All (λ class. class < length job.now.classes.representative)
+            classes.now }
+        ensures counts { IfOk result (λ counts.
+            AreClassCounts job.now classes.now most counts.items) }
+        ensures serves { ServesClasses self.new job.now }
+    {
+        let count = job.classes().count();
+        let order = order_of(alloc, self.ranks.as_slice(), count, classes)?;
+        let listed = order.classes.as_slice();
+        let found = counts_of(alloc, job, listed, &mut self.regions, most)?;
+        let counts = counts_at(alloc, found.as_slice(), order.positions.as_slice())?;
+        Ok(counts)
+    }
+}
+
+/// Returns the first tests at these positions.
+fn firsts_at(
+    alloc: Global,
+    found: &[Option<u32>],
+    positions: &[u32],
+) -> Result<Vec<Option<u32>>, AllocError>
+    ensures { IfOk result (λ firsts.
+        firsts.items ≡ map (λ position. slice_index_or found.now position None) positions.now) }
+{
+    positions
+        .iter()
+        .map(|position| first_at(found, *position))
+        .collect(alloc)
+}
+
+/// Returns the first test at a position, or none past the last.
+fn first_at(found: &[Option<u32>], position: u32) -> Option<u32>
+    ensures { result ≡ slice_index_or found.now position None }
+{
+    match found.get(position as usize) {
+        Some(first) => *first,
+        None => None,
+    }
+}
+
+/// Returns the counts at these positions.
+fn counts_at(alloc: Global, found: &[u32], positions: &[u32]) -> Result<Vec<u32>, AllocError>
+    ensures { IfOk result (λ counts. counts.items ≡ numbers_at found.now positions.now) }
+{
+    positions
+        .iter()
+        .map(|position| number_at(found, *position))
+        .collect(alloc)
+}

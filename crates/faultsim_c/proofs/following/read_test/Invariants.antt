@@ -1,8 +1,0 @@
-use Rattle.std.proofs.Common.{◌≡◌, ◌<◌, ℕ, get_or}
-use Rattle.std.specs.Prelude.{Bool}
-use Rattle.patterns.specs.Tests.{bit}
-use Rattle.faultsim_c.proofs.following.read_test.Given as goal
-
-abbrev pub invariant-loop-source : goal.invariant-loop-source
-invariant-loop-source l = (k : ℕ) (d : Bool) → k < l.source
-    → get_or l.row k d ≡ bit l.tests.tests l.test k
