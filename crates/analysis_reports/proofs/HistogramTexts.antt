@@ -5,7 +5,7 @@ use Rattle.std.proofs.Math.Bool.{cond}
 use Rattle.std.specs.Prelude.{◌==◌, codes, decimal, Some, slice_get, zip}
 use Rattle.std.specs.List.{flat_map}
 use Rattle.std.proofs.lemmas.List.{same_lists}
-use Rattle.std.proofs.lemmas.List.Sums.{count_by-le-length, sum_by_more}
+use Rattle.std.proofs.lemmas.List.Sums.{sum_by_more}
 use Rattle.std.proofs.lemmas.Option.{slice_get-get_or}
 use Rattle.patterns.specs.Least.{below}
 use Rattle.patterns.proofs.Public.{get_or-below, get_or-map-below, length-below}
@@ -22,10 +22,6 @@ pub with_more : (counts : List ℕ) (n i : ℕ) → i < length counts
     ≡ faults_with (take i counts) n + one_with n (get_or counts i 0)
 with_more counts n i lt =
     sum_by_more (λ x. cond (x == n) 1 0) counts i 0 lt
-
--- at most all faults
-pub with_few : (counts : List ℕ) (n : ℕ) → faults_with counts n ≤ length counts
-with_few counts n = count_by-le-length (λ count. count == n) counts
 
 -- a table with the faults of each count is the histogram
 pub is_histogram : (most : ℕ) (counts faults : List ℕ) → length faults ≡ most + 1

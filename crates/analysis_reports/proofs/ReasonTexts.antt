@@ -1,13 +1,10 @@
 -- The texts of the undetected faults with their reasons.
-use Rattle.std.proofs.Common.{◌≡◌, ◌++◌, ◌∙◌, ℕ, List, [], ap, append_assoc, length, refl}
-use Rattle.std.proofs.Common.{sym}
+use Rattle.std.proofs.Common.{◌≡◌, ◌++◌, ◌∙◌, ℕ, List, [], append_assoc, refl}
 use Rattle.std.specs.Prelude.{codes, decimal, None, Option, Some}
 use Rattle.bench_net.specs.Statement.{Statement}
-use Rattle.fault_model.specs.Fault.{Fault, FaultList}
-use Rattle.block_sim.specs.Parts.{BelongTogether, Parts}
+use Rattle.fault_model.specs.Fault.{Fault}
 use Rattle.undetected.specs.declared.Reason.{Reason}
 use Rattle.undetected.specs.declared.Reason.TheVariants.{NoPath, NotActivated, NotObserved}
-use Rattle.undetected.specs.Reasons.{AreReasons}
 use Rattle.analysis_reports.specs.Reasons.{reason_count}
 use Rattle.analysis_reports.specs.Reasons.{reason_line}
 use Rattle.analysis_reports.specs.Reasons.{reason_text, reasons_line}
@@ -32,11 +29,3 @@ pub counts_line : (reasons : List (Option Reason)) (a b d : List ℕ)
     → a ++ (codes " no path, " ++ (b ++ (codes " not activated, "
     ++ (d ++ (codes " not observed\n" ++ []))))) ≡ reasons_line reasons
 counts_line reasons a b d e f g = rw (e, f, g) (simp append_assoc)
-
--- as many reasons as faults
-pub reasons_counted : (job : Parts) (firsts : List (Option ℕ)) (reasons : List (Option Reason))
-    → BelongTogether job
-    → AreReasons job.list.model job.circuit job.tests.tests firsts reasons
-    → length reasons ≡ length job.list.list
-reasons_counted job firsts reasons together are =
-    are.count ∙ ap (λ (l : FaultList). length l.list) (sym together.list)

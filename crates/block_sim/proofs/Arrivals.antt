@@ -1,14 +1,13 @@
 -- The way of a fault to the stem of a region: it leads from gate to gate, a level higher at each. A
 -- fault at a signal that is not live is not detected.
 use Rattle.std.proofs.Common.{◌≡◌, ◌≢◌, ◌<◌, ◌≤◌, ℕ, ◌+◌, Bool, refl, sym, ◌∙◌, subst, List}
-use Rattle.std.proofs.Common.{length, arith, inr, ◌⊎◌}
-use Rattle.std.specs.Prelude.{Contains, Option, Some, None}
+use Rattle.std.proofs.Common.{inr, ◌⊎◌}
+use Rattle.std.specs.Prelude.{Contains, Some, None}
 use Rattle.bench_net.specs.declared.Kind.{Kind}
 use Rattle.bench_net.specs.declared.Sink.{Sink}
 use Rattle.bench_net.specs.Statement.{Name, Statement, Gate}
 use Rattle.bench_net.specs.Scan.{names, signal, observers}
 use Rattle.bench_net.specs.Circuit.{IsWellFormed}
-use Rattle.bench_net.specs.Level.{HasLevel}
 use Rattle.list_lemmas.proofs.Members.{Among, among, contained}
 use Rattle.fault_model.specs.declared.Line.TheVariants as line
 use Rattle.fault_model.specs.Fault.{branch}
@@ -19,14 +18,6 @@ use Rattle.flat_circuit.specs.Readers.{IsLive, observed, through}
 use Rattle.flat_circuit.specs.Regions.{IsStem, LeadsTo, here, lone_reader, onward}
 use Rattle.block_sim.specs.Flips.{DetectsFlip, flip}
 use Rattle.block_sim.proofs.EnteredGates.{IsFree, same_where}
-use Rattle.flat_circuit.proofs.Public.{pin_law, has_level, level_at, level_is, reads_rise}
-use Rattle.flat_circuit.proofs.Public.{lone_within}
-
--- one gate further
-pub leads_further : (c : List Statement) {s r : ℕ} (g : ℕ) → LeadsTo c s r
-    → lone_reader c r ≡ Some g → LeadsTo c s g
-leads_further c g here h = onward h here
-leads_further c g (onward x p) h = onward x (leads_further c g p h)
 
 -- from the one reader of a signal the way to the stem goes on
 pub leads_on : (c : List Statement) {s r : ℕ} (g : ℕ) → IsStem c r → lone_reader c s ≡ Some g
@@ -36,30 +27,6 @@ leads_on c {r = r} g stem alone (onward {g = k} h more) =
     let gates : Some k ≡ Some g = sym h ∙ alone in
     let same : k ≡ g = cc in
     subst (λ z. LeadsTo c z r) same more
-
--- and a level higher
-pub deeper : (c : List Statement) (s g step : ℕ) → IsWellFormed c → s < length (names c)
-    → lone_reader c s ≡ Some g
-    → ((k : ℕ) → HasLevel c s k → step ≤ k) → (k : ℕ) → HasLevel c g k → step + 1 ≤ k
-deeper c s g step well within alone deep k h =
-    let low = deep (level_at c h.0 s) (has_level c h.0 s h.2 within) in
-    let up = reads_rise c h.0 well h.2 g s (pin_law c well s g alone).reads in
-    let is = level_is c h.0 g k well h.2 h in
-    omega (arith, low, up, is)
-
--- after as many steps as the circuit is deep, the fault has reached the stem
-pub stem_at_depth : (c : List Statement) (depth s step : ℕ) → IsWellFormed c
-    → ((t : ℕ) → t < length (names c) → (k : ℕ) × HasLevel c t k × (k ≤ depth))
-    → s < length (names c) → depth ≤ step
-    → ((k : ℕ) → HasLevel c s k → step ≤ k) → IsStem c s
-stem_at_depth c depth s step well has within long deep = go (lone_reader c s) refl
-  where
-    go : (o : Option ℕ) → lone_reader c s ≡ o → lone_reader c s ≡ None
-    go None is = is
-    go (Some g) is =
-        let at = has g (lone_within c well s g is) in
-        let high = deeper c s g step well within is deep at.0 at.1 in
-        absurd (omega (arith, long, high, at.2))
 
 -- ---- a signal that is not live
 module _ (c : List Statement) (well : IsWellFormed c) (t : Test) (s : ℕ) (dead : ¬ IsLive c s) where

@@ -33,13 +33,6 @@ use Rattle.block_sim.proofs.Balanced.{balanced_solves, fault_free_holds}
 use Rattle.block_sim.proofs.CountedSignals.{counts_closed}
 use Rattle.block_sim.proofs.TrueBelowLevel.{right_by_now}
 
-pub idle_of : (at : List ℕ) (g : ℕ) → (slice_index_or at g 0 ≢ 0 → ⊥) → slice_index_or at g 0 ≡ 0
-idle_of at g never = go (cases_eq (slice_index_or at g 0) 0)
-  where
-    go : (slice_index_or at g 0 ≡ 0) ⊎ (slice_index_or at g 0 ≢ 0) → slice_index_or at g 0 ≡ 0
-    go (inl e) = e
-    go (inr ne) = absurd (never ne)
-
 turned : (a b : Bool) → b ≡ true → a ≢ unlike a b
 turned true b e h = let n : true ≡ not b = h in absurd (false≢true (sym (ap not e) ∙ sym n))
 turned false b e h = let n : false ≡ b = h in absurd (false≢true (n ∙ e))

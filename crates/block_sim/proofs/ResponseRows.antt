@@ -166,13 +166,6 @@ pub record AreFirstResponses (c : List Statement) (tests : List Test) (n : ℕ)
   pub each : (t : ℕ) (test : Test) (v : Name → Bool) → t < n → slice_get tests t ≡ Some test
       → Solves c test None v → slice_get rows t ≡ Some (map (shows None v) (observers c))
 
-pub none_yet : (c : List Statement) (tests : List Test) (rows : List (List Bool)) (n : ℕ)
-    → rows ≡ [] → n ≡ 0 → AreFirstResponses c tests n rows
-none_yet c tests rows n e z = record {
-  count = ap length e ∙ sym z;
-  each = λ t test v lt at solves. absurd (omega (arith, lt, z));
-}
-
 -- the rows of one group more
 pub group_more : (c : List Statement) (tests : List Test) (group n m size : ℕ)
     (rows more : List (List Bool)) (words observed : List ℕ) → IsWellFormed c

@@ -1,11 +1,11 @@
 -- What is kept of the classes of a list after the blocks of a span more, and of dead classes.
 use Rattle.std.proofs.Common.{◌≡◌, ◌<◌, ◌≤◌, ◌+◌, ◌-◌, ◌*◌, ◌/◌, ◌++◌, ◌∙◌, ◌⊎◌, inl, inr, ℕ, zero}
-use Rattle.std.proofs.Common.{suc, Bool, List, [], ◌∷◌, All, None, Some, true, false, ap, arith, length}
+use Rattle.std.proofs.Common.{suc, Bool, List, [], ◌∷◌, None, Some, true, false, ap, arith, length}
 use Rattle.std.proofs.Common.{refl, subst, sym}
 use Rattle.std.specs.Prelude.{slice_get, unwrap_or}
 use Rattle.std.proofs.lemmas.Bool.{cases_lt, false≢true}
 use Rattle.std.proofs.lemmas.List.{length-append}
-use Rattle.std.proofs.lemmas.Option.{get_or_from_slice_get, slice_get_within}
+use Rattle.std.proofs.lemmas.Option.{slice_get_within}
 use Rattle.list_lemmas.proofs.Places.{from_mapped, place_within}
 use Rattle.fault_model.specs.Detection.{DetectsAt}
 use Rattle.patterns.specs.Tests.{blocks}
@@ -54,17 +54,6 @@ never_hit job class dead hits h t = go (hits t) refl
         (subst (λ r. DetectsAt job.circuit job.tests.tests r t) (sym same) d))
 
 module _ {K : Type 0} (means : (ℕ → Bool) → ℕ → ℕ → K → Type 0) (job : Parts) where
-  -- nothing is kept of no test
-  pub none_before : (rows : List ListedClass) (kept : List K) → length kept ≡ length rows
-      → All (λ one. (hits : ℕ → Bool) (at : ℕ) → means hits at at one) kept
-      → AreKeptBefore means job rows 0 kept
-  none_before rows kept count first = record {
-    count = count;
-    each = λ hits k row one er ek h.
-        subst (means hits 0 0) (get_or_from_slice_get kept k one one ek)
-        (first k one (slice_get_within kept k one ek) hits 0);
-  }
-
   -- a span more
   pub kept_more : (rows : List ListedClass) (span : BlockSpan) (before now : List K)
       → AreKeptBefore means job rows span.first before → length now ≡ length before
@@ -103,15 +92,6 @@ module _ {K : Type 0} (means : (ℕ → Bool) → ℕ → ℕ → K → Type 0) 
       (are : AreDeadFrom job (live ++ dead) (length live)) (was rest : List K)
       (long : length was ≡ length live)
       (none : AreKeptBefore means job (live ++ dead) 0 (was ++ rest)) where
-    pub live_before : AreKeptBefore means job live 0 was
-    live_before = record {
-      count = long;
-      each = λ hits k row one er ek h.
-          let lt = slice_get_within live k row er in
-          none.each hits k row one (get_left live dead k lt ∙ er)
-          (get_left was rest k (omega (arith, lt, long)) ∙ ek) h;
-    }
-
     pub dead_kept : (block : ℕ) (found : List K) → AreKeptBefore means job live block found
         → AreKeptBefore means job (live ++ dead) block (found ++ rest)
     dead_kept block found done = record {

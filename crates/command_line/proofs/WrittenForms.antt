@@ -7,10 +7,7 @@ use Rattle.fault_model.specs.declared.Model.{Model}
 use Rattle.block_sim.specs.Parts.{Parts}
 use Rattle.job_loading.specs.declared.fault.SimFault.{SimFault}
 use Rattle.job_loading.specs.declared.fault.SimFault.TheVariants as fault
-use Rattle.job_loading.specs.declared.split.Split.{Split}
-use Rattle.job_loading.specs.declared.split.Split.TheVariants as split
 use Rattle.job_loading.specs.Jobs.{IsJobOf}
-use Rattle.job_loading.specs.Splits.{IsSplitFault, IsSplitFaultForSome}
 use Rattle.report.specs.EndToEnd.{WritesOneOf}
 use Rattle.report.proofs.Public.{written_as}
 use Rattle.analysis_reports.specs.declared.compacted.KeptCount.{KeptCount}
@@ -18,7 +15,7 @@ use Rattle.analysis_reports.specs.declared.compacted.KeptLayout.{KeptLayout}
 use Rattle.analysis_reports.specs.Compacted.{GivesOneOf, IsKeptTextOfJob}
 use Rattle.command_line.specs.declared.form.Form.{Form}
 use Rattle.command_line.specs.declared.form.Form.TheVariants as form
-use Rattle.command_line.specs.Form.{IsBeforeOutput, IsFormOf, IsFormOfJob}
+use Rattle.command_line.specs.Form.{IsFormOf, IsFormOfJob}
 
 -- the output for a job of files is the output for the files
 pub written_form : (m : Model) (bench : List ℕ) (text : Option (List ℕ)) (form : Form) (job : Parts)
@@ -41,42 +38,3 @@ kept_refused job layout (fault.Order f) old new w = w
 kept_refused job layout (fault.Job f) old new w = w
 kept_refused job layout (fault.Run f) old new w = w
 kept_refused job layout fault.Memory old new w = w
-
--- after an error before the output nothing is written
-pub before_output : (A : List ℕ → Type 0) (f : SimFault) (old new : Output) → IsBeforeOutput f
-    → new ≡ old → WritesOneOf A (Err f) old new
-before_output A (fault.Report f) old new is same = absurd is
-before_output A (fault.Bench f) old new is same = same
-before_output A (fault.Tests f) old new is same = same
-before_output A (fault.Order f) old new is same = same
-before_output A (fault.Job f) old new is same = same
-before_output A (fault.Run f) old new is same = same
-before_output A fault.Memory old new is same = same
-
--- an error of the files is none of the output
-pub files_before : (m : Model) (bench text : List ℕ) (s : Split) (f : SimFault)
-    → IsSplitFault m bench text s f → IsBeforeOutput f
-files_before m bench text split.Whole (fault.Report f) is = is
-files_before m bench text (split.Parts n) (fault.Report f) is = is
-files_before m bench text split.Fitting (fault.Report f) is = is
-files_before m bench text s (fault.Bench f) is = tt
-files_before m bench text s (fault.Tests f) is = tt
-files_before m bench text s (fault.Order f) is = tt
-files_before m bench text s (fault.Job f) is = tt
-files_before m bench text s (fault.Run f) is = tt
-files_before m bench text s fault.Memory is = tt
-
--- nor is that of some tests
-pub some_before : (m : Model) (bench : List ℕ) (s : Split) (f : SimFault)
-    → IsSplitFaultForSome m bench s f → IsBeforeOutput f
-some_before m bench split.Whole (fault.Report f) is = is.4
-some_before m bench (split.Parts n) (fault.Report f) is =
-    let bad : fault.Report f ≡ fault.Memory = is.4 in cc
-some_before m bench split.Fitting (fault.Report f) is =
-    let bad : fault.Report f ≡ fault.Memory = is.4 in cc
-some_before m bench s (fault.Bench f) is = tt
-some_before m bench s (fault.Tests f) is = tt
-some_before m bench s (fault.Order f) is = tt
-some_before m bench s (fault.Job f) is = tt
-some_before m bench s (fault.Run f) is = tt
-some_before m bench s fault.Memory is = tt

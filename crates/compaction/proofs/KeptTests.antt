@@ -638,12 +638,6 @@ pub ok_as : {T E : Type 0} (A B : T → Type 0) (r : Result T E) → ((x : T) �
 ok_as A B (Ok x) into h = into x h
 ok_as A B (Err e) into h = h
 
--- and results of two kinds are results of a third
-pub both_as : {T E : Type 0} (A B C : T → Type 0) (r : Result T E) → ((x : T) → A x → B x → C x)
-    → IfOk r A → IfOk r B → IfOk r C
-both_as A B C (Ok x) into a b = into x a b
-both_as A B C (Err e) into a b = b
-
 -- ---- errors
 
 -- fewer tests don't make more pieces

@@ -1,12 +1,11 @@
 -- The last tests of the classes of a job.
 use Rattle.std.proofs.Common.{◌≡◌, ◌<◌, ◌≤◌, ◌+◌, ◌-◌, ◌*◌, ◌^◌, ◌==◌, ◌∙◌, ◌⊎◌, ℕ, suc, Bool, true}
-use Rattle.std.proofs.Common.{false, List, ap, arith, get_or, inl, inr, length, replicate, refl}
+use Rattle.std.proofs.Common.{false, List, ap, arith, get_or, inl, inr, length, refl}
 use Rattle.std.proofs.Common.{subst, sym}
 use Rattle.std.specs.Int.{bit_at}
 use Rattle.std.specs.Prelude.{◌||◌, Contains, None, Option, Some, slice_get, slice_index}
 use Rattle.std.specs.Prelude.{slice_index_or, unwrap_or}
 use Rattle.std.proofs.lemmas.Bool.{cases_lt, false≢true}
-use Rattle.std.proofs.lemmas.List.{get_or-replicate, length-replicate}
 use Rattle.std.proofs.Math.Nat.{pow-succ'}
 use Rattle.std.proofs.lemmas.Nat.Bits.{bit_at_above, bit_at_cat_high}
 use Rattle.std.proofs.lemmas.Option.{get_or_from_slice_get, slice_get-get_or, slice_get_within}
@@ -163,17 +162,6 @@ last_within : (job : Parts) (class : ℕ) (last : Option ℕ) (t : ℕ) → IsLa
 last_within job class last t is e =
     let own = subst (λ o. IsLast job.circuit job.tests.tests is.0 o) e is.2 in
     slice_get_within job.tests.tests t own.0.0 own.0.1
-
-pub marks_none : (job : Parts) (marks : List Bool)
-    → marks ≡ replicate (length job.tests.tests) false → AreLastMarks job 0 marks
-marks_none job marks is = record {
-  count = ap length is ∙ length-replicate (length job.tests.tests) false;
-  some = λ t lt on.
-      let off = ap (λ xs. get_or xs t false) is
-      ∙ get_or-replicate (length job.tests.tests) t false false lt in
-      let bad : false ≡ true = sym off ∙ on in absurd (cc);
-  all = λ class lt. absurd (omega (arith, lt));
-}
 
 pub marks_more : (job : Parts) (class : ℕ) (old new : List Bool) (last : Option ℕ)
     → AreLastMarks job class old → IsLastOfClass job class last → length new ≡ length old

@@ -352,13 +352,6 @@ steepest_of job table order b classes tests is =
 
 -- ---- by the model of the job
 
-pub ordered_as : (m : Model) (c : List Statement) (tests kept : List Test) (numbers : List ℕ)
-    → m ≢ Transition → IsSteepestCompaction m c tests kept numbers
-    → IsOrdered Steepest m c tests kept numbers
-ordered_as StuckAt c tests kept numbers other is = is
-ordered_as Transition c tests kept numbers other is = absurd (other refl)
-ordered_as TransitionPairs c tests kept numbers other is = is
-
 pub transition_as : (m : Model) (c : List Statement) (tests kept : List Test) (numbers : List ℕ)
     → m ≡ Transition → IsNumbered m c tests kept numbers → IsOrdered Steepest m c tests kept numbers
 transition_as StuckAt c tests kept numbers e is = let bad : StuckAt ≡ Transition = e in absurd (cc)

@@ -85,32 +85,6 @@ module _ (words summary : List ℕ) (all : ArePlaces words summary) where
     fits_left w (inr other) = let here = get_or-set_other words at w left 0 other in
         let fits = all.fits w in omega (arith, here, fits)
 
-    -- and some still
-    pub places_less : slice_index_or words at 0 ≢ 0 → left ≢ 0
-        → ArePlaces (set words at left) summary
-    places_less was some = record {
-      room = let a = length-set words at left in omega (arith, a, all.room);
-      few = let a = length-set words at left in omega (arith, a, all.few);
-      short = all.short;
-      fits = λ w. fits_left w (cases_eq w at);
-      marked = λ w ne. marked w ne (cases_eq w at);
-      marks = λ w on. marks_of w on (cases_eq w at);
-    }
-      where
-        marked : (w : ℕ) → slice_index_or (set words at left) w 0 ≢ 0
-            → (w ≡ at) ⊎ (w ≢ at) → flag summary w ≡ 1
-        marked w ne (inl same) = all.marked w
-            (λ e. was (ap (λ x. slice_index_or words x 0) (sym same) ∙ e))
-        marked w ne (inr other) = all.marked w
-            (λ e. ne (get_or-set_other words at w left 0 other ∙ e))
-
-        marks_of : (w : ℕ) → flag summary w ≡ 1 → (w ≡ at) ⊎ (w ≢ at)
-            → slice_index_or (set words at left) w 0 ≢ 0
-        marks_of w on (inl same) = λ none. some (sym (get_or-set_same words at left 0 lt)
-            ∙ (ap (λ x. slice_index_or (set words at left) x 0) (sym same) ∙ none))
-        marks_of w on (inr other) = λ none. all.marks w on
-            (sym (get_or-set_other words at w left 0 other) ∙ none)
-
     -- and nothing more
     module _ (marks : ℕ) (in_summary : at / 64 < length summary)
         (is_marks : slice_index_or summary (at / 64) 0 ≡ marks) where

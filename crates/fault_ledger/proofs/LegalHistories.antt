@@ -20,7 +20,7 @@ use Rattle.fault_ledger.specs.declared.Reply.{Reply}
 use Rattle.fault_ledger.specs.declared.Reply.TheVariants.{Claimed, Done, Refused}
 use Rattle.fault_ledger.specs.History.{History, claims, held_by, holds, state_of, entry}
 use Rattle.fault_ledger.specs.History.{piece_count}
-use Rattle.fault_ledger.specs.History.{class_of, block_of, piece_at, ContinuesWithout}
+use Rattle.fault_ledger.specs.History.{class_of, block_of, piece_at}
 use Rattle.fault_ledger.specs.Answer.{fits_size, is_hit, has_earlier_hit, claim_reply, report_reply}
 use Rattle.fault_ledger.specs.Answer.{drop_reply, answer, events_of, after, IsLegal}
 use Rattle.fault_ledger.specs.Answer.{SkippedIsNeverFirst}
@@ -100,15 +100,6 @@ legal_after s h c l = go c (answer s h c) refl
     go (call.Report w o) Done e = (ap (λ r. events_of (call.Report w o) r ++ h) e, l)
     go (call.Drop w) Done e = (ap (λ r. events_of (call.Drop w) r ++ h) e, l)
     go c r e = l
-
--- each beginning of a legal history is legal
-pub legal_before : (s : Shape) (d h : History) → IsLegal s (d ++ h) → IsLegal s h
-legal_before s [] h l = l
-legal_before s (e ∷ d) h l = legal_before s d h l.1
-
-pub legal_earlier : (s : Shape) (w : ℕ) (later earlier : History) → ContinuesWithout w later earlier
-    → IsLegal s later → IsLegal s earlier
-legal_earlier s w later earlier c l = legal_before s c.0 earlier (subst (IsLegal s) c.1 l)
 
 -- no more pieces are claimed than there are
 pub legal_claims : (s : Shape) (h : History) → IsLegal s h → claims h ≤ piece_count s

@@ -1,8 +1,8 @@
 -- The meaning of a computed test for the relations: a valuation that passes it solves, and a fault
 -- that it finds detected is detected.
-use Rattle.std.proofs.Common.{◌≡◌, ℕ, suc, refl, subst, Bool, true, false, not, ◌&&◌, List, arith}
+use Rattle.std.proofs.Common.{◌≡◌, ℕ, refl, subst, Bool, true, false, not, ◌&&◌, List, arith}
 use Rattle.std.specs.Option.{option_map_or}
-use Rattle.std.specs.Prelude.{Option, Some, None, slice_get, slice_index_or, if◌then◌else◌, ◌≢◌}
+use Rattle.std.specs.Prelude.{Option, Some, None, slice_index_or, if◌then◌else◌, ◌≢◌}
 use Rattle.std.specs.List.{list_all, enumerate_from}
 use Rattle.bench_net.specs.Statement.{Name, Statement, Gate}
 use Rattle.bench_net.specs.Scan.{signal, sources, observers}
@@ -10,10 +10,10 @@ use Rattle.std.proofs.lemmas.Bool.{and_parts}
 use Rattle.list_lemmas.proofs.Members.{contained, Among, each_passes, some_passes}
 use Rattle.fault_model.specs.declared.Line.{Line}
 use Rattle.fault_model.specs.declared.Line.TheVariants as line
-use Rattle.fault_model.specs.declared.Model.TheVariants.{Transition, TransitionPairs}
+use Rattle.fault_model.specs.declared.Model.TheVariants.{Transition}
 use Rattle.fault_model.specs.Fault.{Fault}
 use Rattle.fault_model.specs.Solution.{Test, Solves, Detects, value, under, pins_see, shows}
-use Rattle.fault_model.specs.Detection.{name_on, HasBit, IsInitialized, IsSecondOfPair, DetectsAt}
+use Rattle.fault_model.specs.Detection.{name_on, HasBit}
 use Rattle.fault_model.proofs.PlainPrograms.{bit_within, has_bit_within, detects_within, differs}
 use Rattle.list_lemmas.proofs.Places.{among_numbered_from}
 
@@ -101,49 +101,5 @@ has_bit k c t f e h = go (name_on c f.line) refl h
       bits_alike (bit_within k c t None n) f.stuck h,
     )
 
--- and for the test after the line is initialized at it
-initialized : (k : ℕ) (c : List Statement) (tests : List Test) (f : Fault) (t : ℕ) (before : Test)
-    → slice_get tests t ≡ Some before
-    → is_solved c before None (bit_within k c before None) ≡ true
-    → has_bit_within k c before f ≡ true → IsInitialized c tests f.line f.stuck (suc t)
-initialized k c tests f t before at earlier bit = (before, at, has_bit k c before f earlier bit)
-
 abbrev pub slow : Line → Bool → Fault
 slow l b = record { model = Transition; line = l; stuck = b }
-
-abbrev pub slow_in_pairs : Line → Bool → Fault
-slow_in_pairs l b = record { model = TransitionPairs; line = l; stuck = b }
-
--- so is a transition fault that it finds detected by a test and the one before
-pub slow_at : (k : ℕ) (c : List Statement) (tests : List Test) (l : Line) (b : Bool) (t : ℕ)
-    (before test : Test) → slice_get tests t ≡ Some before → slice_get tests (suc t) ≡ Some test
-    → is_solved c test None (bit_within k c test None) ≡ true
-    → is_solved c test (Some (slow l b)) (bit_within k c test (Some (slow l b))) ≡ true
-    → detects_within k c test (slow l b) ≡ true
-    → is_solved c before None (bit_within k c before None) ≡ true
-    → has_bit_within k c before (slow l b) ≡ true
-    → DetectsAt c tests (slow l b) (suc t)
-slow_at k c tests l b t before test at_before at_test free stuck found earlier bit = (
-  test,
-  at_test,
-  detects k c test (slow l b) free stuck found,
-  initialized k c tests (slow l b) t before at_before earlier bit,
-)
-
--- and in a list of pairs by the second of a pair
-pub slow_in_pairs_at : (k : ℕ) (c : List Statement) (tests : List Test) (l : Line) (b : Bool)
-    (t : ℕ) (before test : Test) → IsSecondOfPair (suc t)
-    → slice_get tests t ≡ Some before → slice_get tests (suc t) ≡ Some test
-    → is_solved c test None (bit_within k c test None) ≡ true
-    → is_solved c test (Some (slow_in_pairs l b)) (bit_within k c test (Some (slow_in_pairs l b)))
-    ≡ true
-    → detects_within k c test (slow_in_pairs l b) ≡ true
-    → is_solved c before None (bit_within k c before None) ≡ true
-    → has_bit_within k c before (slow_in_pairs l b) ≡ true
-    → DetectsAt c tests (slow_in_pairs l b) (suc t)
-slow_in_pairs_at k c tests l b t before test second at_before at_test free stuck found own bit = (
-  test,
-  at_test,
-  detects k c test (slow_in_pairs l b) free stuck found,
-  (second, initialized k c tests (slow_in_pairs l b) t before at_before own bit),
-)

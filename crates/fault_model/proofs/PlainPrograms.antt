@@ -1,6 +1,6 @@
 -- A plain program for each definition that doesn't compute: representatives, classes, solutions and
 -- detection.
-use Rattle.std.proofs.Common.{◌≡◌, ℕ, zero, suc, refl, Bool, true, false, not, ◌&&◌, List, [], ◌∷◌}
+use Rattle.std.proofs.Common.{◌≡◌, ℕ, zero, suc, Bool, true, false, not, ◌&&◌, List, [], ◌∷◌}
 use Rattle.std.specs.Prelude.{Option, Some, None, option_map, length, slice_index_or, if◌then◌else◌}
 use Rattle.std.specs.Prelude.{bytes_eq}
 use Rattle.std.specs.Option.{option_map_or}
@@ -12,7 +12,7 @@ use Rattle.fault_model.specs.declared.Model.{Model}
 use Rattle.fault_model.specs.declared.Model.TheVariants.{StuckAt, Transition, TransitionPairs}
 use Rattle.fault_model.specs.Fault.{Fault, same_line}
 use Rattle.fault_model.specs.Solution.{Test, value, under, pins_see, shows}
-use Rattle.fault_model.specs.Collapse.{next, Reaches, here, onward, Represents, representatives}
+use Rattle.fault_model.specs.Collapse.{next, representatives}
 use Rattle.fault_model.specs.Detection.{name_on}
 
 -- the fault after at most this many next faults
@@ -76,18 +76,3 @@ first_from k c f second before (t ∷ tests) =
 
 abbrev pub first_within : ℕ → List Statement → List Test → Fault → Option ℕ
 first_within k c tests f = first_from k c f false None tests
-
--- the program follows a chain of next faults
-reaches_within : (n : ℕ) (c : List Statement) (f : Fault) → Reaches c f (rep_within n c f)
-reaches_within zero c f = here
-reaches_within (suc n) c f = go (reaches_within n c) (next c f) refl
-  where
-    go : ((g : Fault) → Reaches c g (rep_within n c g)) → (o : Option Fault) → next c f ≡ o
-        → Reaches c f (option_map_or (rep_within n c) o f)
-    go reached None e = here
-    go reached (Some g) e = onward e (reached g)
-
--- so if it ends at a fault without a next one, that is the representative
-pub rep_represents : (n : ℕ) (c : List Statement) (f : Fault) → next c (rep_within n c f) ≡ None
-    → Represents c f (rep_within n c f)
-rep_represents n c f ends = (reaches_within n c f, ends)

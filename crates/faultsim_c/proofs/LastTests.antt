@@ -19,6 +19,3 @@ last_some tests some =
 -- their number
 pub none_kept : (tests : List (List Bool)) → length tests ≡ 0 → length (last_of tests) ≡ 0
 none_kept tests none = ap length (last_none tests none)
-
-pub one_kept : (tests : List (List Bool)) → 0 < length tests → length (last_of tests) ≡ 1
-one_kept tests some = ap length (last_some tests some)

@@ -59,11 +59,6 @@ module _ (old new : List (List Bool)) (some : 0 < length old) where
       (All-cons (λ test. length test ≡ width) last new
       (own (length old - 1) [] (omega (arith, some))) others)
 
-  -- the bits of the last one come first
-  pub bit_first : (source : ℕ) → bit (after_last old new) 0 source
-      ≡ bit old (length old - 1) source
-  bit_first source = ap (λ l. bit l 0 source) joined
-
   -- the bits of the others after it
   pub bit_later : (t source : ℕ) → bit (after_last old new) (t + 1) source ≡ bit new t source
   bit_later t source =
@@ -91,14 +86,6 @@ module _ (old new : List (List Bool)) (some : 0 < length old) where
       ∙ (ap (λ n. bit_at n k) parts ∙ (is k (omega (arith, lt))
       ∙ (ap as_number (sym (bit_later (64 * block + k) source))
       ∙ ap (λ t. as_number (bit (after_last old new) t source)) at)))))
-
--- the word of the block after the last is 0
-pub word_none : (tests : List (List Bool)) (block source : ℕ) → blocks (length tests) ≤ block
-    → IsWord tests block source 0
-word_none tests block source le k lt =
-    let past = bit_past tests (64 * block + k) source (omega (arith, le)) in
-    let none : bit_at 0 k ≡ 0 = bit_at_above 0 0 k (omega arith) (omega arith) in
-    none ∙ sym (ap as_number past)
 
 -- ---- words one after the other
 -- one word more

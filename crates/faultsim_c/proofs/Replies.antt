@@ -5,8 +5,8 @@ use Rattle.patterns.specs.declared.WordsFault.{WordsFault}
 use Rattle.patterns.specs.declared.WordsFault.TheVariants as words
 use Rattle.bench_net.specs.declared.BenchFault.TheVariants as bench
 use Rattle.patterns.specs.declared.TestFault.TheVariants as tests
-use Rattle.faultsim_c.specs.Statuses.{AreTooMany, IsNextRefusal, IsNextReply, IsTestsReply}
-use Rattle.faultsim_c.specs.Statuses.{IsUntaken, IsWordsReply, error_numbers, status_number}
+use Rattle.faultsim_c.specs.Statuses.{AreTooMany}
+use Rattle.faultsim_c.specs.Statuses.{IsWordsReply, error_numbers, status_number}
 use Rattle.faultsim_c.specs.declared.status.FsFault.{FsFault}
 use Rattle.faultsim_c.specs.declared.status.Refusal.{Refusal}
 use Rattle.faultsim_c.specs.declared.status.Refusal.TheVariants as refusal
@@ -67,75 +67,12 @@ pub words_shared : (alone : Bool) (width count : ℕ) (ws : List ℕ) (r : Refus
 words_shared alone width count ws r is five =
     subst (IsWordsReply alone width count ws) (is_shared r five) is
 
--- and if a file isn't
-pub tests_shared : (alone : Bool) (width : ℕ) (text : List ℕ) (r : Refusal)
-    → IsTestsReply alone width text r → status_number r ≡ 5 → alone ≡ false
-tests_shared alone width text r is five =
-    subst (IsTestsReply alone width text) (is_shared r five) is
-
--- tests in words that are right aren't taken
-pub words_untaken : (alone : Bool) (width count : ℕ) (ws : List ℕ) (r : Refusal)
-    → IsUntaken alone r → IsWordsReply alone width count ws r
-words_untaken alone width count ws refusal.Memory is = tt
-words_untaken alone width count ws refusal.Shared is = is
-words_untaken alone width count ws (refusal.Bench f) is = absurd is
-words_untaken alone width count ws (refusal.Tests f) is = absurd is
-words_untaken alone width count ws (refusal.Words f) is = absurd is
-
--- tests of a text that is right aren't taken
-pub tests_untaken : (alone : Bool) (width : ℕ) (text : List ℕ) (r : Refusal)
-    → IsUntaken alone r → IsTestsReply alone width text r
-tests_untaken alone width text refusal.Memory is = tt
-tests_untaken alone width text refusal.Shared is = is
-tests_untaken alone width text (refusal.Bench f) is = absurd is
-tests_untaken alone width text (refusal.Tests f) is = absurd is
-tests_untaken alone width text (refusal.Words f) is = absurd is
-
 next_fault : (old : List (List Bool)) (width count : ℕ) (ws : List ℕ) (f : WordsFault)
     → (f ≡ words.Memory) ⊎ (IsWordsRefusal width count ws f ⊎ AreTooMany old count f)
     → status_number (refusal.Words f) ≡ 3 → IsWordsRefusal width count ws f ⊎ AreTooMany old count f
 next_fault old width count ws f (inl e) three =
     absurd (two_three (subst (λ (g : WordsFault). status_number (refusal.Words g) ≡ 3) e three))
 next_fault old width count ws f (inr is) three = is
-
--- words have an error after the last of other tests if the status is 3
-pub next_refused : (alone : Bool) (old : List (List Bool)) (width count : ℕ) (ws : List ℕ)
-    (r : Refusal) (told : FsFault) → IsNextReply alone old width count ws r → status_number r ≡ 3
-    → told ≡ error_numbers r → (f : WordsFault)
-    × (IsWordsRefusal width count ws f ⊎ AreTooMany old count f)
-    × (told ≡ error_numbers (refusal.Words f))
-next_refused alone old width count ws (refusal.Words f) told is three tells =
-    (f, next_fault old width count ws f is three, tells)
-next_refused alone old width count ws refusal.Memory told is three tells =
-    absurd (two_three three)
-next_refused alone old width count ws refusal.Shared told is three tells =
-    absurd (five_three three)
-next_refused alone old width count ws (refusal.Bench f) told is three tells = absurd is
-next_refused alone old width count ws (refusal.Tests f) told is three tells = absurd is
-
--- a handle for which the status is then 5 isn't the only one
-pub next_shared : (alone : Bool) (old : List (List Bool)) (width count : ℕ) (ws : List ℕ)
-    (r : Refusal) → IsNextReply alone old width count ws r → status_number r ≡ 5 → alone ≡ false
-next_shared alone old width count ws r is five =
-    subst (IsNextReply alone old width count ws) (is_shared r five) is
-
--- tests after the last of others aren't taken
-pub next_untaken : (alone : Bool) (old : List (List Bool)) (width count : ℕ) (ws : List ℕ)
-    (r : Refusal) → IsUntaken alone r → IsNextReply alone old width count ws r
-next_untaken alone old width count ws refusal.Memory is = tt
-next_untaken alone old width count ws refusal.Shared is = is
-next_untaken alone old width count ws (refusal.Bench f) is = absurd is
-next_untaken alone old width count ws (refusal.Tests f) is = absurd is
-next_untaken alone old width count ws (refusal.Words f) is = absurd is
-
--- they are too many
-pub next_many : (alone : Bool) (old : List (List Bool)) (width count : ℕ) (ws : List ℕ)
-    (r : Refusal) → IsNextRefusal old count r → IsNextReply alone old width count ws r
-next_many alone old width count ws refusal.Memory is = tt
-next_many alone old width count ws (refusal.Words f) is = inr (inr is)
-next_many alone old width count ws refusal.Shared is = absurd is
-next_many alone old width count ws (refusal.Bench f) is = absurd is
-next_many alone old width count ws (refusal.Tests f) is = absurd is
 
 -- words that have an error whatever comes before them
 pub words_or_many : (old : List (List Bool)) (width count : ℕ) (ws : List ℕ) (f : WordsFault)

@@ -1,15 +1,14 @@
 -- Rows of a circuit whose statements stand in another order. The facts about a signal in the rows
 -- of the first circuit hold for the moved signal.
-use Rattle.std.proofs.Common.{ℕ, sym, ◌∙◌, ap, subst, List, map}
-use Rattle.std.specs.Prelude.{All, Contains, option_map}
+use Rattle.std.proofs.Common.{ℕ, sym, ◌∙◌, subst, List, map}
+use Rattle.std.specs.Prelude.{All, Contains}
 use Rattle.std.proofs.lemmas.List.Elements.{All-map}
 use Rattle.bench_net.specs.Statement.{Statement}
 use Rattle.bench_net.specs.Circuit.{IsWellFormed}
 use Rattle.list_lemmas.proofs.Members.{among, contained, among_map}
 use Rattle.fault_model.specs.Reordered.{IsReordered, place}
-use Rattle.flat_circuit.specs.declared.flat.Standing.{Standing}
 use Rattle.flat_circuit.specs.Readers.{Reads, IsLive}
-use Rattle.flat_circuit.specs.Flat.{AreReaders, IsStanding}
+use Rattle.flat_circuit.specs.Flat.{AreReaders}
 use Rattle.flat_circuit.specs.Reordered.{HasSameReaders}
 use Rattle.flat_circuit.proofs.ReorderedReaders.{same_readers}
 
@@ -36,13 +35,3 @@ module _ (c d : List Statement) (well : IsWellFormed c) (is : IsReordered c d) w
           subst (Contains (map (place c d) xs)) (sym own.1)
           (contained (map (place c d) xs) (place c d own.0)
           (among_map (place c d) xs own.0 (among xs own.0 (are.all own.0 own.2 here))))
-
-  pub standing_moved : (s : ℕ) (st : Standing) → IsStanding c s st
-      → IsStanding d (place c d s) (record {
-        lone_reader = option_map (place c d) st.lone_reader;
-        live = st.live;
-      })
-  standing_moved s st h = record {
-    lone = ap (option_map (place c d)) h.lone ∙ sym (readers.lone s);
-    live = (λ on. (readers.live s).0 (h.live.0 on), λ l. h.live.1 ((readers.live s).1 l));
-  }

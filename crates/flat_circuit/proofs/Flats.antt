@@ -1,7 +1,7 @@
 -- Flat lists that grow by one signal at a time, and the facts that a row of them gives.
 use Rattle.std.proofs.Common.{◌≡◌, ◌≢◌, ◌<◌, ◌≤◌, ℕ, ◌+◌, ◌-◌, sym, ◌∙◌, ap, subst, List, [], ◌∷◌}
 use Rattle.std.proofs.Common.{◌++◌, length, zero, suc, arith, inl, inr, ◌⊎◌, take, drop, refl}
-use Rattle.std.specs.Prelude.{All, Contains, Some, None, slice_get, slice_index_or}
+use Rattle.std.specs.Prelude.{All, Contains, Some, slice_get, slice_index_or}
 use Rattle.std.specs.Prelude.{IfSome, IsTrue, slice_range, ◌↔◌}
 use Rattle.std.specs.Option.{option_map}
 use Rattle.std.proofs.lemmas.List.{length-append, take-append-le, drop-append-le}
@@ -141,10 +141,6 @@ row_kept c pins more_pins readers more_readers s row pins_more readers_more h =
       observed = h.observed;
     }
 
-pub rows_none : (c : List Statement) (from : ℕ) (pins : List ℕ) (readers : List ℕ)
-    → AreRowsAt c from pins readers []
-rows_none c from pins readers i row at = let bad : None ≡ Some row = at in cc
-
 pub rows_with : (c : List Statement) (from : ℕ) (pins more_pins : List ℕ)
     (readers more_readers : List ℕ) (rows : List SignalRow) (s : ℕ) (row : SignalRow)
     → from + length rows ≡ s → AreRowsAt c from pins readers rows → HasMore pins more_pins
@@ -191,10 +187,6 @@ got : {X : Type 0} (xs : List X) (i : ℕ) (x : X) → i < length xs → x ≡ s
 got [] i x lt e = absurd (omega (arith, lt))
 got (y ∷ xs) zero x lt e = ap Some (sym e)
 got (y ∷ xs) (suc i) x lt e = got xs i x (omega (arith, lt)) e
-
--- ---- positions
-pub standings_none : (c : List Statement) (from : ℕ) → AreStandingsAt c from []
-standings_none c from i standing at = let bad : None ≡ Some standing = at in cc
 
 pub standings_with : (c : List Statement) (from : ℕ) (standings : List Standing) (s : ℕ)
     (standing : Standing) → from + length standings ≡ s → AreStandingsAt c from standings

@@ -1,10 +1,8 @@
 -- The signals in level order: each once, and the pins of a gate before it.
-use Rattle.std.proofs.Common.{◌≡◌, ◌<◌, ◌≤◌, ℕ, zero, suc, ◌+◌, max, refl, sym, ◌∙◌, ap, subst}
+use Rattle.std.proofs.Common.{◌≡◌, ◌<◌, ◌≤◌, ℕ, zero, suc, ◌+◌, refl, sym, ◌∙◌, ap}
 use Rattle.std.proofs.Common.{List, [], ◌∷◌, length, arith, inl, inr, ◌⊎◌}
-use Rattle.std.specs.Prelude.{Contains, Some, map, fold, slice_index_or}
-use Rattle.std.proofs.lemmas.List.{get_or_default}
+use Rattle.std.specs.Prelude.{Contains, Some, map, slice_index_or}
 use Rattle.std.proofs.lemmas.List.Elements.{Contains-get_or}
-use Rattle.std.proofs.lemmas.Bool.{cases_order}
 use Rattle.bench_net.specs.declared.Kind.{Kind}
 use Rattle.bench_net.specs.Statement.{Name, Statement, Gate}
 use Rattle.bench_net.specs.Scan.{names, signal, sources, inputs, cells}
@@ -13,8 +11,7 @@ use Rattle.bench_net.specs.Level.{AreLevels, HasLevel, IsLevelOrder, GoesBefore,
 use Rattle.list_lemmas.proofs.Members.{Among, among, contained, among_left, among_right}
 use Rattle.list_lemmas.proofs.Members.{among_map}
 use Rattle.bench_net.proofs.Public.{name_of-signal, read_named}
-use Rattle.list_lemmas.proofs.Places.{place_within}
-use Rattle.fault_model.proofs.Public.{Driven, driven, below_fold, defined_among, signal_apart}
+use Rattle.fault_model.proofs.Public.{Driven, driven, below_fold, defined_among}
 use Rattle.fault_model.proofs.Public.{Spans, span_within}
 
 order_spans : (c : List Statement) (order : List ℕ) → IsLevelOrder c order
@@ -26,12 +23,6 @@ pub order_within : (c : List Statement) (order : List ℕ) (i : ℕ) → IsLevel
 order_within c order i h lt = span_within (length (names c)) order (order_spans c order h)
     (slice_index_or order i 0) (among order (slice_index_or order i 0)
     (Contains-get_or order i 0 lt))
-
--- ---- pins before gates
-above_start : (ns : List ℕ) (start : ℕ) → start ≤ fold max start ns
-above_start [] start = omega arith
-above_start (n ∷ ns) start = let h : max start n ≤ fold max (max start n) ns =
-    above_start ns (max start n) in omega (arith, h)
 
 maps_agree : (f g : Name → ℕ) (ns : List Name) → ((n : Name) → Among n ns → f n ≡ g n)
     → map f ns ≡ map g ns
@@ -124,41 +115,3 @@ module _ (c : List Statement) (well : IsWellFormed c) where
             above,
             most,
           )
-
-  -- in level order the signals that a gate reads come before it
-  pub pins_before : (order : List ℕ) (i : ℕ) (n a : Name) (kind : Kind) (args : List Name)
-      → IsLevelOrder c order → i < length order
-      → slice_index_or order i 0 ≡ signal c n → Among (Gate n kind args) c → Among a args
-      → (j : ℕ) × (j < i) × (slice_index_or order j 0 ≡ signal c a)
-  pins_before order i n a kind args h lt at gate reads = go (cases_order place.0 i)
-    where
-      named : Contains (names c) a
-      named = read_named c (Gate n kind args) a well gate reads
-
-      place : Contains order (signal c a)
-      place = h.all (signal c a) (place_within (names c) (signal c a) a (name_of-signal c a named))
-
-      there : slice_index_or order place.0 0 ≡ signal c a
-      there = get_or_default order place.0 0 (signal c a) place.1 ∙ place.2
-
-      go : (place.0 ≡ i) ⊎ ((place.0 < i) ⊎ (i < place.0))
-          → (j : ℕ) × (j < i) × (slice_index_or order j 0 ≡ signal c a)
-      go (inr (inl before)) = (place.0, before, there)
-      go (inl e) =
-          let same : signal c n ≡ signal c a = sym at ∙ (ap (λ j. slice_index_or order j 0) (sym e)
-          ∙ there) in
-          let one : n ≡ a = signal_apart c n a
-          (contained (names c) n (defined_among c (Gate n kind args) n gate refl)) named same in
-          let lower : well.acyclic.0 a < well.acyclic.0 n = well.acyclic.1 n a (
-            kind,
-            args,
-            contained c (Gate n kind args) gate,
-            contained args a reads,
-          ) in
-          let equal : well.acyclic.0 n ≡ well.acyclic.0 a = ap well.acyclic.0 one in
-          absurd (omega (arith, lower, equal))
-      go (inr (inr after)) =
-          let before : GoesBefore c (slice_index_or order i 0) (slice_index_or order place.0 0) =
-          h.ordered i place.0 0 after place.1 in
-          absurd (not_before n a kind args gate reads (subst (GoesBefore c (signal c n)) there
-          (subst (λ s. GoesBefore c s (slice_index_or order place.0 0)) at before)))

@@ -1,16 +1,13 @@
 -- A gate has a higher level than the signals that it reads.
-use Rattle.std.proofs.Common.{◌≡◌, ◌<◌, ℕ, refl, sym, ◌∙◌, ap, arith, length, List}
-use Rattle.std.specs.Prelude.{Contains, Option, map}
+use Rattle.std.proofs.Common.{◌≡◌, ◌<◌, ℕ, sym, ◌∙◌, ap, length, List}
+use Rattle.std.specs.Prelude.{Contains, Option}
 use Rattle.std.specs.Option.{option_map_or}
-use Rattle.bench_net.specs.Statement.{Name, Statement, Gate}
+use Rattle.bench_net.specs.Statement.{Name, Statement}
 use Rattle.bench_net.specs.Scan.{names, name_of, signal}
 use Rattle.bench_net.specs.Circuit.{IsWellFormed}
 use Rattle.bench_net.specs.Level.{AreLevels, HasLevel}
-use Rattle.list_lemmas.proofs.Members.{among, contained, among_map}
-use Rattle.bench_net.proofs.Public.{name_of-signal, read_named}
+use Rattle.bench_net.proofs.Public.{name_of-signal}
 use Rattle.list_lemmas.proofs.Places.{at_place, within_place}
-use Rattle.fault_model.proofs.Public.{below_greatest, defined_among}
-use Rattle.flat_circuit.specs.Readers.{Reads}
 use Rattle.flat_circuit.proofs.LevelOrder.{one_level}
 
 -- the level of a signal, by its number
@@ -21,21 +18,6 @@ pub level_named : (c : List Statement) (level : Name → ℕ) (n : Name) (s : �
     → signal c n ≡ s → level_at c level s ≡ level n
 level_named c level n s at number = ap (λ x. level_at c level x) (sym number)
     ∙ ap (λ (o : Option Name). option_map_or level o 0) (name_of-signal c n at)
-
-pub reads_rise : (c : List Statement) (level : Name → ℕ) → IsWellFormed c → AreLevels c level
-    → (g s : ℕ) → Reads c g s → level_at c level s < level_at c level g
-reads_rise c level well are g s r =
-    let gate = among c (Gate r.name r.kind r.args) r.gate in
-    let up = level_named c level r.name g
-    (contained (names c) r.name (defined_among c (Gate r.name r.kind r.args) r.name gate refl))
-    r.number in
-    let low = level_named c level r.read s
-    (read_named c (Gate r.name r.kind r.args) r.read well gate (among r.args r.read r.reads))
-    r.of in
-    let above = are.gate r.name r.kind r.args r.gate in
-    let most = below_greatest (map level r.args) (level r.read)
-    (among_map level r.args r.read (among r.args r.read r.reads)) in
-    omega (arith, up, low, above, most)
 
 -- in each choice of levels a signal has its level
 pub level_is : (c : List Statement) (level : Name → ℕ) (g k : ℕ) → IsWellFormed c

@@ -14,7 +14,7 @@ use Rattle.list_lemmas.proofs.Places.{at_place, placed, place_within, within_pla
 use Rattle.fault_model.proofs.Public.{observes, data_reads, out_reads}
 use Rattle.flat_circuit.specs.Readers.{Reads, IsObserved}
 use Rattle.flat_circuit.proofs.ListPlaces.{index_of}
-use Rattle.flat_circuit.proofs.Readers.{reader_within, sink_reads}
+use Rattle.flat_circuit.proofs.Readers.{sink_reads}
 use Rattle.flat_circuit.proofs.ObservedLines.{output_observed, cell_observed}
 
 cell_among : (c : List Statement) (q d : Name) → Among (Dff q d) c → Among (q, d) (cells c)
@@ -67,10 +67,6 @@ module _ (c : List Statement) (well : IsWellFormed c) (s : ℕ) (n : Name)
       → slice_index_or items i d ≡ sink.Pin gate pin → Reads c gate s
   sink_gate i gate pin d lt e = sink_reads c well s n named gate pin
       (among_sinks i (sink.Pin gate pin) (listed i (sink.Pin gate pin) d lt e))
-
-  pub pin_within : (i gate pin : ℕ) (d : Sink) → i < length items
-      → slice_index_or items i d ≡ sink.Pin gate pin → gate < length (names c)
-  pin_within i gate pin d lt e = reader_within c gate s (sink_gate i gate pin d lt e)
 
   pub same_gate : (i j gate pin : ℕ) (k d : Sink) → i < length items → slice_index_or items i d ≡ k
       → j ≡ i → slice_get items j ≡ Some (sink.Pin gate pin) → sink.Pin gate pin ≡ k

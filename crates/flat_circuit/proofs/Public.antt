@@ -19,9 +19,9 @@ pub use Rattle.flat_circuit.proofs.Equations.{gate_at, nothing, pins_few, pins_s
 pub use Rattle.flat_circuit.proofs.CarriedSignals.{gate_within, never, pin_of}
 pub use Rattle.flat_circuit.proofs.Readers.{no_loop, reader_within}
 pub use Rattle.flat_circuit.proofs.LevelOrder.{order_within}
-pub use Rattle.flat_circuit.proofs.LevelsRise.{has_level, level_at, level_is, reads_rise}
+pub use Rattle.flat_circuit.proofs.LevelsRise.{has_level, level_at}
 pub use Rattle.flat_circuit.proofs.ObservedLines.{data_observed, observed_named, output_observed}
-pub use Rattle.flat_circuit.proofs.ObservedSinks.{at_end, pin_within}
+pub use Rattle.flat_circuit.proofs.ObservedSinks.{at_end}
 -- ---- the signals of a circuit in another order
 pub use Rattle.flat_circuit.proofs.ReorderedReaders.{same_readers}
 pub use Rattle.flat_circuit.proofs.ArrangedSignals.{count_there, reordered, signals_there}

@@ -44,14 +44,6 @@ appended_get {X} (z ∷ xs) ys y (suc i) e = go (appended_get xs ys y i e)
     go (inl h) = inl h
     go (inr h) = inr (h.0, omega (arith, h.1), h.2)
 
--- no group has no row
-pub no_rows : (c : List Statement) (tests : List Test) (first : ℕ) → first ≤ groups (length tests)
-    → AreRowsFrom c tests first []
-no_rows c tests first low = record {
-  within = omega (arith, low);
-  each = λ k row at. let bad : None ≡ Some row = at in absurd (cc);
-}
-
 -- the words of one group more
 pub rows_more : (c : List Statement) (tests : List Test) (first : ℕ) (rows : List (List ℕ))
     (row : List ℕ) (group : ℕ) → first + length rows ≡ group → group < groups (length tests)

@@ -6,7 +6,7 @@ use Rattle.std.specs.Int.{bit_at}
 use Rattle.std.specs.List.{enumerate_from}
 use Rattle.std.specs.Prelude.{slice_get, slice_index, slice_index_or}
 use Rattle.std.proofs.Math.Nat.{mul-le-mul_left}
-use Rattle.std.proofs.lemmas.List.{get_or-map, length-map, map_push}
+use Rattle.std.proofs.lemmas.List.{get_or-map, map_push}
 use Rattle.std.proofs.lemmas.List.FromFn.{get_or-enumerate_from, length-enumerate_from}
 use Rattle.std.proofs.lemmas.Nat.{mod-mul-add}
 use Rattle.std.proofs.lemmas.Nat.Bits.{bit_at-zero, bit_at_ones}
@@ -21,13 +21,6 @@ use Rattle.generator.specs.RandomTests.{held_word, held_words, next_words}
 pub word_count : (n : ℕ) (s : Stream) → length (next_words n s) ≡ n
 word_count zero s = refl
 word_count (suc n) s = ap suc (word_count n (next_u64 s).1)
-
-pub held_count : (bits : List (Option Bool)) (words : List ℕ)
-    → length (held_words bits words) ≡ length words
-held_count bits words =
-    length-map (enumerate_from 0 words)
-    (λ at. held_word (slice_index_or bits (at.0 % length bits) None) at.1)
-    ∙ length-enumerate_from 0 words
 
 -- one word more
 pub held_more : (bits : List (Option Bool)) (words : List ℕ) (word : ℕ)

@@ -58,14 +58,6 @@ of_names c name place is =
     placed (names c) name (defined_among c (Input name) name
     (of_input c name (at_place (inputs c) at.0 name at.1)) refl)
 
--- a column that is none of an input is no place of one
-pub no_input : (c : List Statement) (name : Name) (place : ℕ) → IsColumn c name place
-    → length (inputs c) ≤ place → Stands name (inputs c) → ⊥
-no_input c name place is past stands =
-    let low = slice_get_within (inputs c) stands.0 name stands.1 in
-    is.first stands.0 (omega (arith, low, past))
-    (in_front (inputs c) (map (λ cell. cell.0) (cells c)) stands.0 name stands.1)
-
 -- ---- bits that are set
 
 set_here : (xs : List (Option Bool)) (i : ℕ) (x : Option Bool) → i < length xs

@@ -1,13 +1,13 @@
 -- Wanted tests, and the beginning of the kept tests.
 use Rattle.std.proofs.Common.{◌≡◌, ◌<◌, ◌≤◌, ◌+◌, ◌∙◌, ◌⊎◌, inl, inr, ℕ, zero, suc, Bool, true}
 use Rattle.std.proofs.Common.{false, List, [], ◌∷◌, ◌++◌, length, set, Some, None, refl, sym, ap}
-use Rattle.std.proofs.Common.{Option, subst, arith, replicate}
+use Rattle.std.proofs.Common.{Option, subst, arith}
 use Rattle.std.specs.Prelude.{slice_get}
 use Rattle.std.proofs.lemmas.Bool.{cases_lt}
-use Rattle.std.proofs.lemmas.List.{get_or-replicate, length-append, length-replicate}
-use Rattle.std.proofs.lemmas.Option.{get_or_from_slice_get, slice_get_within}
+use Rattle.std.proofs.lemmas.List.{length-append}
+use Rattle.std.proofs.lemmas.Option.{slice_get_within}
 use Rattle.list_lemmas.proofs.Places.{within_place}
-use Rattle.generator.specs.Keeping.{AreNeeded, AreNoted, HasFirst, HasMark, IsFirstWanted}
+use Rattle.generator.specs.Keeping.{AreNeeded, HasFirst, HasMark, IsFirstWanted}
 use Rattle.generator.specs.Keeping.{IsMarked, IsWanted}
 
 -- an element of a list is also an element of the list with one more
@@ -162,16 +162,6 @@ module _ (tests : List (List Bool)) (marks : List Bool) (pairs : Bool) (s test :
           ap (slice_get (kept ++ x ∷ [])) (sym (was.one same))
           ∙ (pushed_last kept x ∙ (sym at ∙ ap (slice_get tests) same))
 
--- before the first test nothing is kept
-pub begun_none : (tests : List (List Bool)) (marks : List Bool) (pairs : Bool) (s : ℕ)
-    (kept : List (List Bool)) → length kept ≡ 0 → IsBegun tests marks pairs s 0 kept
-begun_none tests marks pairs s kept none = record {
-  before = λ le. none;
-  first = λ lt. absurd (omega (arith, lt));
-  one = λ e. absurd (omega (arith, e));
-  second = λ lt w. absurd (omega (arith, lt));
-}
-
 -- ---- one mark more
 
 pub set_mark : (marks : List Bool) (t : ℕ) → t < length marks → IsMarked (set marks t true) t
@@ -192,31 +182,6 @@ set_only (m ∷ marks) (suc t) (suc k) e = go (set_only marks t k e)
     go (inr x) = inr (ap suc x)
 
 -- ---- at first no test is marked
-
-zero_word : (n block word : ℕ) → slice_get (replicate n 0) block ≡ Some word → word ≡ 0
-zero_word n block word e =
-    let zeros : List ℕ = replicate n 0 in
-    let low = slice_get_within zeros block word e in
-    let long : length zeros ≡ n = length-replicate n 0 in
-    let within : block < n = omega (arith, low, long) in
-    sym (get_or_from_slice_get zeros block word 0 e) ∙ get_or-replicate n block 0 0 within
-
-pub none_noted : (n : ℕ) (words : List ℕ) (marks : List Bool) → words ≡ replicate n 0
-    → AreNoted words marks
-none_noted n words marks e = λ block word at ne.
-    let zeros = subst (λ (ws : List ℕ). slice_get ws block ≡ Some word) e at in
-    absurd (ne (zero_word n block word zeros))
-
-pub no_mark : (n : ℕ) (marks : List Bool) → marks ≡ replicate n false → HasMark marks → ⊥
-no_mark n marks e h =
-    let at : IsMarked (replicate n false) h.0 =
-    subst (λ (ms : List Bool). IsMarked ms h.0) e h.1 in
-    let low = slice_get_within (replicate n false) h.0 true at in
-    let long : length (replicate n false) ≡ n = length-replicate n false in
-    let bad : true ≡ false =
-    sym (get_or_from_slice_get (replicate n false) h.0 true false at)
-    ∙ get_or-replicate n h.0 false false (omega (arith, low, long)) in
-    absurd (cc)
 
 -- no test is wanted if no class has a first test
 pub none_wanted : (firsts : List (Option ℕ)) (marks : List Bool) (pairs : Bool)

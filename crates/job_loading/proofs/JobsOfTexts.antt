@@ -1,7 +1,6 @@
 -- A job of the circuit and the tests of accepted files is a job of the files.
 use Rattle.std.proofs.Common.{◌≡◌, ◌⊎◌, ◌<◌, ℕ, List, length, refl, sym, ap, subst, inl, inr}
-use Rattle.std.specs.Prelude.{Result, Ok, Err, IfOk, IfSome, ◌↔◌}
-use Rattle.std.specs.Result.{result_ok}
+use Rattle.std.specs.Prelude.{Result, Err, ◌↔◌}
 use Rattle.bench_net.specs.Statement.{Statement}
 use Rattle.bench_net.specs.Scan.{sources}
 use Rattle.bench_net.specs.Refusal.{IsAccepted}
@@ -17,7 +16,7 @@ use Rattle.job_loading.specs.declared.fault.SimFault.TheVariants as fault
 use Rattle.block_sim.specs.JobParts.{IsJobUnder}
 use Rattle.job_loading.specs.declared.split.Split.{Split}
 use Rattle.job_loading.specs.declared.split.Split.TheVariants as split
-use Rattle.job_loading.specs.Jobs.{AreTestsFor, IsInputFault, IsJobFault, IsJobOf, IsPiecesFault}
+use Rattle.job_loading.specs.Jobs.{AreTestsFor, IsJobFault, IsJobOf, IsPiecesFault}
 use Rattle.job_loading.specs.Jobs.{IsReadFault}
 use Rattle.job_loading.specs.Splits.{IsSplitFault, IsSplitFaultFor}
 
@@ -39,12 +38,6 @@ job_is m c list classes tests listed are fit =
       },
       of_model,
     )
-
--- what is true of an Ok is true of it as an option
-pub some_of_ok : {X E : Type 0} (r : Result X E) (P : X → Type 0) → IfOk r P
-    → IfSome (result_ok r) P
-some_of_ok (Ok x) P h = h
-some_of_ok (Err fault) P h = tt
 
 -- a job with other tests of the circuit's width is a job of the circuit and these tests
 pub job_with_tests : (job : Parts) (tests : TestList) → BelongTogether job
@@ -108,13 +101,6 @@ split_fault m bench text c tests (split.Parts count) accepted has f h =
 split_fault m bench text c tests split.Fitting accepted has f h =
     subst (IsReadFault bench text) (sym h) tt
 
--- memory is an error of every run
-pub memory_fault : (m : Model) (c : List Statement) (tests : TestList) (parts : Split)
-    → IsSplitFaultFor m c tests parts fault.Memory
-memory_fault m c tests split.Whole = tt
-memory_fault m c tests (split.Parts count) = refl
-memory_fault m c tests split.Fitting = refl
-
 -- too many pieces are an error of a run as a whole
 pub pieces_of_whole : (job : Parts) (tests : TestList) (parts : Split) → BelongTogether job
     → AreTestsFor job.circuit tests → parts ≡ split.Whole
@@ -124,30 +110,3 @@ pieces_of_whole job tests parts together fit is many =
     subst (λ p. IsSplitFaultFor job.list.model job.circuit tests p
     (fault.Job job_fault.TooManyPieces)) (sym is)
     (inr (with_tests job tests, job_with_tests job tests together fit, many))
-
--- an error of a file is an error of a job of it
-input_job_fault : (m : Model) (bench text : List ℕ) (f : SimFault) → IsInputFault bench text f
-    → IsJobFault m bench text f
-input_job_fault m bench text (fault.Bench f) h = h
-input_job_fault m bench text (fault.Tests f) h = h
-input_job_fault m bench text fault.Memory h = absurd h
-input_job_fault m bench text (fault.Job f) h = absurd h
-input_job_fault m bench text (fault.Order f) h = absurd h
-input_job_fault m bench text (fault.Run f) h = absurd h
-input_job_fault m bench text (fault.Report f) h = absurd h
-
-input_read_fault : (bench text : List ℕ) (f : SimFault) → IsInputFault bench text f
-    → IsReadFault bench text f
-input_read_fault bench text (fault.Bench f) h = h
-input_read_fault bench text (fault.Tests f) h = h
-input_read_fault bench text fault.Memory h = absurd h
-input_read_fault bench text (fault.Job f) h = absurd h
-input_read_fault bench text (fault.Order f) h = absurd h
-input_read_fault bench text (fault.Run f) h = absurd h
-input_read_fault bench text (fault.Report f) h = absurd h
-
-pub input_split_fault : (m : Model) (bench text : List ℕ) (parts : Split) (f : SimFault)
-    → IsInputFault bench text f → IsSplitFault m bench text parts f
-input_split_fault m bench text split.Whole f h = input_job_fault m bench text f h
-input_split_fault m bench text (split.Parts count) f h = input_read_fault bench text f h
-input_split_fault m bench text split.Fitting f h = input_read_fault bench text f h

@@ -17,17 +17,7 @@ use Rattle.region_runs.specs.Tasks.{AreKept, task_of}
 use Rattle.n_detect.specs.ClassTests.{AreClassTests, AreGroupsIn}
 use Rattle.n_detect.specs.ListLanes.{AreLanesIn}
 use Rattle.n_detect.proofs.CountsBefore.{class_hits}
-use Rattle.n_detect.proofs.GroupWords.{lanes_more, lanes_none, lanes_same}
-
--- no lane is there before the first test
-pub groups_none : (count : ℕ) (words : List ℕ) (hits : ℕ → Bool) (at : ℕ) → length words ≡ count
-    → ((group word : ℕ) → slice_get words group ≡ Some word → word ≡ 0)
-    → AreGroupsIn count hits at at words
-groups_none count words hits at long zero = record {
-  long = long;
-  each = λ group word is. subst (AreLanesIn group hits at at) (sym (zero group word is))
-      (lanes_none group at hits);
-}
+use Rattle.n_detect.proofs.GroupWords.{lanes_more, lanes_same}
 
 -- a word of a group more
 pub groups_taken : (count group : ℕ) (hits : ℕ → Bool) (low from to : ℕ) → low ≤ from

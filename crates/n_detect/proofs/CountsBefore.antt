@@ -1,6 +1,6 @@
 -- Counts on the first tests of a list, and those that a run keeps.
 use Rattle.std.proofs.Common.{◌≡◌, ◌<◌, ◌≤◌, ◌+◌, ◌-◌, ◌*◌, ℕ, suc, Bool, List, length, map, max}
-use Rattle.std.proofs.Common.{min, Option, None, ap, ◌∙◌, arith, cond, lt-ltb, refl, subst}
+use Rattle.std.proofs.Common.{min, Option, None, ap, ◌∙◌, arith, cond, refl, subst}
 use Rattle.std.specs.Prelude.{Some, count_by, nat_lt, slice_get, slice_index}
 use Rattle.std.specs.Bool.{Decides}
 use Rattle.std.proofs.lemmas.List.{length-map}
@@ -108,15 +108,6 @@ fewer job most class n is = record {
     number = omega (arith, is.count.number);
   };
 }
-
--- a count up to a number that isn't 0 is open at first
-pub open_at_first : (job : Parts) (most : ℕ) → 0 < most
-    → IsOpenAtFirst (task_of job 0 (λ n. nat_lt n most) (IsHitCount most))
-open_at_first job most some n hits at is =
-    let no : at - at ≡ 0 = omega arith in
-    let none : count_by hits (from_up at (at - at)) ≡ 0 =
-    ap (λ k. count_by hits (from_up at k)) no in
-    lt-ltb n most (omega (arith, is, none, some))
 
 -- no class has a first test at first
 pub first_open : (job : Parts) → IsOpenAtFirst (first_tests job)

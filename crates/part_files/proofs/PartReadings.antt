@@ -6,9 +6,9 @@ use Rattle.std.specs.Prelude.{codes, zip, flat_map}
 use Rattle.std.specs.List.{AllByRecursion}
 use Rattle.std.proofs.lemmas.Grind.{flat_map-append}
 use Rattle.region_runs.specs.declared.parts.PartVerdict.{PartVerdict}
-use Rattle.part_files.specs.Cut.{IsCutFirst, Lacks}
+use Rattle.part_files.specs.Cut.{IsCutFirst}
 use Rattle.part_files.specs.PartText.{PartHead, head_line, verdict_line}
-use Rattle.part_files.specs.PartReading.{HasMore, IsBadHead, IsBadLine, IsBegun, IsCutLines, IsHead}
+use Rattle.part_files.specs.PartReading.{HasMore, IsBadHead, IsBadLine, IsBegun, IsHead}
 use Rattle.part_files.specs.PartReading.{IsEndFault, IsLine, IsNoFaultLine, IsPart, IsPartRefusal}
 use Rattle.part_files.specs.PartReading.{end_of}
 use Rattle.part_files.specs.declared.part_reader.PartFault.{PartFault}
@@ -31,15 +31,6 @@ pub joined : (line after text : List ℕ) → line ++ codes "\n" ≡ text → li
     ++ after
 joined line after text e = let assoc : (line ++ codes "\n") ++ after ≡ line ++ 10 ∷ after =
     append_assoc line (codes "\n") after in sym assoc ∙ ap (λ l. l ++ after) e
-
--- after the first line
-pub begun_none : (text : List ℕ) (h : PartHead) (rest : List ℕ) → IsHead h
-    → text ≡ head_line h ++ rest → IsBegun text h [] [] rest
-begun_none text h rest ok e = record {
-  head = ok;
-  lines = record { same = refl; each = tt };
-  whole = e;
-}
 
 -- one more line of a fault
 pub begun_more : (text : List ℕ) (h : PartHead) (faults : List (List ℕ))
@@ -128,18 +119,6 @@ bad_line text h faults verdicts rest line after begun cut none last = record {
   no_end = last;
 }
 
-pub cut_lines : (text : List ℕ) (h : PartHead) (faults : List (List ℕ))
-    (verdicts : List PartVerdict) (rest : List ℕ)
-    → IsBegun text h faults verdicts rest → Lacks 10 rest → IsCutLines text
-cut_lines text h faults verdicts rest begun lacks = record {
-  head = h;
-  faults = faults;
-  verdicts = verdicts;
-  more = rest;
-  begun = begun;
-  one_line = lacks;
-}
-
 pub bad_head : (text line more : List ℕ) → IsCutFirst 10 text line more
     → ((h : PartHead) → IsHead h → line ++ codes "\n" ≢ head_line h) → IsBadHead text
 bad_head text line more cut bad = record {
@@ -157,17 +136,6 @@ pub record Reading (text : List ℕ) (h : PartHead) (faults : List (List ℕ))
   pub begun : IsBegun text h faults verdicts rest
   pub number_is : number ≡ length faults + 2
   pub room : number + length rest ≤ length text + 1
-
-pub some_head : (h : PartHead) → 0 < length (head_line h)
-some_head h = omega (arith, length-append (codes "part ") (codes "\n"))
-
-pub reading_none : (text : List ℕ) (h : PartHead) (rest : List ℕ) → IsHead h
-    → text ≡ head_line h ++ rest → Reading text h [] [] rest 2
-reading_none text h rest ok e = record {
-  begun = begun_none text h rest ok e;
-  number_is = refl;
-  room = omega (arith, ap (λ l. length l) e, length-append (head_line h) rest, some_head h);
-}
 
 pub reading_more : (text : List ℕ) (h : PartHead) (faults more : List (List ℕ))
     (verdicts others : List PartVerdict) (rest line after name : List ℕ) (v : PartVerdict)

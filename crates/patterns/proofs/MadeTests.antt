@@ -61,11 +61,6 @@ module _ (width count : ℕ) (words : List ℕ) (fits : (i : ℕ) → get_or wor
       let small = fits (width * block + source) in
       omega (arith, at, small)
 
-  pub not_idle_full : (source : ℕ) → count % 64 ≡ 0 → HasIdleBit width count words source → ⊥
-  not_idle_full source full has =
-      let within : has.0 < blocks count = has.1 in
-      full_clear has.0 source (omega (arith, within, full)) has.2
-
   pub not_idle : (source : ℕ) → get_or words (width * (count / 64) + source) 0 < 2 ^ (count % 64)
       → HasIdleBit width count words source → ⊥
   not_idle source small has =

@@ -66,15 +66,6 @@ pub record AreOwnUpTo (job : Parts) (parts part : ℕ) (classes : List ℕ) (n :
       × (slice_get classes b ≡ Some second)
   pub few : length own ≤ n
 
-pub own_none : (job : Parts) (parts part : ℕ) (classes : List ℕ)
-    → AreOwnUpTo job parts part classes 0 []
-own_none job parts part classes = record {
-  each = λ k class at. let bad : None ≡ Some class = at in absurd (cc);
-  all = λ j class lt. absurd (omega (arith, lt));
-  ordered = λ i k first second lt ea eb. let bad : None ≡ Some first = ea in absurd (cc);
-  few = omega arith;
-}
-
 -- one class more, which is of the part
 pub own_more : (job : Parts) (parts part : ℕ) (classes : List ℕ) (n class : ℕ) (own : List ℕ)
     → AreOwnUpTo job parts part classes n own → slice_get classes n ≡ Some class

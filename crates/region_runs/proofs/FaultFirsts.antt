@@ -60,11 +60,6 @@ firsts_append class_of positions firsts before more start left is right = record
       ap (λ l. l ++ more) known ∙ right.follow ∙ ap (λ n. map g (take n class_of)) long;
 }
 
--- no fault
-pub firsts_nothing : (class_of positions : List ℕ) (firsts : List (Option ℕ))
-    → AreFirstsFrom class_of positions firsts 0 []
-firsts_nothing class_of positions firsts = record { within = omega arith; follow = refl }
-
 -- the stretch of all faults
 pub firsts_whole : (job : Parts) (positions : List ℕ) (firsts found : List (Option ℕ))
     → AreFirstsFrom job.classes.class_of positions firsts 0 found

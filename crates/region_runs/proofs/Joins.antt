@@ -17,15 +17,6 @@ pub none_of : (first : Option ℕ) → is_some first ≡ false → first ≡ Non
 none_of (Some t) is = absurd (false≢true (sym is))
 none_of None is = refl
 
--- one that is known stays
-pub first_before : (start : ℕ) (old later : Option ℕ) (t : ℕ) → old ≡ Some t
-    → Joins IsFirstHit start old later old
-first_before start old later t is = λ hits own low mid high le up few same was found.
-    subst (IsFirstHit hits low (start + high)) (sym is)
-    (let h = subst (IsFirstHit hits low (start + mid)) is was in
-    let below = h.1 in
-    (h.0, omega (arith, below, up), h.2, h.3))
-
 -- and without one it is that of the window, if there is one
 pub first_later : (start t : ℕ) (new : Option ℕ) → (t + start ≤ 65536 → new ≡ Some (t + start))
     → Joins IsFirstHit start None (Some t) new

@@ -4,7 +4,6 @@ mod SumsInOrder
 mod FaultFirsts
 mod ListedRuns
 mod StretchRuns
-mod PassedPieces
 mod FirstHits
 mod OpenClasses
 mod AskedPieces

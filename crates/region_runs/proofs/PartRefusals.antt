@@ -87,17 +87,6 @@ firsts_fault job parts workers P S run_fault.Memory h = h
 firsts_fault job parts workers P S run_fault.Threads h = h
 firsts_fault job parts workers P S (run_fault.Unfinished class block) h = h
 
--- a run for a goal with an open gate fails for its workers, memory or a thread
-pub open_goal_fault : {K : Type 0} (task : Task K) (parts workers : ℕ) (f : RunFault)
-    → IsGoalFault task parts workers ⊤ no_stop f → IsOpenFault workers f
-open_goal_fault {K} task parts workers run_fault.NoWorkers h = h
-open_goal_fault {K} task parts workers run_fault.TooManyWorkers h = h
-open_goal_fault {K} task parts workers (run_fault.NoSuchMove index) h = h
-open_goal_fault {K} task parts workers run_fault.TooManyPieces h = h
-open_goal_fault {K} task parts workers run_fault.Memory h = h
-open_goal_fault {K} task parts workers run_fault.Threads h = h
-open_goal_fault {K} task parts workers (run_fault.Unfinished class block) h = absurd (h.4 tt)
-
 -- the errors of a run under an open gate are errors of a run in parts
 pub open_parts_fault : (job : Parts) (parts workers : ℕ) (f : RunFault)
     → IsOpenFault workers f → IsPartsFault job parts workers ⊤ no_stop f

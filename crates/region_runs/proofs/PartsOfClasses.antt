@@ -1,6 +1,6 @@
 -- Parts are a partition, and the verdicts of runs over them.
 use Rattle.std.proofs.Common.{◌≡◌, ◌≢◌, ◌<◌, ◌≤◌, ◌+◌, ◌*◌, ◌%◌, ◌^◌, ◌⊎◌, inl, inr, ℕ, Bool, zero}
-use Rattle.std.proofs.Common.{suc, List, [], ◌∷◌, ◌++◌, map, set, take, drop, length, get_or, All}
+use Rattle.std.proofs.Common.{suc, List, [], ◌∷◌, ◌++◌, map, take, drop, length, get_or, All}
 use Rattle.std.proofs.Common.{Option, Some, None, refl, sym, ap, ◌∙◌, subst, arith, replicate}
 use Rattle.std.proofs.Common.{add-one}
 use Rattle.std.specs.Prelude.{slice_get}
@@ -10,12 +10,10 @@ use Rattle.flat_circuit.proofs.Public.{class_has_stem, one_class_stem}
 use Rattle.std.proofs.Math.Nat.{mod-lt, mul_comm, mul-le-mul_left, suc-mul}
 use Rattle.patterns.specs.Tests.{blocks}
 use Rattle.std.proofs.Math.Seq.{take-add}
-use Rattle.std.proofs.lemmas.Bool.{cases_lt}
 use Rattle.std.proofs.lemmas.Grind.{div_ceil_times}
 use Rattle.std.proofs.lemmas.Option.{get_or_from_slice_get, slice_get-get_or}
 use Rattle.std.proofs.lemmas.Option.{slice_get_within}
-use Rattle.std.proofs.lemmas.List.{get_or-set_same, get_or-set_other}
-use Rattle.std.proofs.lemmas.List.{length-map, length-set, take_all}
+use Rattle.std.proofs.lemmas.List.{length-map, take_all}
 use Rattle.std.proofs.lemmas.List.Elements.{All-drop, All-take}
 use Rattle.std.proofs.lemmas.List.Sums.{sum_by-cons}
 use Rattle.list_lemmas.proofs.Places.{from_mapped}
@@ -64,73 +62,6 @@ pub part_within : (job : Parts) (parts part : ℕ) (classes : List ℕ)
     → All (λ class. class < length job.classes.representative) classes
 part_within job parts part classes are k d lt =
     (are.each k (get_or classes k d) (slice_get-get_or classes k d lt)).0
-
--- from a verdict on a class that was set at one more place
-pub verdict_more : (count : ℕ) (classes : List ℕ) (firsts : List (Option ℕ)) (n class : ℕ)
-    (first : Option ℕ) (verdicts : List PartVerdict)
-    → AreClassVerdicts count classes firsts n verdicts
-    → slice_get classes n ≡ Some class → slice_get firsts n ≡ Some first → class < count
-    → AreClassVerdicts count classes firsts (n + 1) (set verdicts class (First first))
-verdict_more count classes firsts n class first verdicts was here there lt = record {
-  long = length-set verdicts class (First first) ∙ was.long;
-  each = λ c low. pick c low (cases_lt c class) (cases_lt class c);
-}
-  where
-    same : (c : ℕ) → c < count → c ≡ class
-        → IsClassVerdict classes firsts (n + 1) c (slice_get (set verdicts class (First first)) c)
-    same c low e =
-        subst (λ k. IsClassVerdict classes firsts (n + 1) k
-        (slice_get (set verdicts class (First first)) k)) (sym e)
-        (inl (
-          n,
-          first,
-          omega arith,
-          here,
-          there,
-          slice_get-get_or (set verdicts class (First first)) class OtherPart (omega (
-            arith,
-            length-set verdicts class (First first),
-            was.long,
-            lt,
-          ))
-              ∙ ap Some (get_or-set_same verdicts class (First first) OtherPart (omega (
-                arith,
-                was.long,
-                lt,
-              ))),
-        ))
-
-    other : (c : ℕ) → c < count → c ≢ class
-        → IsClassVerdict classes firsts (n + 1) c (slice_get (set verdicts class (First first)) c)
-    other c low d =
-        subst (λ v. IsClassVerdict classes firsts (n + 1) c v)
-        (slice_get-get_or verdicts c OtherPart (omega (arith, was.long, low))
-        ∙ ap Some (sym (get_or-set_other verdicts class c (First first) OtherPart d))
-        ∙ sym (slice_get-get_or (set verdicts class (First first)) c OtherPart (omega (
-          arith,
-          length-set verdicts class (First first),
-          was.long,
-          low,
-        ))))
-        (on (was.each c low))
-      where
-        on : IsClassVerdict classes firsts n c (slice_get verdicts c)
-            → IsClassVerdict classes firsts (n + 1) c (slice_get verdicts c)
-        on (inl x) = inl (x.0, x.1, omega (arith, x.2), x.3, x.4, x.5)
-        on (inr x) = inr ((λ k low. miss k (cases_lt k n) low), x.1)
-          where
-            miss : (k : ℕ) → (k < n) ⊎ (n ≤ k) → k < n + 1 → slice_get classes k ≢ Some c
-            miss k (inl m) l = x.0 k m
-            miss k (inr m) l = λ e.
-                let q : k ≡ n = omega (arith, m, l) in
-                let r : slice_get classes n ≡ Some c = ap (λ j. slice_get classes j) (sym q) ∙ e in
-                d (let s = sym r ∙ here in cc)
-
-    pick : (c : ℕ) → c < count → (c < class) ⊎ (class ≤ c) → (class < c) ⊎ (c ≤ class)
-        → IsClassVerdict classes firsts (n + 1) c (slice_get (set verdicts class (First first)) c)
-    pick c low (inl x) y = other c low (λ e. omega (arith, x, e))
-    pick c low (inr x) (inl y) = other c low (λ e. omega (arith, y, e))
-    pick c low (inr x) (inr y) = same c low (omega (arith, x, y))
 
 -- at first no class has one
 pub verdict_none : (count : ℕ) (classes : List ℕ) (firsts : List (Option ℕ))
@@ -312,40 +243,6 @@ all_firsts job classes firsts found table b all known by is = record {
   where
     g : ℕ → Option ℕ
     g class = first_in (get_or table class OtherPart)
-
--- each verdict is the first test of some class of the list
-pub verdict_there : (job : Parts) (classes : List ℕ) (firsts found : List (Option ℕ))
-    (table : List PartVerdict) → BelongTogether job → AreAllByRegion job classes
-    → AreClassVerdicts (length job.classes.representative) classes firsts (length classes) table
-    → found ≡ map (λ class. first_in (get_or table class OtherPart)) job.classes.class_of
-    → (i class : ℕ) (first : Option ℕ) → slice_get job.classes.class_of i ≡ Some class
-    → slice_get found i ≡ Some first
-    → (k : ℕ) × (slice_get classes k ≡ Some class) × (slice_get firsts k ≡ Some first)
-verdict_there job classes firsts found table b all by is i class first at v =
-    let x = from_mapped g job.classes.class_of i first
-    (ap (λ (l : List (Option ℕ)). slice_get l i) (sym is) ∙ v) in
-    let both : Some x.0 ≡ Some class = sym x.1 ∙ at in
-    let one : x.0 ≡ class = cc in
-    let lt : class < length job.classes.representative = class_in job (shape_for job 1) i class b
-    (record { classes = refl; tests = refl }) at in
-    go (ap g (sym one) ∙ x.2) (by.each class lt)
-  where
-    g : ℕ → Option ℕ
-    g class = first_in (get_or table class OtherPart)
-
-    go : g class ≡ first
-        → IsClassVerdict classes firsts (length classes) class (slice_get table class)
-        → (k : ℕ) × (slice_get classes k ≡ Some class) × (slice_get firsts k ≡ Some first)
-    go e (inl x) =
-        let own = get_or_from_slice_get table class (First x.1) OtherPart x.5 in
-        let same : x.1 ≡ first = ap first_in (sym own) ∙ e in
-        (x.0, x.3, x.4 ∙ ap Some same)
-    go e (inr x) =
-        let lt : class < length job.classes.representative = class_in job (shape_for job 1) i class
-        b
-        (record { classes = refl; tests = refl }) at in
-        let y = all.all class lt tt in
-        absurd (x.0 y.0 (slice_get_within classes y.0 class y.1) y.1)
 
 -- so is each verdict of a part that is not of another part
 pub part_verdict_there : (job : Parts) (classes : List ℕ) (firsts : List (Option ℕ))

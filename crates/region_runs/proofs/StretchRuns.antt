@@ -191,11 +191,6 @@ lowest_join P Q f s (Some w) p q is = (either is.0, λ c b x. go c b x)
     go c b (inl x) = lowest_bound P f w is.1 p c b x
     go c b (inr x) = lowest_bound Q s w is.2 q c b x
 
--- before the first place none waits
-pub open_none : {K : Type 0} (task : Task K) (classes : List ℕ) (stop : Stop)
-    → IsLowest (IsOpenBelow task classes stop 0) None
-open_none {K} task classes stop = λ c b x. omega (arith, x.low)
-
 -- that at one place more doesn't
 pub open_same : {K : Type 0} (task : Task K) (classes : List ℕ) (stop : Stop) (place : ℕ)
     (lowest : Option Waiting)

@@ -1,26 +1,23 @@
 -- The steps of a worker's seat with the stretches of a ledger.
-use Rattle.std.proofs.Common.{◌≡◌, ◌<◌, ◌≤◌, ◌+◌, ◌*◌, ◌-◌, inl, inr, ℕ, Bool, true, false, cond}
+use Rattle.std.proofs.Common.{◌≡◌, ◌<◌, ◌≤◌, ◌+◌, ◌*◌, ◌-◌, inl, inr, ℕ, true, false, cond}
 use Rattle.std.proofs.Common.{List, []}
 use Rattle.std.proofs.Common.{◌∷◌, ◌++◌, length, Option, Some, None, refl, sym, ap, ◌∙◌, subst}
 use Rattle.std.proofs.Common.{arith, append_assoc, eq-eqb}
 use Rattle.std.specs.Prelude.{is_some}
 use Rattle.std.proofs.Math.Nat.{mul-zero}
-use Rattle.std.proofs.lemmas.List.Elements.{All-nil, All-push, All-weaker}
+use Rattle.std.proofs.lemmas.List.Elements.{All-push, All-weaker}
 use Rattle.patterns.specs.Tests.{blocks}
 use Rattle.patterns.specs.declared.Outcome.TheVariants as outcome
 use Rattle.fault_ledger.specs.declared.Event.{Event}
 use Rattle.fault_ledger.specs.declared.Claim.TheVariants as claim_is
 use Rattle.fault_ledger.specs.declared.PieceState.TheVariants as state
-use Rattle.fault_ledger.specs.declared.Reply.{Reply}
-use Rattle.fault_ledger.specs.declared.Reply.TheVariants.{Claimed, Done as Accepted, Refused}
-use Rattle.fault_ledger.specs.declared.Refusal.{Refusal}
-use Rattle.fault_ledger.specs.declared.Call.TheVariants as call
+use Rattle.fault_ledger.specs.declared.Reply.TheVariants.{Claimed}
 use Rattle.fault_ledger.specs.History.{History, ContinuesWithout, NoneOf, block_count, piece_at}
 use Rattle.fault_ledger.specs.History.{piece_count, claims, entry, held_by}
 use Rattle.fault_ledger.specs.Answer.{IsLegal}
-use Rattle.fault_ledger.specs.Seats.{IsSitter, Makes, Place, Sees, Sitter, Stays, newcomer}
-use Rattle.fault_ledger.proofs.Public.{claims_past, entry_past, goes_on_same, held-holds}
-use Rattle.fault_ledger.proofs.Public.{held_goes_on, legal_claims, report_answer}
+use Rattle.fault_ledger.specs.Seats.{Makes, Place, Sitter}
+use Rattle.fault_ledger.proofs.Public.{claims_past, entry_past, held-holds}
+use Rattle.fault_ledger.proofs.Public.{held_goes_on, legal_claims}
 use Rattle.workers.specs.Stops.{Stops}
 use Rattle.workers.proofs.Public.{given}
 use Rattle.region_runs.specs.declared.stretch_run.Waiting.{Waiting}
@@ -63,34 +60,6 @@ claims_stretch a b p class block at tests m =
       within = g.1;
     }
 
--- a claim that got Exhausted
-pub sees_all : (a b : Sitter) (r : Reply) → IsSitter a → IsSitter b → b.exhausted ≡ true
-    → (b.place ≡ a.place) × (b.worker ≡ a.worker)
-    → (a.exhausted ≡ false → Sees a true b) → (a.exhausted ≡ true
-    → Stays a (call.Claim a.worker) r b)
-    → SeesAllClaimed a b
-sees_all a b r i j ended same sees stays = go a.exhausted refl
-  where
-    all : claims b.seen ≡ piece_count a.place.shape
-    all = (j.ended ended).1 ∙ ap (λ (p : Place). piece_count p.shape) same.0
-
-    go : (t : Bool) → a.exhausted ≡ t → SeesAllClaimed a b
-    go false e = let s = sees e in record {
-      place = same.0;
-      worker = same.1;
-      newer = s.newer;
-      legal = s.legal;
-      all = all;
-    }
-    go true e = let s = (stays e).seat in record {
-      place = same.0;
-      worker = same.1;
-      newer = subst (λ (x : Sitter). ContinuesWithout a.worker x.seen a.seen) (sym s)
-          (goes_on_same a.worker a.seen);
-      legal = subst (λ (x : Sitter). IsLegal a.place.shape x.seen) (sym s) i.legal;
-      all = all;
-    }
-
 -- the stretch that was claimed is held
 pub claim_holds : (a b : Sitter) (part : ℕ) → ClaimsStretch a part b
     → held_by b.worker b.seen ≡ Some part
@@ -99,15 +68,6 @@ claim_holds a b part c =
     (ap (held_by a.worker) c.seen
     ∙ ap (λ t. cond t (Some (claims c.before)) (held_by a.worker c.before))
     (eq-eqb a.worker a.worker refl) ∙ ap Some (sym c.number))
-
--- a report of a held stretch is accepted
-pub clear_taken : (a b : Sitter) (p : ℕ) (r : Refusal) → IsSitter a
-    → held_by a.worker a.seen ≡ Some p
-    → Stays a (call.Report a.worker outcome.Clear) (Refused r) b → ⊥
-clear_taken a b p r i held s =
-    let q : Refused r ≡ Accepted = s.replied
-    ∙ report_answer a.place.shape a.seen a.worker p outcome.Clear i.among held refl in
-    absurd (cc)
 
 -- whether a class waits
 pub some_of : (x : Option Waiting) → is_some x ≡ true → (v : Waiting) × (x ≡ Some v)
@@ -217,20 +177,6 @@ module _ {K : Type 0} (task : Task K) (size : ℕ) (classes : List ℕ) (place :
     pub worker_is : seat.worker ≡ w
     pub legal : IsLegal place.shape seat.seen
     pub accounts : Accounts task size classes w P S seat.seen dones
-
-  pub serving_none : (a : Sitter) (dones : List (Done K)) → a ≡ newcomer place w → dones ≡ []
-      → Serving a dones
-  serving_none a dones e empty = record {
-    place_is = ap (λ (x : Sitter). x.place) e;
-    worker_is = ap (λ (x : Sitter). x.worker) e;
-    legal = subst (λ (x : Sitter). IsLegal place.shape x.seen) (sym e) tt;
-    accounts = subst (λ (x : Sitter). Accounts task size classes w P S x.seen dones) (sym e)
-        (subst (Accounts task size classes w P S []) (sym empty) (record {
-          done = All-nil (IsDone task size classes w P S);
-          stand = All-nil (λ (d : Done K). Stands w [] d.part d.waiting);
-          claimed = tt;
-        }));
-  }
 
   -- results that account for the claims do so later, if the worker does nothing
   pub accounts_on : (later earlier : History) (dones : List (Done K))

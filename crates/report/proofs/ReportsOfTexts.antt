@@ -1,6 +1,6 @@
 -- From the report of a job to the report of the files that the job was read from.
 use Rattle.std.proofs.Common.{◌≡◌, ◌∙◌, ℕ, ap, inl, inr, length, refl, subst, List}
-use Rattle.std.specs.Prelude.{⊤, Result, Ok, Err, IfErr, OnOk}
+use Rattle.std.specs.Prelude.{Result, Ok, Err, IfErr, OnOk}
 use Rattle.bench_net.specs.Refusal.{IsAccepted}
 use Rattle.bench_net.specs.Scan.{sources}
 use Rattle.bench_net.specs.Statement.{Statement}
@@ -11,8 +11,6 @@ use Rattle.orders.specs.Order.{HasMoves}
 use Rattle.patterns.specs.Tests.{HasTests, TestList}
 use Rattle.block_sim.specs.Parts.{Parts, piece_count}
 use Rattle.workers.specs.declared.RunFault.{RunFault}
-use Rattle.workers.specs.Refused.{IsRunFault}
-use Rattle.workers.specs.Stops.{no_stop}
 use Rattle.workers.specs.Verdict.{AreFirsts}
 use Rattle.byte_output.specs.Output.{Output}
 use Rattle.job_loading.specs.declared.fault.SimFault.{SimFault}
@@ -21,7 +19,7 @@ use Rattle.job_loading.specs.Jobs.{IsJobOf, IsJobWithin, IsPiecesFault}
 use Rattle.job_loading.proofs.Public.{job_of_texts}
 use Rattle.report.specs.EndToEnd.{WritesOneOf, IsListingOf, IsReportOf, IsReportOfJob}
 use Rattle.report.specs.EndToEnd.{IsListFault, IsListingFault, IsListingOfCircuit}
-use Rattle.report.specs.EndToEnd.{IsReportFault, IsJobReportFault, IsTextFault}
+use Rattle.report.specs.EndToEnd.{IsJobReportFault, IsTextFault}
 use Rattle.report.specs.EndToEnd.{HasSomeMoves, IsScheduleReportFault, IsScheduleTextFault}
 use Rattle.report.specs.declared.contents.Contents.{Contents}
 use Rattle.report.specs.Report.{listing, whole_report}
@@ -71,19 +69,6 @@ pub written_of_texts : (m : Model) (bench text : List ℕ) (contents : Contents)
 written_of_texts m bench text contents job r old new is =
     written_as (IsReportOfJob job contents) (IsReportOf m bench text contents) r old new
     (report_of m bench text contents job is)
-
--- an error of a run of a job of files is an error of the files
-pub job_run_fault : (m : Model) (bench text : List ℕ) (workers : ℕ) (job : Parts)
-    → IsJobWithin m bench text job → (f : SimFault)
-    → IsJobReportFault workers (IsRunFault job workers ⊤ no_stop) f
-    → IsReportFault m bench text workers f
-job_run_fault m bench text workers job within (fault.Run f) h = (job, within, h)
-job_run_fault m bench text workers job within (fault.Report f) h = (job, within, h.0, h.1)
-job_run_fault m bench text workers job within (fault.Bench f) h = absurd h
-job_run_fault m bench text workers job within (fault.Tests f) h = absurd h
-job_run_fault m bench text workers job within (fault.Order f) h = absurd h
-job_run_fault m bench text workers job within (fault.Job f) h = absurd h
-job_run_fault m bench text workers job within fault.Memory h = absurd h
 
 -- the same for a run of a job of any size
 pub text_fault : (m : Model) (bench text : List ℕ) (workers : ℕ)

@@ -14,7 +14,7 @@ use Rattle.job_loading.specs.declared.split.Split.{Split}
 use Rattle.job_loading.specs.declared.split.Split.TheVariants as split
 use Rattle.job_loading.specs.Jobs.{IsJobOf, IsJobWithin}
 use Rattle.job_loading.specs.Splits.{IsSplitFault, IsSplitOf}
-use Rattle.report.specs.EndToEnd.{IsFittingFault, IsJobReportFault, IsJobTextFault, IsReportFault}
+use Rattle.report.specs.EndToEnd.{IsFittingFault, IsJobReportFault, IsReportFault}
 use Rattle.report.specs.EndToEnd.{IsTextFault, IsWatchedFault, IsWithin}
 use Rattle.region_runs.proofs.Public.{parts_fault}
 use Rattle.report.proofs.ReportsOfTexts.{refused_as, text_fault}
@@ -94,30 +94,6 @@ split_fault m bench text split.Fitting parts workers passing stops job of is f h
     (report_fault_as workers (IsPartsFault job parts workers passing stops)
     (IsFittingFault job workers passing stops)
     (fitting_fault job parts workers passing stops is.1) f h)
-
--- memory may be refused at any time
-pub split_memory : (m : Model) (bench text : List ℕ) (s : Split) (workers : ℕ) (passing : Type 0)
-    (stops : Stops) → IsWatchedFault m bench text s workers passing stops fault.Memory
-split_memory m bench text split.Whole workers passing stops = tt
-split_memory m bench text (split.Parts count) workers passing stops = tt
-split_memory m bench text split.Fitting workers passing stops = tt
-
--- and an error of another text that is made of the verdicts
-pub split_text_fault : (m : Model) (bench text : List ℕ) (s : Split) (parts workers : ℕ)
-    (passing : Type 0) (stops : Stops) (job : Parts) → IsJobOf m bench text job
-    → IsSplitOf job s workers parts → (f : SimFault)
-    → IsJobTextFault workers (IsPartsFault job parts workers passing stops) f
-    → IsWatchedFault m bench text s workers passing stops f
-split_text_fault m bench text s parts workers passing stops job of is (fault.Run f) h =
-    split_fault m bench text s parts workers passing stops job of is (fault.Run f) h
-split_text_fault m bench text s parts workers passing stops job of is (fault.Report f) h =
-    split_fault m bench text s parts workers passing stops job of is (fault.Report f) h
-split_text_fault m bench text s parts workers passing stops job of is (fault.Bench f) h = absurd h
-split_text_fault m bench text s parts workers passing stops job of is (fault.Tests f) h = absurd h
-split_text_fault m bench text s parts workers passing stops job of is (fault.Order f) h = absurd h
-split_text_fault m bench text s parts workers passing stops job of is (fault.Job f) h = absurd h
-split_text_fault m bench text s parts workers passing stops job of is fault.Memory h =
-    split_memory m bench text s workers passing stops
 
 -- errors of the files before they are run
 pub split_refused : (m : Model) (bench text : List ℕ) (s : Split) (workers : ℕ) (passing : Type 0)

@@ -6,9 +6,8 @@ use Rattle.std.specs.Prelude.{if◌then◌else◌}
 use Rattle.std.proofs.lemmas.Bool.{cases_eq, cases_lt, false≢true, le-ltb, lt-ltb}
 use Rattle.std.proofs.lemmas.List.{get_or-set_other, get_or-set_same, length-set}
 use Rattle.std.proofs.lemmas.Option.{get_or_from_slice_get, slice_get-get_or, slice_get_within}
-use Rattle.list_lemmas.proofs.Places.{place_within}
 use Rattle.block_sim.specs.Parts.{Parts}
-use Rattle.undetected.specs.Activated.{AreAdded, AreAddedBefore, IsActivatedInGroup, end_at}
+use Rattle.undetected.specs.Activated.{AreAddedBefore, IsActivatedInGroup, end_at}
 use Rattle.undetected.specs.Activated.{stem_fault}
 use Rattle.undetected.specs.Activation.{ActivatesAt}
 
@@ -137,39 +136,3 @@ module _ (job : Parts) (bit : Bool) (start : List Bool) where
       ends s (end_at group signals s) (end_at (group + 1) 0 s) old flag
       (added_end group signals s (omega (arith, low, all))
       ∙ sym (open_end (group + 1) 0 s (omega arith))) (before s old flag was at)
-
-  -- and after the last group all tests were
-  pub all_added : (groups : ℕ) (flags : List Bool) → length job.tests.tests ≤ 128 * groups
-      → AreAddedBefore job bit start (end_at groups 0) flags → AreAdded job bit start flags
-  all_added groups flags all before s old flag was at = (λ e. less (own.0 e), λ h. own.1 (more h))
-    where
-      own : IsTrue flag ↔ (IsTrue old ⊎ Before s (128 * groups))
-      own = ends s (end_at groups 0 s) (128 * groups) old flag (open_end groups 0 s (omega arith))
-          (before s old flag was at)
-
-      less : IsTrue old ⊎ Before s (128 * groups) → IsTrue old ⊎ ((t : ℕ)
-          × ActivatesAt job.circuit job.tests.tests (stem_fault job.list.model s bit) t)
-      less (inl h) = inl h
-      less (inr h) = inr (h.0, h.2)
-
-      more : IsTrue old ⊎ ((t : ℕ)
-          × ActivatesAt job.circuit job.tests.tests (stem_fault job.list.model s bit) t)
-          → IsTrue old ⊎ Before s (128 * groups)
-      more (inl h) = inl h
-      more (inr h) =
-          let lt = place_within job.tests.tests h.0 h.1.0 h.1.1 in
-          inr (h.0, omega (arith, lt, all), h.1)
-
-  -- before the first group nothing was added
-  pub nothing_added : AreAddedBefore job bit start (end_at 0 0) start
-  nothing_added s old flag was at = (λ e. inl (same ∙ e), λ h. less h)
-    where
-      same : old ≡ flag
-      same = sym (get_or_from_slice_get start s old false was)
-          ∙ get_or_from_slice_get start s flag false at
-
-      less : IsTrue old ⊎ Before s (end_at 0 0 s) → IsTrue flag
-      less (inl h) = sym same ∙ h
-      less (inr h) =
-          let lt : h.0 < 128 * 0 = subst (λ x. h.0 < x) (open_end 0 0 s (omega arith)) h.1 in
-          absurd (omega (arith, lt))

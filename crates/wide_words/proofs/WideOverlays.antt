@@ -240,13 +240,6 @@ module _ (words : List Wide) (index changed : List ℕ) (most listed : ℕ)
       few = o.few;
     }
 
-  -- ---- no signal differs any more
-  pub named_all : (s : ℕ) → slice_index_or index s 0 ≢ 0
-      → (j : ℕ) × (j < length changed) × (slice_index_or changed j 0 ≡ s)
-  named_all s ne =
-      let below = o.within s in
-      (slice_index_or index s 0 - 1, omega (arith, below, o.many, ne), o.back s ne)
-
   module _ (idle : List ℕ) (same : length idle ≡ length index) (all_idle : All (λ p. p
       ≡ 0) idle) where
     first_alone : length (take 1 words) ≡ 1

@@ -1,7 +1,6 @@
 -- The meaning of a closed ledger for the run.
 use Rattle.std.proofs.Common.{◌≡◌, ◌<◌, ◌≤◌, ◌+◌, ◌⊎◌, inl, inr, ℕ, zero, suc, List, [], ◌∷◌, map}
 use Rattle.std.proofs.Common.{length, All, Option, None, refl, sym, ap, ◌∙◌, subst, arith}
-use Rattle.std.specs.Prelude.{count_by}
 use Rattle.std.proofs.lemmas.Bool.{cases_lt}
 use Rattle.std.proofs.lemmas.Option.{get_or_from_slice_get}
 use Rattle.patterns.specs.Tests.{blocks}
@@ -14,20 +13,19 @@ use Rattle.fault_ledger.specs.declared.Status.{Status}
 use Rattle.fault_ledger.specs.declared.Status.TheVariants as status_is
 use Rattle.fault_ledger.specs.declared.Finish.TheVariants as finish_is
 use Rattle.fault_ledger.specs.History.{History, ContinuesWithout, block_count, piece_at}
-use Rattle.fault_ledger.specs.History.{piece_count, claims, held_by, entry, states_of}
+use Rattle.fault_ledger.specs.History.{piece_count, claims, held_by, entry}
 use Rattle.fault_ledger.specs.Answer.{IsLegal}
 use Rattle.fault_ledger.specs.Settled.{status, status_from, finish, finish_from}
 use Rattle.fault_ledger.specs.Seats.{ClosedFace, Closes, Place, Sitter, HoldsAll, closed_face}
 use Rattle.fault_ledger.proofs.Public.{held_goes_on, claims_past, legal_claims, ClearBelow}
 use Rattle.fault_ledger.proofs.Public.{skipped_not_first}
 use Rattle.workers.specs.Settling.{AreSettled, IsShapeOf, shape_for}
-use Rattle.fault_ledger.specs.Settled.{is_skipped}
-use Rattle.workers.specs.Work.{AllReportTruly, AreBack, HasRested, HasRun, IsOfHistory, IsStopped}
+use Rattle.workers.specs.Work.{AllReportTruly, AreBack, HasRested, HasRun, IsStopped}
 use Rattle.workers.specs.Stops.{Stops}
 use Rattle.workers.specs.Work.{ReportsTruly, Returns, WaitsFor}
 use Rattle.workers.proofs.SettledLedgers.{none_open, all_settled, settled_goes_on, settled_finished}
 use Rattle.workers.proofs.SettledLedgers.{finished_settled}
-use Rattle.workers.specs.Verdict.{AreFirsts, VerdictList, verdicts}
+use Rattle.workers.specs.Verdict.{AreFirsts, verdicts}
 use Rattle.list_lemmas.proofs.Places.{within_place}
 use Rattle.workers.proofs.TrueReports.{truly_goes_on, all_true, firsts_truly}
 
@@ -250,23 +248,6 @@ module _ (job : Parts) (workers : ℕ) (closed : ClosedFace)
       (firsts_truly job closed.shape run.history b is_shape run.legal
       (all_true job closed.shape run.history run.legal run.truly)
       run_settled)
-
-  -- the closed ledger's history is one of the job's ledger
-  pub run_history : (v : VerdictList) → ((h : History) → IsLegal closed.shape h
-      → closed ≡ closed_face closed.shape h
-      → v.firsts ≡ verdicts closed.shape h job.classes.class_of)
-      → ((h : History) → closed ≡ closed_face closed.shape h
-      → v.skipped ≡ count_by is_skipped (states_of closed.shape h)) → IsOfHistory job workers v
-  run_history v told counted = record {
-    history = run.history;
-    legal = subst (λ s. IsLegal s run.history) run.shape run.legal;
-    finished = subst (λ s. finish s run.history ≡ finish_is.Finished) run.shape run.finished;
-    truly = subst (λ s. AllReportTruly job s run.history) run.shape run.truly;
-    firsts = told run.history run.legal run.shows
-        ∙ ap (λ s. verdicts s run.history job.classes.class_of) run.shape;
-    skipped = counted run.history run.shows
-        ∙ ap (λ s. count_by is_skipped (states_of s run.history)) run.shape;
-  }
 
 -- every seat came back to its ledger
 pub back_placed : (job : Parts) (p : Place) (P : Type 0) (S : Stops)

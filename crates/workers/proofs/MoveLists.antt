@@ -32,16 +32,6 @@ pub moved_append : (t : Table) (s : Shape) (h : History) (xs ys : List ℕ)
 moved_append t s h [] ys = refl
 moved_append t s h (x ∷ xs) ys = moved_append t s (move t s h x) xs ys
 
--- the invariant of each move
-pub moved_legal : (job : Parts) (t : Table) (s : Shape) (h : History) (xs : List ℕ)
-    → BelongTogether job → IsShapeOf job s → IsTableOf job t → IsLegal s h
-    → All (λ w. w < s.workers) xs → IsLegal s (after_moves t s h xs)
-moved_legal job t s h [] b is each l a = l
-moved_legal job t s h (x ∷ xs) b is each l a =
-    moved_legal job t s (move t s h x) xs b is each
-    (move_legal job t s h x b is each l (a 0 x (omega arith)))
-    (λ k d lt. a (suc k) d (omega (arith, lt)))
-
 pub moved_true : (t : Table) (s : Shape) (h : History) (xs : List ℕ) → IsTrueTo s t h
     → IsTrueTo s t (after_moves t s h xs)
 moved_true t s h [] to = to
@@ -274,10 +264,6 @@ done_none t s h f l e = (
 moved_last : (t : Table) (s : Shape) (h : History) (xs : List ℕ) (w : ℕ)
     → after_moves t s h (xs ++ w ∷ []) ≡ move t s (after_moves t s h xs) w
 moved_last t s h xs w = moved_append t s h xs (w ∷ [])
-
-abbrev dropped_by : Option Event → ℕ
-dropped_by None = 0
-dropped_by (Some e) = cond (is_drop e) 1 0
 
 module _ (t : Table) (s : Shape) (h : History) (xs : List ℕ) (w : ℕ) (f new : Face) (n : ℕ)
     (changed : Bool) (was : Done t s h xs f n changed)

@@ -16,12 +16,11 @@ use Rattle.fault_ledger.specs.declared.Shape.{Shape}
 use Rattle.fault_ledger.specs.declared.Call.TheVariants as call
 use Rattle.fault_ledger.specs.declared.Claim.TheVariants as claim_is
 use Rattle.fault_ledger.specs.declared.Refusal.{Refusal}
-use Rattle.fault_ledger.specs.declared.Refusal.TheVariants.{NoSuchWorker, NoEarlierHit}
-use Rattle.fault_ledger.specs.declared.Reply.{Reply}
+use Rattle.fault_ledger.specs.declared.Refusal.TheVariants.{NoSuchWorker}
 use Rattle.fault_ledger.specs.declared.Reply.TheVariants.{Claimed, Done, Refused}
 use Rattle.fault_ledger.specs.History.{History, piece_count, class_of, block_of, claims, held_by}
 use Rattle.fault_ledger.specs.Answer.{IsLegal, Gives, IsTrueTo, events_of, after, answer, fits_size}
-use Rattle.fault_ledger.specs.Answer.{has_earlier_hit, claim_reply, drop_reply}
+use Rattle.fault_ledger.specs.Answer.{has_earlier_hit, claim_reply}
 use Rattle.fault_ledger.specs.Seats.{class_and_block}
 use Rattle.fault_ledger.proofs.Public.{drop_answer, report_answer, held_piece, legal_after}
 use Rattle.fault_ledger.proofs.Public.{block_of-below, some_class}
@@ -173,29 +172,6 @@ reported_moves job t s h w class block o r b is each l among e refused truth =
     (true_fits job s class block (t class block) is.tests own)) in
     ap (λ x. after s h (call.Report w x)) (same ∙ at)
     ∙ report_moves t s h w p.0 among p.1 (drop_missed s h w p.0 r among p.1 refused) fits
-
--- the event that a move adds, by the reply to its call
-pub claim_event : (t : Table) (s : Shape) (h : History) (w : ℕ) (r : Reply) → w < s.workers
-    → held_by w h ≡ None → r ≡ answer s h (call.Claim w)
-    → move t s h w ≡ events_of (call.Claim w) r ++ h
-claim_event t s h w r among free e = sym (claim_moves t s h w among free)
-    ∙ ap (λ x. events_of (call.Claim w) x ++ h) (sym e)
-
-pub drop_event : (t : Table) (s : Shape) (h : History) (w p : ℕ) → w < s.workers
-    → held_by w h ≡ Some p
-    → Done ≡ answer s h (call.Drop w) → move t s h w ≡ Event.Drop w ∷ h
-drop_event t s h w p among here e = go (has_earlier_hit s h p) refl
-  where
-    go : (b : Bool) → has_earlier_hit s h p ≡ b → move t s h w ≡ Event.Drop w ∷ h
-    go true q = sym (drop_moves t s h w p among here q)
-        ∙ ap (λ x. events_of (call.Drop w) x ++ h) (sym e)
-    go false q =
-        let refused : answer s h (call.Drop w) ≡ Refused NoEarlierHit =
-        ap (λ x. cond x (drop_reply s h (held_by w h)) (Refused NoSuchWorker))
-        (lt-ltb w s.workers among) ∙ ap (drop_reply s h) here
-        ∙ ap (λ x. cond x Done (Refused NoEarlierHit)) q in
-        let bad = e ∙ refused in
-        absurd (cc)
 
 pub report_event : (t : Table) (s : Shape) (h : History) (w : ℕ) (o : Outcome)
     → after s h (call.Report w o) ≡ move t s h w → Done ≡ answer s h (call.Report w o)

@@ -1,7 +1,7 @@
 -- The events that calls on a seat add to a worker's work.
 use Rattle.std.proofs.Common.{◌≡◌, ◌<◌, ◌≤◌, ◌+◌, ◌-◌, ℕ, Bool, true, false, cond, [], ◌∷◌, ◌++◌}
 use Rattle.std.proofs.Common.{Option, Some, None, refl, sym, ap, ◌∙◌, subst, arith, append_assoc}
-use Rattle.std.proofs.Common.{eq-eqb, nat_lt, ◌⊎◌, inl, inr}
+use Rattle.std.proofs.Common.{eq-eqb, ◌⊎◌, inl, inr}
 use Rattle.patterns.specs.declared.Outcome.{Outcome}
 use Rattle.patterns.specs.Tests.{size_of}
 use Rattle.block_sim.specs.First.{IsTrueOutcome}
@@ -12,7 +12,7 @@ use Rattle.fault_ledger.specs.declared.Claim.TheVariants as claim_is
 use Rattle.fault_ledger.specs.declared.Reply.{Reply}
 use Rattle.fault_ledger.specs.declared.Reply.TheVariants.{Claimed, Done, Refused}
 use Rattle.fault_ledger.specs.declared.Refusal.{Refusal}
-use Rattle.fault_ledger.specs.declared.Refusal.TheVariants.{Holding, NothingHeld, NoEarlierHit}
+use Rattle.fault_ledger.specs.declared.Refusal.TheVariants.{NothingHeld, NoEarlierHit}
 use Rattle.fault_ledger.specs.declared.Call.TheVariants as call
 use Rattle.fault_ledger.specs.History.{History, ContinuesWithout, NoneOf, block_count, piece_at}
 use Rattle.fault_ledger.specs.History.{piece_count, class_of, block_of, claims, held_by}
@@ -20,7 +20,7 @@ use Rattle.fault_ledger.specs.Answer.{IsLegal, fits_size, has_earlier_hit}
 use Rattle.fault_ledger.specs.Seats.{Place, Sitter, IsSitter, Sees, Makes, Stays, FindsNoHit}
 use Rattle.fault_ledger.proofs.Public.{claims_past, held_goes_on, claim_accepted, claim_answer}
 use Rattle.fault_ledger.proofs.Public.{report_answer, at-of, block_of-below, some_class}
-use Rattle.fault_ledger.proofs.Public.{class_of-at, block_of-at, claim_at, drop_at, held_sees}
+use Rattle.fault_ledger.proofs.Public.{class_of-at, block_of-at, drop_at, held_sees}
 use Rattle.fault_ledger.proofs.Public.{sitter_sees}
 use Rattle.std.proofs.Math.Nat.{mod-lt}
 use Rattle.fault_ledger.specs.declared.Status.{Status}
@@ -229,18 +229,6 @@ missed a b p i holding r which stays finds = go which
         (subst (λ x. Stays a (call.Drop a.worker) (Refused x) b) e (stays e)))
     go (inr e) = finds e
 
--- a seat that holds none never gets Holding
-pub holds_none : (a b : Sitter) → IsSitter a → held_by a.worker a.seen ≡ None
-    → Stays a (call.Claim a.worker) (Refused Holding) b → ⊥
-holds_none a b i e s = go (nat_lt (claims a.seen) (piece_count a.place.shape)) (s.replied
-    ∙ claim_at a a.seen None i e)
-  where
-    go : (t : Bool) → Refused Holding
-        ≡ cond t (Claimed (claim_is.Piece (class_of a.place.shape (claims a.seen))
-        (block_of a.place.shape (claims a.seen)))) (Claimed claim_is.Exhausted) → ⊥
-    go true q = absurd (cc)
-    go false q = absurd (cc)
-
 -- a property of a class and a block is a property of their piece
 pub true_of_piece : (job : Parts) (s : Shape) (class block : ℕ)
     (o : Outcome)
@@ -355,16 +343,6 @@ fewer job a b d p class block at m x =
     let more = works_claims job b d x in
     let grew = g.3 in
     omega arith
-
--- the requirements of finish_piece after a claim
-pub then_held : (a b : Sitter) (p : Place) (class block : ℕ) → a.place ≡ p
-    → Makes a (Event.Claim a.worker) (Claimed (claim_is.Piece class block)) b
-    → (held_by b.worker b.seen ≡ Some (piece_at p.shape class block)) × (class < p.shape.classes)
-    × (block < block_count p.shape)
-then_held a b p class block at m =
-    let g = given a b class block m in
-    subst (λ (q : Place). (held_by b.worker b.seen ≡ Some (piece_at q.shape class block))
-    × (class < q.shape.classes) × (block < block_count q.shape)) at (g.0, g.1, g.2)
 
 -- a worker that its gate stopped for a piece that it has just claimed
 pub stopped_holding : (stops : Stops) (a b : Sitter) (class block : ℕ)
