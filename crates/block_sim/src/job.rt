@@ -1,6 +1,6 @@
 //! A job: a circuit with its faults, its classes and its tests.
 
-ghost use Rattle.std.specs.Prelude.{◌≡◌, ◌↔◌, ◌<◌, ◌≤◌, ◌*◌, ◌⊎◌, [], List, ℕ, None, length, map};
+ghost use Rattle.std.specs.Prelude.{◌≡◌, ◌↔◌, ◌<◌, ◌≤◌, ◌*◌, [], List, ℕ, None, length, map};
 ghost use Rattle.std.specs.Prelude.{Err, IfErr, IfOk, IsTrue, OnOk, true};
 ghost use Rattle.bench_net.specs.Scan.{names, sources};
 ghost use Rattle.bench_net.specs.Statement.{Statement};
@@ -212,109 +212,11 @@ impl Job {
         Job::with_lists(alloc, flat, lists, tests, rows)
     }
 
-    /// Makes a job as [`Job::new`] does, with the same errors, in at most as many threads as there
-    /// are workers. The threads share the words of its blocks. If a thread doesn't start, the
-    /// caller's thread does its work.
-    pub fn new_in_threads<R: Threads + Wait>(
-        rt: &R,
-        alloc: Global,
-        circuit: Circuit,
-        faults: Faults,
-        classes: Classes,
-        tests: Tests,
-        workers: u32,
-    ) -> Result<Job, JobFault>
-        requires { BelongTogether (record {
-          circuit = circuit;
-          list = faults;
-          classes = classes;
-          tests = tests;
-        }) }
-        ensures too_many { (result ≡ Err JobFault.TooManyPieces)
-            ↔ (max_pieces < piece_count (record {
-              circuit = circuit;
-              list = faults;
-              classes = classes;
-              tests = tests;
-            })) }
-        ensures few { IfOk result (λ job. piece_count job ≤ max_pieces) }
-        ensures job { IfOk result (λ job. job ≡ record {
-          circuit = circuit;
-          list = faults;
-          classes = classes;
-          tests = tests;
-        }) }
-    {
-        if has_too_many_pieces(&classes, &tests) {
-            return Err(JobFault::TooManyPieces);
-        }
-        let made = Job::of_any_size_in_threads(rt, alloc, circuit, faults, classes, tests, workers);
-        Ok(made?)
-    }
-
-    /// Makes a job as [`Job::of_any_size`] does, in threads as in [`Job::new_in_threads`].
-    pub fn of_any_size_in_threads<R: Threads + Wait>(
-        rt: &R,
-        alloc: Global,
-        circuit: Circuit,
-        faults: Faults,
-        classes: Classes,
-        tests: Tests,
-        workers: u32,
-    ) -> Result<Job, AllocError>
-        requires { BelongTogether (record {
-          circuit = circuit;
-          list = faults;
-          classes = classes;
-          tests = tests;
-        }) }
-        ensures { IfOk result (λ job. job ≡ record {
-          circuit = circuit;
-          list = faults;
-          classes = classes;
-          tests = tests;
-        }) }
-    {
-        let flat = FlatCircuit::new(alloc, circuit)?;
-        let rows = fault_free_rows_in_threads(rt, alloc, &flat, &tests, workers)?;
-        let lists = class_lists(alloc, flat.circuit(), faults, classes)?;
-        Job::with_lists(alloc, flat, lists, tests, rows)
-    }
-
-    /// Makes the job of a circuit under a model, with tests of its width, in at most as many
-    /// threads as there are workers. If the circuit is large, one thread makes its flat arrays and
-    /// another its fault list and classes. Then the threads share the words of its blocks.
-    ///
-    /// It fails with `TooManyPieces` if classes times blocks are more than
-    /// [`patterns::MAX_PIECES`], before the words take memory, and with `Memory` if an allocation
-    /// fails.
-    pub fn under_model_in_threads<R: Threads + Wait>(
-        rt: &R,
-        alloc: Global,
-        model: fault_model::Model,
-        circuit: Circuit,
-        tests: Tests,
-        workers: u32,
-    ) -> Result<Job, JobFault>
-        requires tests { IsTestList tests }
-        requires width { tests.width ≡ length (sources circuit) }
-        ensures job { IfOk result (IsJobUnder model circuit tests) }
-        ensures few { IfOk result (λ job. piece_count job ≤ max_pieces) }
-        ensures refused { IfErr result (λ fault. (fault ≡ JobFault.Memory)
-            ⊎ ((job : Parts) × IsJobUnder model circuit tests job
-            × (max_pieces < piece_count job))) }
-    {
-        let (flat, lists) = flat_and_lists(rt, alloc, circuit, model, workers)?;
-        let _signals = flat.signals();
-        if has_too_many_pieces(&lists.classes, &tests) {
-            return Err(JobFault::TooManyPieces);
-        }
-        Ok(Job::with_words(rt, alloc, flat, lists, tests, workers)?)
-    }
-
-    /// Makes a job as [`Job::under_model_in_threads`] does, for any number of pieces. It fails only
-    /// for memory.
-    pub fn under_model_of_any_size_in_threads<R: Threads + Wait>(
+    /// Makes the job of a circuit under a model, with tests of its width and any number of pieces, in
+    /// at most as many threads as there are workers. If the circuit is large, one thread makes its
+    /// flat arrays and another its fault list and classes. Then the threads share the words of its
+    /// blocks. It fails only for memory.
+    pub fn under_model<R: Threads + Wait>(
         rt: &R,
         alloc: Global,
         model: fault_model::Model,
@@ -434,30 +336,8 @@ impl Job {
         Ok(())
     }
 
-    /// Takes other tests as [`Job::set_tests`] does, in threads as in [`Job::new_in_threads`].
-    pub fn set_tests_in_threads<R: Threads + Wait>(
-        &mut self,
-        rt: &R,
-        alloc: Global,
-        tests: Tests,
-        workers: u32,
-    ) -> Result<(), JobFault>
-        requires tests { IsTestList tests }
-        requires width { tests.width ≡ length (sources self.old.circuit) }
-        ensures too_many { (result ≡ Err JobFault.TooManyPieces)
-            ↔ (max_pieces < piece_count (with_tests self.old tests)) }
-        ensures few { OnOk result (piece_count self.new ≤ max_pieces) }
-        ensures job { OnOk result (self.new ≡ with_tests self.old tests) }
-        ensures kept { IfErr result (λ fault. self.new ≡ self.old) }
-    {
-        if has_too_many_pieces(&self.parts.classes, &tests) {
-            return Err(JobFault::TooManyPieces);
-        }
-        Ok(self.set_tests_of_any_size_in_threads(rt, alloc, tests, workers)?)
-    }
-
-    /// Takes other tests as [`Job::set_tests_of_any_size`] does, in threads as in
-    /// [`Job::new_in_threads`].
+    /// Takes other tests as [`Job::set_tests_of_any_size`] does, in at most as many threads as there
+    /// are workers, which share the words of their blocks.
     pub fn set_tests_of_any_size_in_threads<R: Threads + Wait>(
         &mut self,
         rt: &R,

@@ -285,17 +285,6 @@ impl FlatCircuit {
         self.places[signal as usize]
     }
 
-    /// Returns the signal at a place.
-    #[inline(always)]
-    pub fn signal_at(&self, at: u32) -> u32
-        requires { at < length (names self.now.arranged) }
-        ensures place { place self.now.statements self.now.arranged result ≡ at }
-        ensures within { result < length (names self.now.statements) }
-    {
-        let _signals = self.circuit.signals();
-        self.order[at as usize]
-    }
-
     /// Returns for each signal its place, by the signal's number.
     pub fn places(&self) -> &[u32]
         ensures count { length result.now ≡ length (names self.now.statements) }

@@ -14,6 +14,4 @@ pub use fault::{ReportFault, SimFault};
 pub use pieces::{LONG_TESTS, piece_bytes};
 pub use region_runs::{ReasonCounts, RunJob, Watch};
 pub use split::{Split, split_run_for, split_run_in_pieces, split_run_of};
-pub use texts::{
-    job_for, job_for_in_threads, job_of, job_of_in_threads, read_inputs, read_inputs_in_threads,
-};
+pub use texts::{job_for, job_of, read_inputs, read_inputs_in_threads};

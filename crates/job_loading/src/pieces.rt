@@ -6,9 +6,7 @@ ghost use Rattle.bench_net.specs.Scan.{sources};
 ghost use Rattle.patterns.specs.Tests.{HasTests, IsTestList};
 ghost use Rattle.job_loading.specs.Jobs.{AreTestsFor};
 
-use crate::texts::{
-    BYTES_OF_A_SOURCE, WORKERS_APART, is_long, is_very_long, make_any_job_in_threads,
-};
+use crate::texts::{BYTES_OF_A_SOURCE, WORKERS_APART, is_long, is_very_long};
 use bench_net::Circuit;
 use bench_threads::read_bench_in_threads;
 use block_sim::Job;
@@ -184,5 +182,5 @@ fn job_of_circuit<R: Threads + Wait>(
     ensures model { IfSome result (λ job. job.list.model ≡ model) }
 {
     let none = Tests::new(alloc, circuit.sources());
-    make_any_job_in_threads(rt, alloc, model, circuit, none, workers).ok()
+    Job::under_model(rt, alloc, model, circuit, none, workers).ok()
 }

@@ -13,7 +13,7 @@ ghost use Rattle.job_loading.specs.Splits.{IsSplitFaultFor, IsSplitFaultForSome,
 
 use crate::fault::SimFault;
 use crate::pieces::read_job_in_pieces;
-use crate::texts::{make_any_job_in_threads, read_inputs_in_threads};
+use crate::texts::read_inputs_in_threads;
 use bench_net::Circuit;
 use block_sim::{Job, JobFault, has_too_many_pieces};
 use fault_model::Model;
@@ -56,7 +56,7 @@ fn fewest_parts(classes: u32, blocks: u32) -> u32
 /// Reads the job of a bench file and a test file under a model, for a run of all its classes.
 /// Returns it with the number of parts in which `workers` workers run it.
 ///
-/// It reads the files as [`crate::job_of_in_threads`] does. Only with [`Split::Whole`] does it
+/// It reads the files as [`crate::read_inputs_in_threads`] does. Only with [`Split::Whole`] does it
 /// check the number of pieces. If `apart` is set, the tests may stand apart, so that the run goes
 /// window by window.
 pub fn split_run_of<R: Threads + Wait>(
@@ -100,7 +100,7 @@ pub fn split_run_for<R: Threads + Wait>(
     ensures refused { IfErr result (IsSplitFaultFor model circuit tests split) }
 {
     let none = Tests::new(alloc, tests.width());
-    let job = make_any_job_in_threads(rt, alloc, model, circuit, none, workers)?;
+    let job = Job::under_model(rt, alloc, model, circuit, none, workers)?;
     split_run_with(rt, alloc, job, tests, split, apart, workers)
 }
 

@@ -16,7 +16,7 @@ use bench_threads::read_bench_in_threads;
 use block_sim::Job;
 use fault_model::{Model, collapse, list_faults_in};
 use patterns::{TestFault, Tests, read_tests};
-use std::alloc::{AllocError, Global};
+use std::alloc::Global;
 use std::sync::Wait;
 use std::thread;
 use std::thread::Threads;
@@ -49,40 +49,6 @@ pub fn job_of(alloc: Global, model: Model, bench: &[u8], tests: &[u8]) -> Result
 {
     let (circuit, tests) = read_inputs(alloc, bench, tests)?;
     job_for(alloc, model, circuit, tests)
-}
-
-/// Reads the job as [`job_of`] does, with the same errors, in about as many threads as there are
-/// workers ([`read_inputs_in_threads`], [`Job::under_model_in_threads`]).
-pub fn job_of_in_threads<R: Threads + Wait>(
-    rt: &R,
-    alloc: Global,
-    model: Model,
-    bench: &[u8],
-    tests: &[u8],
-    workers: u32,
-) -> Result<Job, SimFault>
-    ensures job { IfOk result (IsJobOf model bench.now tests.now) }
-    ensures few { IfOk result (λ job. piece_count job ≤ max_pieces) }
-    ensures refused { IfErr result (IsJobFault model bench.now tests.now) }
-{
-    let (circuit, tests) = read_inputs_in_threads(rt, alloc, bench, tests, workers)?;
-    job_for_in_threads(rt, alloc, model, circuit, tests, workers)
-}
-
-/// Makes the job of a circuit and of tests for it under a model, for any number of pieces, in at
-/// most as many threads as there are workers.
-pub(crate) fn make_any_job_in_threads<R: Threads + Wait>(
-    rt: &R,
-    alloc: Global,
-    model: Model,
-    circuit: Circuit,
-    tests: Tests,
-    workers: u32,
-) -> Result<Job, AllocError>
-    requires { AreTestsFor circuit tests }
-    ensures { IfOk result (IsJobUnder model circuit tests) }
-{
-    Job::under_model_of_any_size_in_threads(rt, alloc, model, circuit, tests, workers)
 }
 
 /// Reads the circuit of a bench file, and then the tests for it of a test file.
@@ -217,22 +183,4 @@ pub fn job_for(alloc: Global, model: Model, circuit: Circuit, tests: Tests) -> R
     let faults = list_faults_in(alloc, &circuit, model)?;
     let classes = collapse(alloc, &circuit, &faults)?;
     Ok(Job::new(alloc, circuit, faults, classes, tests)?)
-}
-
-/// Makes the job as [`job_for`] does, with the same errors, in about as many threads as there are
-/// workers ([`Job::under_model_in_threads`]).
-pub fn job_for_in_threads<R: Threads + Wait>(
-    rt: &R,
-    alloc: Global,
-    model: Model,
-    circuit: Circuit,
-    tests: Tests,
-    workers: u32,
-) -> Result<Job, SimFault>
-    requires { AreTestsFor circuit tests }
-    ensures job { IfOk result (IsJobUnder model circuit tests) }
-    ensures few { IfOk result (λ job. piece_count job ≤ max_pieces) }
-    ensures refused { IfErr result (IsPiecesFault model circuit tests) }
-{
-    Ok(Job::under_model_in_threads(rt, alloc, model, circuit, tests, workers)?)
 }

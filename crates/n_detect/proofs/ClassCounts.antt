@@ -15,7 +15,6 @@ use Rattle.block_sim.specs.Parts.{BelongTogether, Parts}
 use Rattle.flat_circuit.proofs.Public.{representative_at}
 use Rattle.block_sim.proofs.Public.{which_detect}
 use Rattle.n_detect.specs.Detections.{AreCounts, IsClassCount, IsCount}
-use Rattle.n_detect.proofs.RangeCounts.{all_blocks, no_fewer}
 
 module _ (job : Parts) (most class block count : ℕ) (b : BelongTogether job)
     (lt : class < length job.classes.representative) where
@@ -50,24 +49,6 @@ module _ (job : Parts) (most class block count : ℕ) (b : BelongTogether job)
       number = number;
     };
   }
-
-  -- all blocks are counted
-  pub counted_all : (length job.tests.tests + 63) / 64 ≤ block → IsCounted
-      → IsClassCount job most class count
-  counted_all done counted =
-      let so_far = counted fault.0 which.0 fault.1 which.1 in
-      let all = all_blocks job.circuit job.tests.tests fault.0 which.0 which.1 (64 * block)
-      (omega (arith, done)) in
-      counted_by (so_far ∙ ap (min most) all)
-
-  -- some are counted, and that is enough
-  pub counted_most : count ≡ most → block < (length job.tests.tests + 63) / 64 → IsCounted
-      → IsClassCount job most class count
-  counted_most enough more_blocks counted =
-      let so_far = counted fault.0 which.0 fault.1 which.1 in
-      let fewer = no_fewer job.circuit job.tests.tests fault.0 which.0 which.1 (64 * block)
-      (omega (arith, more_blocks)) in
-      counted_by (omega (arith, fewer, so_far, enough))
 
 -- as many tests detect a fault as detect the representative of its class
 pub fault_count : (job : Parts) (most class n : ℕ) (f : Fault) → BelongTogether job

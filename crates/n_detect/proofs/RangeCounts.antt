@@ -78,12 +78,3 @@ module _ (c : List Statement) (tests : List Test) (f : Fault) (detects : ℕ →
       (λ j lt. past (0 + length tests + j) (omega arith)) in
       let both = count_parts detects 0 (length tests) (n - length tests) in
       ap (λ k. count_by detects (below k)) parts ∙ omega (arith, both, none)
-
-  -- fewer tests have no more that detect
-  pub no_fewer : (n : ℕ) → n ≤ length tests
-      → count_by detects (below n) ≤ count_by detects (below (length tests))
-  no_fewer n le =
-      let parts : length tests ≡ n + (length tests - n) = omega (arith, le) in
-      let both = count_parts detects 0 n (length tests - n) in
-      let whole = ap (λ k. count_by detects (below k)) parts in
-      omega (arith, both, whole)

@@ -2,18 +2,15 @@
 //!
 //! A test set that detects each fault several times also detects more of the defects that no fault
 //! model has (n-detect test sets: Ma, Franco and McCluskey, An Experimental Chip to Evaluate Test
-//! Techniques). [`detections`] counts for all faults, in threads, and [`class_detections`] for one
-//! class. [`class_tests`] returns the tests themselves, for all classes, and [`list_lanes`] those
-//! of a group, for a list of classes.
+//! Techniques). [`detections`] counts for all faults, in threads. [`class_tests`] returns the tests
+//! themselves, for all classes, and [`list_lanes`] those of a group, for a list of classes.
 #![tactic(auto)]
 
-mod class;
 mod count;
 mod detecting;
 mod faults;
 mod lanes;
 
-pub use class::class_detections;
 pub use detecting::{ClassTests, class_tests};
 pub use faults::detections;
 pub use lanes::list_lanes;

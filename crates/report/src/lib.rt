@@ -25,9 +25,7 @@ pub use contents::{Contents, Lines};
 pub use counts::{RunCounts, count_run};
 pub use curve::{CurvePoint, curve_of, write_curve, write_curve_of_run};
 pub use in_threads::write_report_in_threads;
-pub use job_loading::{
-    ReasonCounts, ReportFault, SimFault, Split, Watch, job_of, job_of_in_threads,
-};
+pub use job_loading::{ReasonCounts, ReportFault, SimFault, Split, Watch, job_of};
 pub use laws::class_firsts_are;
 pub use report::{
     detected_classes, first_text, put_coverage, put_fault_line, write_fault, write_listing,

@@ -3,7 +3,7 @@
 use crate::checks::check_ok;
 use block_sim::Job;
 use fault_model::Model;
-use job_loading::{SimFault, job_of_in_threads};
+use job_loading::{RunJob, SimFault, Split, split_run_of};
 use patterns::Tests;
 use std::alloc::{AllocError, Global};
 use std::sync::Wait;
@@ -131,19 +131,31 @@ fn is_right(job: &Job) -> bool {
 fn is_right_again<R: Threads + Wait>(
     rt: &R,
     alloc: Global,
-    job: &mut Job,
+    run: &mut RunJob,
     text: &[u8],
 ) -> Result<bool, SimFault> {
-    let tests = read_tests_in_threads(rt, alloc, text, job.circuit().sources(), WORKERS)?;
-    job.set_tests_in_threads(rt, alloc, tests, WORKERS)?;
-    Ok(is_right(job))
+    let tests = read_tests_in_threads(rt, alloc, text, run.job().circuit().sources(), WORKERS)?;
+    run.set_own_tests(rt, alloc, tests, WORKERS)?;
+    Ok(is_right(run.job()))
 }
 
 /// Returns whether threads make the right job of the two files.
 fn is_made<R: Threads + Wait>(rt: &R, alloc: Global, text: &[u8]) -> Result<bool, SimFault> {
     let bench = bench_text(alloc)?;
-    let mut job = job_of_in_threads(rt, alloc, Model::StuckAt, bench.as_bytes(), text, WORKERS)?;
-    Ok(is_right(&job) && is_right_again(rt, alloc, &mut job, text)?)
+    let bench = bench.as_bytes();
+    let split = Split::Parts(1);
+    let made = split_run_of(
+        rt,
+        alloc,
+        Model::StuckAt,
+        bench,
+        text,
+        split,
+        false,
+        WORKERS,
+    )?;
+    let (mut run, _parts) = made;
+    Ok(is_right(run.job()) && is_right_again(rt, alloc, &mut run, text)?)
 }
 
 /// Returns whether threads read the test file in both ways.
