@@ -1,5 +1,5 @@
 -- Lemmas on a file whose bytes threads take in turn.
-use Rattle.std.proofs.Common.{◌≡◌, ℕ, ◌+◌, ◌-◌, ◌≤◌, List, ◌++◌, Option, None, Some, arith}
+use Rattle.std.proofs.Common.{◌≡◌, ℕ, ◌+◌, ◌-◌, ◌≤◌, List, [], ◌++◌, Option, None, Some, arith}
 use Rattle.std.proofs.Common.{true, false, length, take, drop, sym, refl, ap, ◌∙◌, subst}
 use Rattle.std.proofs.Common.{append_assoc}
 use Rattle.std.proofs.Common.{drop_at, length-append, length-drop, length-take-le, take-append-drop}
@@ -72,6 +72,11 @@ IsOpenAt-more text left later rest added place at read =
     (ap (λ l. rest ++ l) after.2 ∙ sym (append_assoc rest added after.0)) in
     open_of text (take place text) (rest ++ added) after.0 later place is
     (length-take-le place text (omega (arith, at.within))) after.1 at.starts
+
+-- so nothing is left
+pub nothing_left : (left : Option (List ℕ)) (rest : List ℕ) → left ≡ Some rest → IsAtEnd left
+    → left ≡ Some []
+nothing_left left rest is ended = is ∙ ap Some (subst IsAtEnd is ended)
 
 none_left : (text : List ℕ) (place : ℕ) → IsAtEnd (Some (drop place text)) → place ≤ length text
     → place ≡ length text

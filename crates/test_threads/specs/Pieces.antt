@@ -1,5 +1,5 @@
 -- Test files that threads read piece by piece, each into a buffer of its own.
-use Rattle.std.specs.Prelude.{◌≡◌, ◌-◌, ◌+◌, ℕ, ◌<◌, ◌≤◌, List, ◌++◌, Bool, Option, Some, true}
+use Rattle.std.specs.Prelude.{◌≡◌, ◌-◌, ◌+◌, ℕ, ◌<◌, ◌≤◌, List, [], ◌++◌, Bool, Option, Some, true}
 use Rattle.std.specs.Prelude.{drop, length, option_map, slice_index, take}
 use Rattle.std.specs.List.{slice_range}
 use Rattle.std.specs.Io.KnownBytes.{Consumes, IsAtEnd}
@@ -51,6 +51,10 @@ AreLines known buffer start end last =
 -- the bytes of a file, if what is left of it is known: some that were read, and the rest
 abbrev pub text_of : List ℕ → Option (List ℕ) → Option (List ℕ)
 text_of read left = option_map (λ more. read ++ more) left
+
+-- no byte of a text is left, if the text is known
+abbrev pub IsEnded : Option (List ℕ) → Option (List ℕ) → Type 0
+IsEnded known left = (text : List ℕ) → known ≡ Some text → left ≡ Some []
 
 -- a list of tests, and each has this width
 abbrev pub AreRowsOf : ℕ → TestList → Type 0

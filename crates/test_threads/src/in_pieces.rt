@@ -2,11 +2,11 @@
 
 ghost use Rattle.std.specs.Prelude.{◌≡◌, ◌≤◌, IfSome, ℕ, List, Some, length, take};
 ghost use Rattle.std.specs.Io.KnownBytes.{Consumes};
-ghost use Rattle.test_threads.specs.Pieces.{text_of};
+ghost use Rattle.test_threads.specs.Pieces.{IsEnded, text_of};
 ghost use Rattle.patterns.specs.Tests.{HasTests, IsTestList};
 
 use crate::shared_file::{
-    OpenFile, Piece, TestFile, fill, has_full_block, read_share, share_file, zeros,
+    EndedFile, OpenFile, Piece, TestFile, fill, has_full_block, read_share, share_file, zeros,
 };
 use patterns::Tests;
 use std::alloc::Global;
@@ -35,7 +35,8 @@ const MAX_THREADS: u32 = 8;
 /// It returns `None` if it can't read the file so: the file can't be read, memory runs out, a row
 /// has an error, there is no row, or a piece is too short for 64 rows. It also returns `None` if
 /// the rows are not alike, so that a piece doesn't end with full blocks. Then
-/// [`patterns::read_tests`] of all bytes has the tests or the error.
+/// [`patterns::read_tests`] of all bytes has the tests or the error. It returns the file beside the
+/// tests, at its end.
 pub fn read_tests_in_pieces<R: Threads + Wait, F: Read + Send>(
     rt: &R,
     alloc: Global,
@@ -43,17 +44,18 @@ pub fn read_tests_in_pieces<R: Threads + Wait, F: Read + Send>(
     most: u32,
     size: usize,
     workers: u32,
-) -> Option<Tests>
+) -> Option<(Tests, F)>
 where
     F: Drop,
-    ensures tests { IfSome result (λ t. IfSome (F.remaining file) (λ text.
-        HasTests text t.width t)) }
-    ensures list { IfSome result (λ t. IsTestList t) }
-    ensures width { IfSome result (λ t. (1 ≤ t.width) × (t.width ≤ most)) }
+    ensures tests { IfSome result (λ read. IfSome (F.remaining file) (λ text.
+        HasTests text read.0.width read.0)) }
+    ensures list { IfSome result (λ read. IsTestList read.0) }
+    ensures width { IfSome result (λ read. (1 ≤ read.0.width) × (read.0.width ≤ most)) }
+    ensures ended { IfSome result (λ read. IsEnded (F.remaining file) (F.remaining read.1)) }
 {
     let readers = workers.saturating_sub(1);
-    let (_nothing, tests) = read_tests_beside(rt, alloc, file, most, size, readers, || ());
-    tests
+    let (_nothing, read) = read_tests_beside(rt, alloc, file, most, size, readers, || ());
+    read
 }
 
 /// Reads the tests of a file as [`read_tests_in_pieces`] does, with `readers` threads besides the
@@ -67,15 +69,16 @@ pub fn read_tests_beside<R: Threads + Wait, F: Read + Send, W: FnOnce() -> A, A>
     size: usize,
     readers: u32,
     work: W,
-) -> (A, Option<Tests>)
+) -> (A, Option<(Tests, F)>)
 where
     F: Drop,
     requires work { W.pre work }
     ensures work { W.post work result.0 }
-    ensures tests { IfSome result.1 (λ t. IfSome (F.remaining file) (λ text.
-        HasTests text t.width t)) }
-    ensures list { IfSome result.1 (λ t. IsTestList t) }
-    ensures width { IfSome result.1 (λ t. (1 ≤ t.width) × (t.width ≤ most)) }
+    ensures tests { IfSome result.1 (λ read. IfSome (F.remaining file) (λ text.
+        HasTests text read.0.width read.0)) }
+    ensures list { IfSome result.1 (λ read. IsTestList read.0) }
+    ensures width { IfSome result.1 (λ read. (1 ≤ read.0.width) × (read.0.width ≤ most)) }
+    ensures ended { IfSome result.1 (λ read. IsEnded (F.remaining file) (F.remaining read.1)) }
 {
     let mut file = file;
     match begin(alloc, &mut file, most, size) {
@@ -150,25 +153,26 @@ fn read_in_turn<R: Threads + Wait, F: Read + Send, T: TestFile + Send + Sync, W:
     size: usize,
     readers: u32,
     work: W,
-) -> (A, Option<Tests>)
+) -> (A, Option<(Tests, F)>)
 where
     F: Drop,
     requires text { T.text ≡ text_of first.items (F.remaining file) }
     requires width { (T.width ≡ width) × (1 ≤ width) }
     requires work { W.pre work }
     ensures work { W.post work result.0 }
-    ensures tests { IfSome result.1 (λ t. (text : List ℕ) → T.text ≡ Some text
-        → HasTests text width t) }
-    ensures list { IfSome result.1 (λ t. IsTestList t) }
-    ensures width { IfSome result.1 (λ t. t.width ≡ width) }
+    ensures tests { IfSome result.1 (λ read. (text : List ℕ) → T.text ≡ Some text
+        → HasTests text width read.0) }
+    ensures list { IfSome result.1 (λ read. IsTestList read.0) }
+    ensures width { IfSome result.1 (λ read. read.0.width ≡ width) }
+    ensures ended { IfSome result.1 (λ read. IsEnded T.text (F.remaining read.1)) }
 {
     let shared = share_file::<F, T>(file, first);
     let (done, pieces) = read_all(rt, alloc, &shared, width, size, readers, work);
-    let tests = match pieces {
+    let read = match pieces {
         Some(pieces) => join_pieces(alloc, width, pieces),
         None => None,
     };
-    (done, tests)
+    (done, read)
 }
 
 /// Reads the pieces of a file in a number of threads. The caller's thread does other work, and then
@@ -181,7 +185,7 @@ fn read_all<R: Threads + Wait, F: Read + Send, T: TestFile + Send + Sync, W: FnO
     size: usize,
     readers: u32,
     work: W,
-) -> (A, Option<Vec<Piece<T>>>)
+) -> (A, Option<Vec<Piece<F, T>>>)
 where
     F: Drop,
     requires width { (T.width ≡ width) × (1 ≤ width) }
@@ -195,10 +199,10 @@ where
     }
     let (others, (done, own)) = thread::join(
         rt,
-        move || -> Option<Vec<Piece<T>>>
+        move || -> Option<Vec<Piece<F, T>>>
             requires { (T.width ≡ width) × (1 ≤ width) }
         { read_shares(&StandIn::<R>::new(), alloc, shared, width, size, readers) },
-        move || -> (A, Option<Vec<Piece<T>>>)
+        move || -> (A, Option<Vec<Piece<F, T>>>)
             requires width { (T.width ≡ width) × (1 ≤ width) }
             requires work { W.pre work }
             ensures { W.post work result.0 }
@@ -211,10 +215,10 @@ where
 }
 
 /// Returns the pieces of two lists, or `None` if there is one list or memory runs out.
-fn both<T: TestFile>(
-    one: Option<Vec<Piece<T>>>,
-    other: Option<Vec<Piece<T>>>,
-) -> Option<Vec<Piece<T>>> {
+fn both<F: Read + Drop, T: TestFile>(
+    one: Option<Vec<Piece<F, T>>>,
+    other: Option<Vec<Piece<F, T>>>,
+) -> Option<Vec<Piece<F, T>>> {
     let mut pieces = one?;
     pieces.append(&mut other?).ok()?;
     Some(pieces)
@@ -245,7 +249,7 @@ fn read_shares<R: Threads + Wait, F: Read + Send, T: TestFile + Send + Sync>(
     width: u32,
     size: usize,
     threads: u32,
-) -> Option<Vec<Piece<T>>>
+) -> Option<Vec<Piece<F, T>>>
 where
     F: Drop,
     requires { (T.width ≡ width) × (1 ≤ width) }
@@ -255,35 +259,41 @@ where
     }
     let (share, others) = thread::join(
         rt,
-        move || -> Option<Vec<Piece<T>>>
+        move || -> Option<Vec<Piece<F, T>>>
             requires { (T.width ≡ width) × (1 ≤ width) }
         { read_share(&StandIn::<R>::new(), alloc, shared, width, size) },
-        move || -> Option<Vec<Piece<T>>>
+        move || -> Option<Vec<Piece<F, T>>>
             requires { (T.width ≡ width) × (1 ≤ width) × (2 ≤ threads) }
         { read_shares(rt, alloc, shared, width, size, threads - 1) },
     );
     both(others, share)
 }
 
-/// Joins the tests of all pieces of a file. Returns `None` if a piece is missing, if one but the
-/// last has a block that isn't full, if there are too many tests, or if memory runs out.
-fn join_pieces<T: TestFile>(alloc: Global, width: u32, pieces: Vec<Piece<T>>) -> Option<Tests>
+/// Joins the tests of all pieces of a file, and returns them with the file. Returns `None` if a
+/// piece is missing, if one but the last has a block that isn't full, if there are too many tests,
+/// or if memory runs out.
+fn join_pieces<F: Read + Drop, T: TestFile>(
+    alloc: Global,
+    width: u32,
+    pieces: Vec<Piece<F, T>>,
+) -> Option<(Tests, F)>
     requires { T.width ≡ width }
-    ensures tests { IfSome result (λ t. (text : List ℕ) → T.text ≡ Some text
-        → HasTests text width t) }
-    ensures list { IfSome result (λ t. IsTestList t) }
-    ensures width { IfSome result (λ t. t.width ≡ width) }
+    ensures tests { IfSome result (λ read. (text : List ℕ) → T.text ≡ Some text
+        → HasTests text width read.0) }
+    ensures list { IfSome result (λ read. IsTestList read.0) }
+    ensures width { IfSome result (λ read. read.0.width ≡ width) }
+    ensures ended { IfSome result (λ read. IsEnded T.text (F.remaining read.1)) }
 {
     let mut pieces = pieces;
     pieces.sort_unstable_by_key(|piece| piece.start);
     let mut all = Tests::new(alloc, width);
     let mut place = 0;
-    let mut ended = false;
+    let mut last = None;
     for piece in pieces {
         let Piece {
             start,
             end,
-            last,
+            ended,
             tests,
             of: _,
         } = piece;
@@ -292,7 +302,8 @@ fn join_pieces<T: TestFile>(alloc: Global, width: u32, pieces: Vec<Piece<T>>) ->
         }
         all.append(tests).ok()?;
         place = end;
-        ended = last;
+        last = ended;
     }
-    if ended { Some(all) } else { None }
+    let EndedFile { file, of: _ } = last?;
+    Some((all, file))
 }

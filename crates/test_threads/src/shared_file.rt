@@ -1,7 +1,7 @@
 //! A test file that threads read in turn, each one piece at a time.
 
-ghost use Rattle.std.specs.Prelude.{◌≡◌, ◌+◌, ◌-◌, ◌≤◌, IfSome, length, take};
-ghost use Rattle.test_threads.specs.Pieces.{AreLines, AreRowsOf, IsFilled, IsLineEnd};
+ghost use Rattle.std.specs.Prelude.{◌≡◌, ◌+◌, ◌-◌, ◌≤◌, IfSome, is_some, length, take};
+ghost use Rattle.test_threads.specs.Pieces.{AreLines, AreRowsOf, IsEnded, IsFilled, IsLineEnd};
 ghost use Rattle.test_threads.specs.Pieces.{IsOpen, IsPiece, text_of};
 
 use crate::in_threads::first_row;
@@ -55,17 +55,25 @@ struct Lines {
     last: bool,
 }
 
+/// A file that was read to its end.
+#[derive(Drop)]
+pub(crate) struct EndedFile<F: Read, T: TestFile> {
+    pub(crate) file: F,
+    pub(crate) of: PhantomData<T>,
+    pub(crate) ghost ended: { IsEnded T.text (F.remaining file) },
+}
+
 /// The tests of a piece of a file.
 #[derive(Drop)]
-pub(crate) struct Piece<T: TestFile> {
+pub(crate) struct Piece<F: Read, T: TestFile> {
     pub(crate) start: usize,
     pub(crate) end: usize,
-    /// Whether the file ends with this piece.
-    pub(crate) last: bool,
+    /// The file, if it ends with this piece.
+    pub(crate) ended: Option<EndedFile<F, T>>,
     pub(crate) tests: Tests,
     pub(crate) of: PhantomData<T>,
     pub(crate) ghost rows: { AreRowsOf T.width tests },
-    pub(crate) ghost is: { IsPiece T.text T.width start end last tests },
+    pub(crate) ghost is: { IsPiece T.text T.width start end (is_some ended) tests },
 }
 
 /// Returns this number of zeros.
@@ -138,16 +146,17 @@ fn end_of_blocks(piece: &[u8]) -> Option<usize>
     Some(end)
 }
 
-/// Reads the next piece of a file into a buffer. Returns its place, and the file if it has more.
-/// Returns `None` if the file can't be read, memory runs out, or the piece doesn't end with full
-/// blocks.
+/// Reads the next piece of a file into a buffer. Returns its place, and the file, which is open or
+/// ended. Returns `None` if the file can't be read, memory runs out, or the piece doesn't end with
+/// full blocks.
 fn read_lines<F: Read, T: TestFile>(
     open: OpenFile<F, T>,
     buffer: &mut [u8],
-) -> Option<(Lines, Option<OpenFile<F, T>>)>
+) -> Option<(Lines, Option<OpenFile<F, T>>, Option<EndedFile<F, T>>)>
 where
     F: Drop,
     ensures lines { IfSome result (λ r. AreLines T.text buffer.new r.0.start r.0.end r.0.last) }
+    ensures last { IfSome result (λ r. r.0.last ≡ is_some r.2) }
     ensures within { IfSome result (λ r. (r.0.start ≤ r.0.end)
         × (r.0.end - r.0.start ≤ length buffer.new)) }
     ensures size { length buffer.new ≡ length buffer.old }
@@ -167,7 +176,7 @@ where
             end,
             last: true,
         };
-        return Some((lines, None));
+        return Some((lines, None, Some(EndedFile { file, of })));
     }
     let count = end_of_blocks(buffer)?;
     let end = place.checked_add(count)?;
@@ -184,50 +193,57 @@ where
         end,
         last: false,
     };
-    Some((lines, Some(more)))
+    Some((lines, Some(more), None))
 }
 
 /// Takes the next piece of a file that threads share, if it has more, and reads it into a buffer.
-/// If it can't, no thread takes a further piece.
+/// Returns its place, and the file if it ends with this piece. If it can't, no thread takes a
+/// further piece.
 fn take_lines<F: Read, T: TestFile, R: Wait>(
     rt: &R,
     shared: &Mutex<Option<OpenFile<F, T>>>,
     buffer: &mut [u8],
-) -> Option<Option<Lines>>
+) -> Option<Option<(Lines, Option<EndedFile<F, T>>)>>
 where
     F: Drop,
-    ensures lines { IfSome result (λ some. IfSome some (λ lines.
-        AreLines T.text buffer.new lines.start lines.end lines.last)) }
-    ensures within { IfSome result (λ some. IfSome some (λ lines.
-        (lines.start ≤ lines.end) × (lines.end - lines.start ≤ length buffer.new))) }
+    ensures lines { IfSome result (λ some. IfSome some (λ taken.
+        AreLines T.text buffer.new taken.0.start taken.0.end taken.0.last)) }
+    ensures within { IfSome result (λ some. IfSome some (λ taken.
+        (taken.0.start ≤ taken.0.end) × (taken.0.end - taken.0.start ≤ length buffer.new))) }
+    ensures last { IfSome result (λ some. IfSome some (λ taken.
+        taken.0.last ≡ is_some taken.1)) }
 {
     let mut guard = shared.lock(rt);
     let Some(open) = guard.take() else {
         return Some(None);
     };
-    let (lines, more) = read_lines(open, buffer)?;
+    let (lines, more, ended) = read_lines(open, buffer)?;
     *guard = more;
-    Some(Some(lines))
+    Some(Some((lines, ended)))
 }
 
 /// Reads the tests of lines, which a buffer has at its front. Returns `None` if there is an error
 /// in them, or memory runs out.
-fn read_piece<T: TestFile>(
+fn read_piece<F: Read, T: TestFile>(
     alloc: Global,
     buffer: &[u8],
     lines: Lines,
+    ended: Option<EndedFile<F, T>>,
     width: u32,
-) -> Option<Piece<T>>
+) -> Option<Piece<F, T>>
+where
+    F: Drop,
     requires width { (T.width ≡ width) × (1 ≤ width) }
     requires lines { AreLines T.text buffer.now lines.start lines.end lines.last }
     requires within { (lines.start ≤ lines.end) × (lines.end - lines.start ≤ length buffer.now) }
+    requires last { lines.last ≡ is_some ended }
 {
     let count = lines.end - lines.start;
     let tests = read_tests(alloc, &buffer[..count], width).ok()?;
     Some(Piece {
         start: lines.start,
         end: lines.end,
-        last: lines.last,
+        ended,
         tests,
         of: PhantomData,
     })
@@ -241,7 +257,7 @@ pub(crate) fn read_share<F: Read, T: TestFile, R: Wait>(
     shared: &Mutex<Option<OpenFile<F, T>>>,
     width: u32,
     size: usize,
-) -> Option<Vec<Piece<T>>>
+) -> Option<Vec<Piece<F, T>>>
 where
     F: Drop,
     requires { (T.width ≡ width) × (1 ≤ width) }
@@ -249,10 +265,10 @@ where
     let mut buffer = zeros(alloc, size).ok()?;
     let mut own = Vec::new(alloc);
     for _ in 0..MAX_PIECES {
-        let Some(lines) = take_lines(rt, shared, &mut buffer)? else {
+        let Some((lines, ended)) = take_lines(rt, shared, &mut buffer)? else {
             return Some(own);
         };
-        let piece = read_piece(alloc, &buffer, lines, width)?;
+        let piece = read_piece(alloc, &buffer, lines, ended, width)?;
         own.push(piece).ok()?;
     }
     None

@@ -35,8 +35,8 @@ loop-piece-preserved g c =
       ended = λ text known. (piece.is text known).all;
     }
 
-pub returns-then-ended-clause-tests : goal.returns-then-ended-clause-tests
-returns-then-ended-clause-tests g c = λ text known.
+pub returns-clause-tests : goal.returns-clause-tests
+returns-clause-tests g c = λ text known.
     let was = c.loop-piece.invariant in
     let place = c.loop-piece.place in
     let ended : place ≡ length text = was.ended text known (search rules) in

@@ -1,4 +1,4 @@
-use Rattle.std.proofs.Common.{◌≡◌, List, ℕ, Some, length, take, true}
+use Rattle.std.proofs.Common.{◌≡◌, List, ℕ, Some, is_some, length, take, true}
 use Rattle.text_lines.specs.Starts.{IsLineStart}
 use Rattle.patterns.specs.Tests.{HasTests}
 use Rattle.test_threads.specs.Pieces.{AreRowsOf}
@@ -11,6 +11,6 @@ invariant-loop-piece g l = record {
   tests : (text : List ℕ) → g.T.TestFile.text ≡ Some text
       → HasTests (take l.place text) l.width l.all;
   starts : (text : List ℕ) → g.T.TestFile.text ≡ Some text → IsLineStart text l.place;
-  ended : (text : List ℕ) → g.T.TestFile.text ≡ Some text → l.ended ≡ true
+  ended : (text : List ℕ) → g.T.TestFile.text ≡ Some text → is_some l.last ≡ true
       → l.place ≡ length text;
 }

@@ -3,6 +3,7 @@ use Rattle.std.proofs.Common.{length-drop, subst, sym, take, take_all}
 use Rattle.std.specs.List.{slice_range}
 use Rattle.test_threads.specs.Pieces.{IsFilled, IsLineEnd, IsOpenAt}
 use Rattle.test_threads.proofs.SharedFile.{AreLines-cut, AreLines-last, IsOpenAt-more}
+use Rattle.test_threads.proofs.SharedFile.{nothing_left}
 use Rattle.test_threads.proofs.shared_file.read_lines.Goals as goal
 
 pub returns-then-filled-buffer-clause-lines : goal.returns-then-filled-buffer-clause-lines
@@ -24,6 +25,23 @@ returns-then-filled-buffer-clause-lines g c = λ text known.
     let end : c.in_ok-end.end ≡ place + filled = search rules in
     AreLines-last text left buffer place filled c.in_ok-end.end at is.within
     (is.all (search rules)) end
+
+pub invariant_of-result : goal.invariant_of-result
+invariant_of-result g c = record {
+  ended = λ text known.
+      let before = g.F.Read.remaining c.args.open.file in
+      let left = g.F.Read.remaining c.fill.new.file in
+      let rest = c.args.open.rest.items in
+      let place = c.args.open.place in
+      let kept = c.in_ok-kept.kept in
+      let filled = c.in_ok-filled.filled in
+      let is : IsFilled before left c.keep_rest.new.buffer c.fill.new.buffer kept filled =
+      search rules in
+      let at : IsOpenAt text left (rest ++ is.added) place =
+      IsOpenAt-more text before left rest is.added place (c.args.open.known text known) is.read in
+      nothing_left left (drop (place + length (rest ++ is.added)) text) at.left_is
+      (is.all (search rules));
+}
 
 pub invariant_of-more : goal.invariant_of-more
 invariant_of-more g c = record {
