@@ -1,2 +1,3 @@
 pub mod Jobs
 pub mod Splits
+pub mod Sums

@@ -1,11 +1,14 @@
 //! The job of a bench file, and the tests of a test file that is read piece by piece.
 
-ghost use Rattle.std.specs.Prelude.{◌≡◌, ◌/◌, IfSome, length, max, min};
+ghost use Rattle.std.specs.Prelude.{◌≡◌, ◌/◌, IfSome, is_some, length, max, min, string_bytes};
 ghost use Rattle.bench_net.specs.Refusal.{IsAccepted};
 ghost use Rattle.bench_net.specs.Scan.{sources};
 ghost use Rattle.patterns.specs.Tests.{HasTests, IsTestList};
+ghost use Rattle.test_threads.specs.Pieces.{IsEnded};
 ghost use Rattle.job_loading.specs.Jobs.{AreTestsFor};
+ghost use Rattle.job_loading.specs.Sums.{sum_text};
 
+use crate::sums::{FileText, SummedFile};
 use crate::texts::{BYTES_OF_A_SOURCE, WORKERS_APART, is_long, is_very_long};
 use bench_net::Circuit;
 use bench_threads::read_bench_in_threads;
@@ -14,6 +17,7 @@ use fault_model::Model;
 use patterns::Tests;
 use std::alloc::Global;
 use std::io::Read;
+use std::marker::Brand;
 use std::sync::Wait;
 use std::thread::Threads;
 use test_threads::{read_tests_beside, read_tests_in_pieces};
@@ -45,6 +49,8 @@ pub fn piece_bytes(size: u64) -> u64
 /// file of `size` bytes, of which only one piece of each thread is in memory
 /// ([`read_tests_in_pieces`]). At most as many threads as there are workers read.
 ///
+/// It returns the sum of the test file, too, if `is_summed` is set.
+///
 /// It returns `None` if there is an error in a file, the tests can't be read so, or memory runs
 /// out.
 pub(crate) fn read_job_in_pieces<R: Threads + Wait, F: Read + Send>(
@@ -54,8 +60,9 @@ pub(crate) fn read_job_in_pieces<R: Threads + Wait, F: Read + Send>(
     bench: &[u8],
     file: F,
     size: u64,
+    is_summed: bool,
     workers: u32,
-) -> Option<(Job, Tests)>
+) -> Option<(Job, Tests, Option<String>)>
 where
     F: Drop,
     ensures circuit { IfSome result (λ read. IsAccepted bench.now read.0.circuit) }
@@ -63,15 +70,44 @@ where
     ensures tests { IfSome result (λ read. IfSome (F.remaining file) (λ text.
         HasTests text (length (sources read.0.circuit)) read.1)) }
     ensures fit { IfSome result (λ read. AreTestsFor read.0.circuit read.1) }
+    ensures sum { IfSome result (λ read. IfSome (F.remaining file) (λ text.
+        IfSome read.2 (λ sum. string_bytes sum ≡ sum_text text))) }
+    ensures summed { IfSome result (λ read. is_some read.2 ≡ is_summed) }
 {
-    let (job, tests) = read_both(rt, alloc, model, bench, file, size, workers);
-    let (Some(job), Some(tests)) = (job, tests) else {
-        return None;
-    };
+    read_summed::<R, F, Brand>(rt, alloc, model, bench, file, size, is_summed, workers)
+}
+
+/// Makes the job and reads the tests through a reader that sums the bytes, if that is requested.
+fn read_summed<R: Threads + Wait, F: Read + Send, T: FileText + Send>(
+    rt: &R,
+    alloc: Global,
+    model: Model,
+    bench: &[u8],
+    file: F,
+    size: u64,
+    is_summed: bool,
+    workers: u32,
+) -> Option<(Job, Tests, Option<String>)>
+where
+    F: Drop,
+    requires text { T.text ≡ F.remaining file }
+    ensures circuit { IfSome result (λ read. IsAccepted bench.now read.0.circuit) }
+    ensures model { IfSome result (λ read. read.0.list.model ≡ model) }
+    ensures tests { IfSome result (λ read. IfSome (F.remaining file) (λ text.
+        HasTests text (length (sources read.0.circuit)) read.1)) }
+    ensures fit { IfSome result (λ read. AreTestsFor read.0.circuit read.1) }
+    ensures sum { IfSome result (λ read. IfSome (F.remaining file) (λ text.
+        IfSome read.2 (λ sum. string_bytes sum ≡ sum_text text))) }
+    ensures summed { IfSome result (λ read. is_some read.2 ≡ is_summed) }
+{
+    let summed: SummedFile<F, T> = SummedFile::new(file, is_summed);
+    let (job, read) = read_both(rt, alloc, model, bench, summed, size, workers);
+    let (job, (tests, ended)) = (job?, read?);
     if tests.width() != job.circuit().sources() {
         return None;
     }
-    Some((job, tests))
+    let sum = ended.sum(alloc).ok()?;
+    Some((job, tests, sum))
 }
 
 /// Makes the job of a bench file and then reads the tests, with all workers. If the bench file is
@@ -85,21 +121,22 @@ fn read_both<R: Threads + Wait, F: Read + Send>(
     file: F,
     size: u64,
     workers: u32,
-) -> (Option<Job>, Option<Tests>)
+) -> (Option<Job>, Option<(Tests, F)>)
 where
     F: Drop,
     ensures accepted { IfSome result.0 (λ job. IsAccepted bench.now job.circuit) }
     ensures model { IfSome result.0 (λ job. job.list.model ≡ model) }
-    ensures tests { IfSome result.1 (λ t. IfSome (F.remaining file) (λ text.
-        HasTests text t.width t)) }
-    ensures list { IfSome result.1 (λ t. IsTestList t) }
+    ensures tests { IfSome result.1 (λ read. IfSome (F.remaining file) (λ text.
+        HasTests text read.0.width read.0)) }
+    ensures list { IfSome result.1 (λ read. IsTestList read.0) }
+    ensures ended { IfSome result.1 (λ read. IsEnded (F.remaining file) (F.remaining read.1)) }
 {
     let most = u32::try_from(bench.len() / BYTES_OF_A_SOURCE).unwrap_or(u32::MAX);
     let piece = piece_bytes(size) as usize;
     if workers < WORKERS_APART || !is_long(bench.len()) {
         let job = job_without_tests(rt, alloc, model, bench, workers, workers);
-        let tests = read_tests_in_pieces(rt, alloc, file, most, piece, workers);
-        return (job, tests);
+        let read = read_tests_in_pieces(rt, alloc, file, most, piece, workers);
+        return (job, read);
     }
     let Shares {
         tests,

@@ -1,6 +1,7 @@
 //! How a run is split into parts.
 
-ghost use Rattle.std.specs.Prelude.{◌≡◌, ℕ, ◌*◌, ◌<◌, ◌≤◌, IfErr, IfOk, IfSome, true};
+ghost use Rattle.std.specs.Prelude.{◌≡◌, ℕ, ◌*◌, ◌<◌, ◌≤◌, IfErr, IfOk, IfSome, is_some, true};
+ghost use Rattle.std.specs.Prelude.{string_bytes};
 ghost use Rattle.bench_net.specs.Refusal.{IsAccepted};
 ghost use Rattle.patterns.specs.Tests.{max_pieces};
 ghost use Rattle.region_runs.specs.Part.{stretch_size};
@@ -9,6 +10,7 @@ ghost use Rattle.block_sim.specs.JobParts.{IsJobUnder};
 ghost use Rattle.block_sim.specs.Parts.{BelongTogether, piece_count};
 ghost use Rattle.job_loading.specs.Jobs.{AreTestsFor, IsJobOf};
 ghost use Rattle.job_loading.specs.Splits.{HasSomePart, IsSplitFault};
+ghost use Rattle.job_loading.specs.Sums.{sum_text};
 ghost use Rattle.job_loading.specs.Splits.{IsSplitFaultFor, IsSplitFaultForSome, IsSplitOf};
 
 use crate::fault::SimFault;
@@ -108,6 +110,8 @@ pub fn split_run_for<R: Threads + Wait>(
 /// its classes. Returns it with the number of parts, as [`split_run_of`] does for all bytes of the
 /// files, with the same errors.
 ///
+/// It returns the sum of the test file ([`sum_of`]), too, if `is_summed` is set.
+///
 /// It returns `None` if it can't read the files so: there is an error in a file, the tests can't be
 /// read piece by piece ([`test_threads::read_tests_in_pieces`]), or memory runs out.
 pub fn split_run_in_pieces<R: Threads + Wait, F: Read + Send>(
@@ -117,10 +121,11 @@ pub fn split_run_in_pieces<R: Threads + Wait, F: Read + Send>(
     bench: &[u8],
     tests: F,
     size: u64,
+    is_summed: bool,
     split: Split,
     apart: bool,
     workers: u32,
-) -> Option<Result<(RunJob, u32), SimFault>>
+) -> Option<Result<(RunJob, u32, Option<String>), SimFault>>
 where
     F: Drop,
     requires { HasSomePart split }
@@ -135,13 +140,21 @@ where
         made.0.apart ≡ true → apart ≡ true)) }
     ensures parts { IfSome result (λ read. IfOk read (λ made.
         IsSplitOf made.0.parts split workers made.1)) }
+    ensures sum { IfSome (F.remaining tests) (λ text. IfSome result (λ read.
+        IfOk read (λ made. IfSome made.2 (λ sum. string_bytes sum ≡ sum_text text)))) }
+    ensures summed { IfSome result (λ read. IfOk read (λ made. is_some made.2 ≡ is_summed)) }
     ensures refused { IfSome (F.remaining tests) (λ text. IfSome result (λ read.
         IfErr read (IsSplitFault model bench.now text split))) }
     ensures refused_for_some { IfSome result (λ read.
         IfErr read (IsSplitFaultForSome model bench.now split)) }
 {
-    let (job, tests) = read_job_in_pieces(rt, alloc, model, bench, tests, size, workers)?;
-    Some(split_run_with(rt, alloc, job, tests, split, apart, workers))
+    let (job, tests, sum) = read_job_in_pieces(
+        rt, alloc, model, bench, tests, size, is_summed, workers,
+    )?;
+    match split_run_with(rt, alloc, job, tests, split, apart, workers) {
+        Ok((run, parts)) => Some(Ok((run, parts, sum))),
+        Err(fault) => Some(Err(fault)),
+    }
 }
 
 /// Makes the run of a job with these tests in place of its own. Returns it with the number of

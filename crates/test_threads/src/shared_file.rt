@@ -63,6 +63,13 @@ pub(crate) struct EndedFile<F: Read, T: TestFile> {
     pub(crate) ghost ended: { IsEnded T.text (F.remaining file) },
 }
 
+/// The place of a piece in a file, and the file, if it ends with this piece.
+#[derive(Drop)]
+struct Taken<F: Read, T: TestFile> {
+    lines: Lines,
+    ended: Option<EndedFile<F, T>>,
+}
+
 /// The tests of a piece of a file.
 #[derive(Drop)]
 pub(crate) struct Piece<F: Read, T: TestFile> {
@@ -203,15 +210,16 @@ fn take_lines<F: Read, T: TestFile, R: Wait>(
     rt: &R,
     shared: &Mutex<Option<OpenFile<F, T>>>,
     buffer: &mut [u8],
-) -> Option<Option<(Lines, Option<EndedFile<F, T>>)>>
+) -> Option<Option<Taken<F, T>>>
 where
     F: Drop,
     ensures lines { IfSome result (λ some. IfSome some (λ taken.
-        AreLines T.text buffer.new taken.0.start taken.0.end taken.0.last)) }
+        AreLines T.text buffer.new taken.lines.start taken.lines.end taken.lines.last)) }
     ensures within { IfSome result (λ some. IfSome some (λ taken.
-        (taken.0.start ≤ taken.0.end) × (taken.0.end - taken.0.start ≤ length buffer.new))) }
+        (taken.lines.start ≤ taken.lines.end)
+        × (taken.lines.end - taken.lines.start ≤ length buffer.new))) }
     ensures last { IfSome result (λ some. IfSome some (λ taken.
-        taken.0.last ≡ is_some taken.1)) }
+        taken.lines.last ≡ is_some taken.ended)) }
 {
     let mut guard = shared.lock(rt);
     let Some(open) = guard.take() else {
@@ -219,25 +227,27 @@ where
     };
     let (lines, more, ended) = read_lines(open, buffer)?;
     *guard = more;
-    Some(Some((lines, ended)))
+    Some(Some(Taken { lines, ended }))
 }
 
-/// Reads the tests of lines, which a buffer has at its front. Returns `None` if there is an error
-/// in them, or memory runs out.
+/// Reads the tests of a piece, whose lines a buffer has at its front. Returns `None` if there is an
+/// error in them, or memory runs out.
 fn read_piece<F: Read, T: TestFile>(
     alloc: Global,
     buffer: &[u8],
-    lines: Lines,
-    ended: Option<EndedFile<F, T>>,
+    taken: Taken<F, T>,
     width: u32,
 ) -> Option<Piece<F, T>>
 where
     F: Drop,
     requires width { (T.width ≡ width) × (1 ≤ width) }
-    requires lines { AreLines T.text buffer.now lines.start lines.end lines.last }
-    requires within { (lines.start ≤ lines.end) × (lines.end - lines.start ≤ length buffer.now) }
-    requires last { lines.last ≡ is_some ended }
+    requires lines { AreLines T.text buffer.now taken.lines.start taken.lines.end
+        taken.lines.last }
+    requires within { (taken.lines.start ≤ taken.lines.end)
+        × (taken.lines.end - taken.lines.start ≤ length buffer.now) }
+    requires last { taken.lines.last ≡ is_some taken.ended }
 {
+    let Taken { lines, ended } = taken;
     let count = lines.end - lines.start;
     let tests = read_tests(alloc, &buffer[..count], width).ok()?;
     Some(Piece {
@@ -263,12 +273,13 @@ where
     requires { (T.width ≡ width) × (1 ≤ width) }
 {
     let mut buffer = zeros(alloc, size).ok()?;
+    let room = buffer.as_mut_slice();
     let mut own = Vec::new(alloc);
     for _ in 0..MAX_PIECES {
-        let Some((lines, ended)) = take_lines(rt, shared, &mut buffer)? else {
+        let Some(taken) = take_lines(rt, shared, room)? else {
             return Some(own);
         };
-        let piece = read_piece(alloc, &buffer, lines, ended, width)?;
+        let piece = read_piece(alloc, room, taken, width)?;
         own.push(piece).ok()?;
     }
     None
