@@ -18,7 +18,8 @@ use fault_model::{Classes, Faults, Model, collapse, list_faults_in};
 use part_files::{
     Merge, MergeFault, Merged, PartHeader, read_part, write_merged, write_merged_with_classes,
 };
-use report::{Lines, Out, ReportFault, SimFault, sum_of};
+use job_loading::sum_of;
+use report::{Lines, Out, ReportFault, SimFault};
 use std::alloc::{AllocError, Global};
 use std::str::from_utf8;
 use tables::{Format, merged_flags, write_block_table, write_merged_table};

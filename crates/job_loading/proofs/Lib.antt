@@ -1,3 +1,4 @@
 mod JobsOfTexts
 mod FewestParts
+mod SummedFiles
 pub mod Public

@@ -15,5 +15,5 @@ pub use fault::{ReportFault, SimFault};
 pub use pieces::{LONG_TESTS, piece_bytes};
 pub use region_runs::{ReasonCounts, RunJob, Watch};
 pub use split::{Split, split_run_for, split_run_in_pieces, split_run_of};
-pub use sums::sum_of;
+pub use sums::{FileSums, sum_of};
 pub use texts::{job_for, job_of, read_inputs, read_inputs_in_threads};

@@ -12,6 +12,13 @@ use std::io;
 use std::io::Read;
 use std::marker::{Brand, PhantomData};
 
+/// The sums of the two files of a run, as [`sum_of`] returns them.
+#[derive(Clone, Copy)]
+pub struct FileSums<'a> {
+    pub bench: &'a str,
+    pub tests: &'a str,
+}
+
 /// Returns the SHA-256 of a text in lower-case hex digits.
 pub fn sum_of(alloc: Global, text: &[u8]) -> Result<String, AllocError>
     ensures { IfOk result (λ sum. string_bytes sum ≡ sum_text text.now) }

@@ -31,7 +31,8 @@ use Rattle.part_files.specs.WholeMerge.{IsSomePartDistinguished, IsDistinguished
 use Rattle.part_files.specs.PartText.{PartHead, head_of}
 use Rattle.part_files.specs.PartReading.{IsPart}
 use Rattle.report.specs.Report.{class_coverage_line, fault_text, report}
-use Rattle.report.specs.RunIdentity.{model_name, sum_text}
+use Rattle.job_loading.specs.Sums.{sum_text}
+use Rattle.report.specs.RunIdentity.{model_name}
 use Rattle.part_files.proofs.OnePartText.{one_part}
 use Rattle.part_files.proofs.PartPieces.{report_of_texts}
 use Rattle.part_files.proofs.WrittenParts.{first_of_part, part_is}

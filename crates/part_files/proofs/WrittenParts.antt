@@ -23,7 +23,8 @@ use Rattle.job_loading.specs.Jobs.{IsJobOf}
 use Rattle.part_files.specs.PartText.{IsPartTextOf, part_text, head_of, rule_name}
 use Rattle.part_files.specs.PartReading.{IsHead, IsLine, IsPart, IsVerdict, IsWord}
 use Rattle.report.specs.Report.{fault_text}
-use Rattle.report.specs.RunIdentity.{model_name, sum_text}
+use Rattle.job_loading.specs.Sums.{sum_text}
+use Rattle.report.specs.RunIdentity.{model_name}
 use Rattle.part_files.proofs.FaultNames.{fault_named}
 use Rattle.part_files.proofs.OnePartText.{lacks_literal, lacks_test}
 

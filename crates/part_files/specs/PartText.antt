@@ -11,7 +11,8 @@ use Rattle.region_runs.specs.Part.{ArePartVerdicts}
 use Rattle.part_files.specs.declared.part_writer.Head.{Head}
 use Rattle.job_loading.specs.Jobs.{IsJobOf}
 use Rattle.report.specs.Report.{first_text, fault_text}
-use Rattle.report.specs.RunIdentity.{model_name, sum_text}
+use Rattle.job_loading.specs.Sums.{sum_text}
+use Rattle.report.specs.RunIdentity.{model_name}
 
 -- The values of the first line of a part file: the part, from 0, and the number of parts; then, as
 -- words, the model, the rule of parts, and the sums of the bench file and of the test file.
@@ -75,16 +76,20 @@ said_by h = record {
 abbrev pub rule_name : List ℕ
 rule_name = codes "region"
 
--- the values of the first line for a part of the run of a bench file and a test file under a model
-abbrev pub head_of : Model → List ℕ → List ℕ → ℕ → ℕ → PartHead
-head_of m bench text part parts = record {
+-- the values of the first line for a part of a run under a model, by the sums of its two files
+abbrev pub head_with : Model → List ℕ → List ℕ → ℕ → ℕ → PartHead
+head_with m bench tests part parts = record {
   part = part;
   parts = parts;
   model = model_name m;
   rule = rule_name;
-  bench = sum_text bench;
-  tests = sum_text text;
+  bench = bench;
+  tests = tests;
 }
+
+-- the same for a part of the run of a bench file and a test file
+abbrev pub head_of : Model → List ℕ → List ℕ → ℕ → ℕ → PartHead
+head_of m bench text part parts = head_with m (sum_text bench) (sum_text text) part parts
 
 -- the line of a fault of a circuit
 abbrev pub part_line : List Statement → Fault × PartVerdict → List ℕ

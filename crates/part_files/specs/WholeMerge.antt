@@ -9,7 +9,7 @@ use Rattle.part_files.specs.Merging.{HasParts, IsEndRefusal, IsFirstMerged, IsFi
 use Rattle.part_files.specs.Merging.{IsMerged}
 use Rattle.part_files.specs.Merging.{IsMergeRefusal, IsWholeRun, MergedRun, MergeState}
 use Rattle.part_files.specs.PartText.{IsPartTextOf}
-use Rattle.report.specs.RunIdentity.{sum_text}
+use Rattle.job_loading.specs.Sums.{sum_text}
 
 -- a run in parts: its model, its bench file and test file, and the number of parts
 pub record PartedRun : Type 0 where

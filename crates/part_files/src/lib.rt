@@ -1,6 +1,6 @@
 //! Part files: the results of one part of a run, and their merge to the report of the whole run.
 //!
-//! [`part_text_watched`] runs one part of the fault classes and writes its part file. [`read_part`]
+//! [`write_part_of_run`] runs one part of the fault classes and writes its part file. [`read_part`]
 //! returns what a part file spells. [`Merge`] joins the part files of a run, and [`write_merged`]
 //! writes the report that a run without parts writes. The laws state this of every run
 //! ([`part_text_is_read`], [`merged_report`]).
@@ -26,4 +26,4 @@ pub use merge::Merge;
 pub use merged::Merged;
 pub use merged_classes::write_merged_with_classes;
 pub use part_reader::{PartFault, PartHeader, PartText, read_part};
-pub use part_writer::part_text_watched;
+pub use part_writer::write_part_of_run;

@@ -1,4 +1,4 @@
-//! From the bytes of files to the file of one part of a run.
+//! The file of one part of a run.
 
 ghost use Rattle.std.specs.Prelude.{◌≡◌, ◌<◌, ◌≤◌, ◌+◌, IfErr, OnOk, Some, count_by, length};
 ghost use Rattle.std.specs.Prelude.{slice_get, true, zip};
@@ -7,19 +7,19 @@ ghost use Rattle.fault_model.specs.Fault.{faults};
 ghost use Rattle.block_sim.specs.Parts.{BelongTogether};
 ghost use Rattle.byte_output.specs.Output.{Writes};
 ghost use Rattle.region_runs.specs.Refused.{IsPartFault};
-ghost use Rattle.report.specs.EndToEnd.{IsJobReportFault, IsTextFault, WritesOneOf};
-ghost use Rattle.part_files.specs.PartText.{IsPartTextOf, IsPartTextOfJob};
-ghost use Rattle.part_files.specs.PartText.{end_line, head_line, is_found, is_own, job_part_text};
+ghost use Rattle.report.specs.EndToEnd.{IsJobReportFault, WritesOneOf};
+ghost use Rattle.part_files.specs.PartText.{IsPartTextOfJob, end_line, head_line, head_with};
+ghost use Rattle.part_files.specs.PartText.{is_found, is_own, job_part_text};
 ghost use Rattle.part_files.specs.PartText.{part_line, said_by, verdict_text};
 
 use bench_net::Circuit;
 use block_sim::Job;
 use byte_output::{Out, OutFailed, put_pieces};
-use fault_model::{Faults, Model};
+use fault_model::Faults;
 use itoa::Buffer;
-use job_loading::{ReportFault, RunJob, SimFault, Split, Watch, split_run_of};
+use job_loading::{FileSums, ReportFault, RunJob, SimFault, Watch};
 use region_runs::{PartVerdict, part_of, run_part};
-use report::{first_text, model_name, put_fault_line, sum_of};
+use report::{first_text, model_name, put_fault_line};
 use std::alloc::Global;
 use std::sync::Wait;
 use std::thread::Threads;
@@ -27,54 +27,52 @@ use std::thread::Threads;
 /// The rule of parts, as a part file names it: by the stem of a class's region.
 const RULE: &str = "region";
 
-/// Reads a circuit and tests for it, runs one part of the fault classes, and writes its part file.
-/// The part counts from 0, of this number of parts. The file has the part and its run, and a line
-/// for each fault of the list. The line has the first detecting test, `none`, or `-` if the fault
-/// is in another part. Last comes how many faults of the part are detected.
+/// Runs one part of the fault classes of a job, and writes its part file. The part counts from 0,
+/// of this number of parts. The file has the part and its run, with the sums of the two files, and a
+/// line for each fault of the list. The line has the first detecting test, `none`, or `-` if the
+/// fault is in another part. Last comes how many faults of the part are detected.
 ///
 /// It calls the gate when the run of the part begins and when it ends, and asks it before each piece
-/// of work. The gate decides whether there is a part file, but not its bytes. Under a gate that lets
-/// each piece pass it runs window by window if the tests have more blocks than a window, as
-/// [`report::simulate_text_watched`] does.
+/// of work. The gate decides whether there is a part file, but not its bytes.
 ///
-/// It fails as [`report::simulate_text_in`] does, in the same order, except for the number of
-/// pieces. The whole has no limit: it fails with [`workers::RunFault::TooManyPieces`] if the part
-/// has too many. It checks the number of workers before the pieces. If the gate stops workers and
-/// not all classes of the part are settled, it fails with [`workers::RunFault::Unfinished`].
-pub fn part_text_watched<R: Threads + Wait, G: Watch + Sync, W: Out>(
+/// # Errors
+///
+/// The errors of [`region_runs::run_part`]: with [`workers::RunFault::TooManyPieces`] it fails if
+/// the part has too many pieces, and with [`workers::RunFault::Unfinished`] if the gate stops
+/// workers and not all classes of the part are settled. And those of the output.
+pub fn write_part_of_run<R: Threads + Wait, G: Watch + Sync, W: Out>(
     rt: &R,
     alloc: Global,
-    model: Model,
-    bench: &[u8],
-    tests: &[u8],
+    run: &mut RunJob,
     part: u32,
     parts: u32,
+    sums: FileSums<'_>,
     workers: u32,
     gate: &G,
     out: &mut W,
 ) -> Result<(), SimFault>
-    requires { part < parts }
-    ensures written { WritesOneOf (IsPartTextOf model bench.now tests.now part parts) result
+    requires job { BelongTogether run.old.parts }
+    requires gate { run.old.apart ≡ true → G.passing gate.now }
+    requires part { part < parts }
+    ensures written { WritesOneOf (IsPartTextOfJob (head_with run.old.parts.list.model
+        sums.bench.now sums.tests.now part parts) run.old.parts) result
         (W.seen out.old) (W.seen out.new) }
-    ensures refused { IfErr result (IsTextFault model bench.now tests.now workers
-        (λ job. IsPartFault job parts part workers (G.passing gate.now) (G.stops gate.now))) }
+    ensures refused { IfErr result (IsJobReportFault workers
+        (IsPartFault run.old.parts parts part workers (G.passing gate.now)
+        (G.stops gate.now))) }
     ensures workers { OnOk result ((0 < workers) × (workers ≤ 64)) }
+    ensures kept { run.new ≡ run.old }
 {
-    let apart = gate.lets_all_pass();
-    let split = Split::Parts(parts);
-    let (made, _parts) = split_run_of(rt, alloc, model, bench, tests, split, apart, workers)?;
-    let mut run = made;
-    let bench_sum = sum_of(alloc, bench)?;
-    let test_sum = sum_of(alloc, tests)?;
+    let model = run.job().faults().model();
     let head = Head {
         part,
         parts,
         model: model_name(model),
         rule: RULE,
-        bench: bench_sum.as_str(),
-        tests: test_sum.as_str(),
+        bench: sums.bench,
+        tests: sums.tests,
     };
-    report_part(rt, alloc, &mut run, &head, workers, gate, out)
+    report_part(rt, alloc, run, &head, workers, gate, out)
 }
 
 /// The data of the first line of a part file. Parts count from 0.
@@ -121,6 +119,7 @@ fn report_part<R: Threads + Wait, G: Watch + Sync, W: Out>(
         (IsPartFault run.old.parts head.now.parts head.now.part workers (G.passing gate.now)
         (G.stops gate.now))) }
     ensures workers { OnOk result ((0 < workers) × (workers ≤ 64)) }
+    ensures kept { run.new ≡ run.old }
 {
     let (part, parts) = (head.part, head.parts);
     gate.starts(count_classes(run.job(), part, parts), run.tests().blocks());

@@ -31,7 +31,7 @@ pub use report::{
     detected_classes, first_text, put_coverage, put_fault_line, write_fault, write_listing,
     write_report, write_report_with,
 };
-pub use run_identity::{model_name, sum_of};
+pub use run_identity::model_name;
 pub use text::{
     faults_text, faults_text_in, listing_bytes, report_bytes, schedule_text, schedule_text_in,
     schedule_text_with, simulate_text, simulate_text_in, simulate_text_in_parts,

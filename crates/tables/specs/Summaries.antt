@@ -3,7 +3,7 @@ use Rattle.std.specs.Prelude.{ℕ, ◌+◌, ◌-◌, ◌/◌, ◌%◌, max, Bool
 use Rattle.std.specs.Prelude.{Option, Some, None, codes, decimal}
 use Rattle.region_runs.specs.declared.watch.ReasonCounts.{ReasonCounts}
 use Rattle.report.specs.declared.counts.RunCounts.{RunCounts}
-use Rattle.report.specs.RunIdentity.{model_name, sum_text}
+use Rattle.report.specs.RunIdentity.{model_name}
 use Rattle.report.specs.Report.{percentage}
 use Rattle.tables.specs.declared.summary.Summary.{Summary}
 
@@ -52,5 +52,5 @@ effort_text workers milliseconds = codes ",\n\"workers\":" ++ (decimal workers
 -- the summary of a run as a JSON object, one member on each line
 abbrev pub summary_text : Summary → List ℕ
 summary_text s = inputs_of s.version.now (truth_text s.proved) (model_name s.model)
-    (sum_text s.bench.now) (sum_text s.tests.now) (decimal s.counts.tests)
+    s.sums.bench.now s.sums.tests.now (decimal s.counts.tests)
     ++ (counts_text s.counts ++ (reasons_text s.reasons ++ effort_text s.workers s.milliseconds))

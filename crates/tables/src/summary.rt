@@ -7,7 +7,8 @@ ghost use Rattle.tables.specs.Summaries.{reasons_text, seconds_text, summary_tex
 use crate::json_table::{add_pieces, hundredths};
 use fault_model::Model;
 use itoa::Buffer;
-use report::{ReasonCounts, RunCounts, model_name, sum_of};
+use job_loading::FileSums;
+use report::{ReasonCounts, RunCounts, model_name};
 use std::alloc::{AllocError, Global};
 
 /// The contents of the summary of a run.
@@ -18,10 +19,8 @@ pub struct Summary<'a> {
     /// Whether the program was proved.
     pub proved: bool,
     pub model: Model,
-    /// The bytes of the bench file, of which the summary has the SHA-256.
-    pub bench: &'a [u8],
-    /// The bytes of the test file, of which the summary has the SHA-256.
-    pub tests: &'a [u8],
+    /// The SHA-256 of both files.
+    pub sums: FileSums<'a>,
     pub counts: RunCounts,
     /// The number of undetected faults for each reason, if the run writes reasons.
     pub reasons: Option<ReasonCounts>,
@@ -34,8 +33,6 @@ pub struct Summary<'a> {
 pub fn summary_text(alloc: Global, summary: &Summary<'_>) -> Result<Vec<u8>, AllocError>
     ensures { IfOk result (λ text. text.items ≡ summary_text summary.now) }
 {
-    let bench = sum_of(alloc, summary.bench)?;
-    let tests = sum_of(alloc, summary.tests)?;
     let mut text = Vec::new(alloc);
     let mut number = Buffer::new();
     add_inputs(
@@ -43,8 +40,8 @@ pub fn summary_text(alloc: Global, summary: &Summary<'_>) -> Result<Vec<u8>, All
         summary.version,
         truth_text(summary.proved),
         model_name(summary.model),
-        bench.as_str(),
-        tests.as_str(),
+        summary.sums.bench,
+        summary.sums.tests,
         number.format(summary.counts.tests),
     )?;
     add_counts(&mut text, summary.counts)?;
