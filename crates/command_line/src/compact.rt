@@ -3,7 +3,7 @@
 use crate::choices::{STEEPEST, TEST_ORDER};
 use crate::command::read_model;
 use crate::form::Form;
-use crate::form_run::write_form;
+use crate::form_run::{Wanted, write_form};
 use crate::split::read_split;
 use crate::status::CommandError;
 use analysis_reports::{KeptForm, KeptLayout, TestOrder};
@@ -31,8 +31,13 @@ pub(crate) fn do_compact<'a, R: Threads + Wait, S: Source, W: Out, E: Out + Send
         order: read_test_order(matches, model)?,
         form: read_kept_form(matches),
     });
-    let found = write_form(rt, alloc, matches, form, split, files, out, err)?;
-    if let Some(count) = found.kept {
+    let wanted = Wanted {
+        form,
+        split,
+        is_summed: false,
+    };
+    let outcome = write_form(rt, alloc, matches, wanted, files, out, err)?;
+    if let Some(count) = outcome.found.kept {
         let _ = writeln!(Formatted(err), "{} of {} tests kept", count.kept, count.all);
     }
     Ok(())

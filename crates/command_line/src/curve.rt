@@ -1,7 +1,7 @@
 //! The command `curve`.
 
 use crate::form::Form;
-use crate::form_run::write_form;
+use crate::form_run::{Wanted, write_form};
 use crate::format::read_format;
 use crate::split::read_split;
 use crate::status::CommandError;
@@ -26,6 +26,11 @@ pub(crate) fn do_curve<'a, R: Threads + Wait, S: Source, W: Out, E: Out + Send>(
         Some(format) => Form::CurveTable(format),
         None => Form::Curve,
     };
-    write_form(rt, alloc, matches, form, split, files, out, err)?;
+    let wanted = Wanted {
+        form,
+        split,
+        is_summed: false,
+    };
+    write_form(rt, alloc, matches, wanted, files, out, err)?;
     Ok(())
 }

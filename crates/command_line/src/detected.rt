@@ -1,7 +1,7 @@
 //! The options `--detections` and `--histogram` of the command `run`.
 
 use crate::form::Form;
-use crate::form_run::write_form;
+use crate::form_run::{Wanted, write_form};
 use crate::format::read_format;
 use crate::split::read_split;
 use crate::status::CommandError;
@@ -55,6 +55,11 @@ pub(crate) fn do_detections<'a, R: Threads + Wait, S: Source, W: Out, E: Out + S
 ) -> Result<(), CommandError<'a>> {
     let form = read_count_form(matches, most)?;
     let split = read_split(matches)?;
-    write_form(rt, alloc, matches, form, split, files, out, err)?;
+    let wanted = Wanted {
+        form,
+        split,
+        is_summed: false,
+    };
+    write_form(rt, alloc, matches, wanted, files, out, err)?;
     Ok(())
 }

@@ -1,9 +1,11 @@
-//! Outputs of a run of all classes.
+//! Outputs of a run.
 
-ghost use Rattle.std.specs.Prelude.{◌<◌};
+ghost use Rattle.std.specs.Prelude.{◌≡◌, ◌<◌, IsSome, true};
 ghost use Rattle.block_sim.specs.Parts.{BelongTogether};
 ghost use Rattle.report.specs.EndToEnd.{WritesOneOf};
-ghost use Rattle.command_line.specs.Form.{IsFormOfJob};
+ghost use Rattle.part_files.specs.PartText.{IsPartTextOfJob, head_with};
+ghost use Rattle.command_line.specs.Form.{IsFormOfJob, IsKeptOfJob, NeedsSums};
+ghost use Rattle.command_line.specs.Form.{bench_sum, test_sum};
 
 use crate::tally::Tally;
 use analysis_reports::{
@@ -11,7 +13,8 @@ use analysis_reports::{
     write_kept_of_run, write_reasons_of_run,
 };
 use block_coverage::Separator;
-use job_loading::RunJob;
+use job_loading::{FileSums, RunJob};
+use part_files::write_part_of_run;
 use report::{Contents, Lines, Out, SimFault, Watch, write_curve_of_run, write_report_of_run};
 use std::alloc::Global;
 use std::sync::Wait;
@@ -21,7 +24,7 @@ use tables::{
     write_reason_table_of_run, write_table_of_run,
 };
 
-/// The output of a run of all classes.
+/// The output of a run, of all classes or of a part.
 #[derive(Clone, Copy)]
 pub(crate) enum Form {
     /// The report.
@@ -48,9 +51,29 @@ pub(crate) enum Form {
     HistogramTable { most: u32, format: Format },
     /// The tests that a compaction keeps.
     Kept(KeptLayout),
+    /// The file of one part of the classes.
+    Part(Part),
+}
+
+/// A part of the classes.
+#[derive(Clone, Copy)]
+pub(crate) struct Part {
+    /// The part, counted from 0.
+    pub(crate) part: u32,
+    /// The number of parts.
+    pub(crate) parts: u32,
+    pub(crate) ghost within: { part < parts },
+}
+
+/// Returns whether an output has the sums of the two files.
+pub(crate) fn needs_sums(form: Form) -> bool
+    ensures { NeedsSums form → result ≡ true }
+{
+    matches!(form, Form::Part(_))
 }
 
 /// Runs a job in a number of parts, under a gate that lets each piece pass, and writes the output.
+/// The file of a part has the sums of the two files.
 pub(crate) fn write_form_of_run<R: Threads + Wait, G: Watch + Sync, W: Out>(
     rt: &R,
     alloc: Global,
@@ -58,6 +81,7 @@ pub(crate) fn write_form_of_run<R: Threads + Wait, G: Watch + Sync, W: Out>(
     parts: u32,
     workers: u32,
     form: Form,
+    sums: Option<FileSums<'_>>,
     gate: &G,
     tally: &Tally,
     out: &mut W,
@@ -65,8 +89,9 @@ pub(crate) fn write_form_of_run<R: Threads + Wait, G: Watch + Sync, W: Out>(
     requires job { BelongTogether run.old.parts }
     requires passing { G.passing gate.now }
     requires parts { 0 < parts }
-    ensures { WritesOneOf (IsFormOfJob run.old.parts form) result (W.seen out.old)
-        (W.seen out.new) }
+    requires sums { NeedsSums form → IsSome sums }
+    ensures { WritesOneOf (IsFormOfJob run.old.parts (bench_sum sums) (test_sum sums) form) result
+        (W.seen out.old) (W.seen out.new) }
 {
     match form {
         Form::Report(contents) => {
@@ -103,6 +128,7 @@ pub(crate) fn write_form_of_run<R: Threads + Wait, G: Watch + Sync, W: Out>(
         Form::Kept(layout) => {
             write_kept(rt, alloc, run, parts, workers, layout, gate, tally, out)
         }
+        Form::Part(part) => write_part(rt, alloc, run, part, sums, workers, gate, out),
     }
 }
 
@@ -120,10 +146,35 @@ fn write_kept<R: Threads + Wait, G: Watch + Sync, W: Out>(
 ) -> Result<(), SimFault>
     requires passing { G.passing gate.now }
     requires parts { 0 < parts }
-    ensures { WritesOneOf (IsFormOfJob run.old.parts (Form.Kept layout)) result (W.seen out.old)
+    ensures { WritesOneOf (IsKeptOfJob run.old.parts layout) result (W.seen out.old)
         (W.seen out.new) }
 {
     let count = write_kept_of_run(rt, alloc, run, parts, workers, layout, gate, out)?;
     tally.note_kept(count);
     Ok(())
+}
+
+/// Runs a part of a job, and writes its file with the sums of the two files.
+fn write_part<R: Threads + Wait, G: Watch + Sync, W: Out>(
+    rt: &R,
+    alloc: Global,
+    run: &mut RunJob,
+    part: Part,
+    sums: Option<FileSums<'_>>,
+    workers: u32,
+    gate: &G,
+    out: &mut W,
+) -> Result<(), SimFault>
+    requires job { BelongTogether run.old.parts }
+    requires passing { G.passing gate.now }
+    requires sums { IsSome sums }
+    ensures { WritesOneOf (IsPartTextOfJob (head_with run.old.parts.list.model (bench_sum sums)
+        (test_sum sums) part.part part.parts) run.old.parts) result (W.seen out.old)
+        (W.seen out.new) }
+{
+    let Part { part, parts } = part;
+    match sums {
+        Some(sums) => write_part_of_run(rt, alloc, run, part, parts, sums, workers, gate, out),
+        None => unreachable!(),
+    }
 }

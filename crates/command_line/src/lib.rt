@@ -19,7 +19,6 @@ mod form_run;
 mod format;
 mod merge;
 mod options;
-mod part_run;
 mod pieces;
 mod progress;
 mod responses;

@@ -15,10 +15,10 @@ use block_coverage::Separator;
 use clap::ArgMatches;
 use command_basics::{Source, model_named};
 use fault_model::{Classes, Faults, Model, collapse, list_faults_in};
+use job_loading::sum_of;
 use part_files::{
     Merge, MergeFault, Merged, PartHeader, read_part, write_merged, write_merged_with_classes,
 };
-use job_loading::sum_of;
 use report::{Lines, Out, ReportFault, SimFault};
 use std::alloc::{AllocError, Global};
 use std::str::from_utf8;

@@ -1,16 +1,13 @@
 //! The command `run` without `--detections`.
 
-ghost use Rattle.std.specs.Prelude.{◌<◌, IfOk, IfSome};
 ghost use Rattle.job_loading.specs.Splits.{HasSomePart};
 
 use crate::blocks::read_separator;
 use crate::choices::MAX_PARTS;
-use crate::command::{read_contents, read_model, read_option};
-use crate::crew::read_crew;
-use crate::form::Form;
-use crate::form_run::{write_form, write_of_bytes};
+use crate::command::{read_contents, read_model};
+use crate::form::{Form, Part};
+use crate::form_run::{Outcome, Wanted, write_form};
 use crate::format::read_format;
-use crate::part_run::write_part;
 use crate::split::read_split;
 use crate::status::CommandError;
 use crate::summary::{Request, read_request, version_and_proof};
@@ -76,18 +73,18 @@ const BESIDE_PART: &str = "give --part or --parts, not both";
 /// The reason why the text of `--part` cannot be used.
 const NO_PART: &str = "give I/N: part I, from 1 to N, of N parts, at most 65536";
 
-/// Returns the part that a text `I/N` names, counted from 0, and the number of parts. `I` counts
-/// from 1.
-fn read_part(text: &str) -> Option<(u32, u32)>
-    ensures { IfSome result (λ named. named.0 < named.1) }
-{
+/// Returns the part that a text `I/N` names. `I` counts from 1.
+fn read_part(text: &str) -> Option<Part> {
     let (part, parts) = text.split_once('/')?;
     let number = part.parse::<u32>().ok()?;
     let parts = parts.parse::<u32>().ok()?;
     if number == 0 || number > parts || parts > MAX_PARTS {
         return None;
     }
-    Some((number - 1, parts))
+    Some(Part {
+        part: number - 1,
+        parts,
+    })
 }
 
 /// Runs `run` without `--detections`.
@@ -108,9 +105,28 @@ pub(crate) fn do_run<'a, R: Threads + Wait, S: Source, W: Out, E: Out + Send>(
         return Err(CommandError::Unfit("--parts", BESIDE_PART));
     }
     match read_part(text) {
-        Some((part, parts)) => write_part(rt, alloc, matches, part, parts, files, out, err),
+        Some(part) => do_part(rt, alloc, matches, part, files, out, err),
         None => Err(CommandError::Unfit("--part", NO_PART)),
     }
+}
+
+/// Runs one part of the classes, and writes its file.
+fn do_part<'a, R: Threads + Wait, S: Source, W: Out, E: Out + Send>(
+    rt: &R,
+    alloc: Global,
+    matches: &ArgMatches<'a>,
+    part: Part,
+    files: &mut S,
+    out: &mut W,
+    err: &mut E,
+) -> Result<(), CommandError<'a>> {
+    let wanted = Wanted {
+        form: Form::Part(part),
+        split: Split::Parts(part.parts),
+        is_summed: false,
+    };
+    write_form(rt, alloc, matches, wanted, files, out, err)?;
+    Ok(())
 }
 
 /// Runs all classes, writes the output, and compares the coverage with the threshold.
@@ -127,50 +143,43 @@ fn do_whole<'a, R: Threads + Wait, S: Source, W: Out, E: Out + Send>(
     requires { HasSomePart split }
 {
     let threshold = read_threshold(matches)?;
-    let found = match read_request(matches, files)? {
-        Some(request) => run_summed(rt, alloc, matches, form, split, request, files, out, err)?,
-        None => write_form(rt, alloc, matches, form, split, files, out, err)?,
+    let request = read_request(matches, files)?;
+    let wanted = Wanted {
+        form,
+        split,
+        is_summed: request.is_some(),
     };
+    let outcome = write_form(rt, alloc, matches, wanted, files, out, err)?;
+    let found = outcome.found;
+    if let Some(request) = request {
+        write_summary(alloc, matches, request, &outcome, files)?;
+    }
     check_found(threshold, found)
 }
 
-/// Runs all classes, writes the output, and then the summary, which has the sums of the bytes of
-/// both files.
-fn run_summed<'a, R: Threads + Wait, S: Source, W: Out, E: Out + Send>(
-    rt: &R,
+/// Writes the summary of a run, which has the sums of the bytes of both files.
+fn write_summary<'a, S: Source>(
     alloc: Global,
     matches: &ArgMatches<'a>,
-    form: Form,
-    split: Split,
     request: Request<'a>,
+    outcome: &Outcome,
     files: &mut S,
-    out: &mut W,
-    err: &mut E,
-) -> Result<Found, CommandError<'a>>
-    requires { HasSomePart split }
-{
-    let model = read_model(matches)?;
-    let bench = read_option(alloc, matches, "bench", files)?;
-    let tests = read_option(alloc, matches, "tests", files)?;
-    let workers = read_crew(matches, &bench, &tests)?;
-    let found = write_of_bytes(rt, alloc, matches, &bench, &tests, form, split, out, err)?;
-    let Some(counts) = found.counts else {
+) -> Result<(), CommandError<'a>> {
+    let (Some(counts), Some(sums)) = (outcome.found.counts, &outcome.sums) else {
         return Err(CommandError::Lost);
     };
     let (version, proved) = version_and_proof();
     let summary = Summary {
         version,
         proved,
-        model,
-        bench: &bench,
-        tests: &tests,
+        model: read_model(matches)?,
+        sums: sums.words(),
         counts,
-        reasons: found.reasons,
-        workers,
+        reasons: outcome.found.reasons,
+        workers: outcome.workers,
         milliseconds: request.milliseconds(files),
     };
-    request.write(alloc, &summary, files)?;
-    Ok(found)
+    request.write(alloc, &summary, files)
 }
 
 /// Compares the coverage of a run of all classes with the threshold.

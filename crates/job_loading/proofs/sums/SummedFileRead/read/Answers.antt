@@ -1,4 +1,4 @@
-use Rattle.std.proofs.Common.{rules, ◌≡◌, ◌++◌, Some, subst, take}
+use Rattle.std.proofs.Common.{◌≡◌, ◌++◌, Some, subst, take}
 use Rattle.sha2.specs.Hashers.{Holds256}
 use Rattle.job_loading.proofs.SummedFiles.{HasTaken, summed_more}
 use Rattle.job_loading.proofs.sums.SummedFileRead.read.Goals as goal
