@@ -36,7 +36,7 @@ pub use goal_run::{GoalRun, run_goal};
 pub use open_classes::all_open;
 pub use open_run::{run_classes, run_open};
 pub use part_run::run_part;
-pub use parts::{LedgerRun, PartVerdict, in_one_part, part_of, run_in_parts, run_over_ledger};
+pub use parts::{PartVerdict, in_one_part, part_of, run_in_parts};
 pub use run_job::RunJob;
 pub use stretches::{parts_for, stretches_for};
 pub use watch::{ReasonCounts, Watch};

@@ -150,50 +150,6 @@ pub fn run_in_parts<G: Gate + Sync, R: Threads + Wait>(
     ensures refused { IfErr result (IsPartsFault job.now parts workers (G.passing gate.now)
         (G.stops gate.now)) }
 {
-    let run = run_over_ledger(rt, alloc, job, parts, workers, gate)?;
-    let LedgerRun {
-        verdicts,
-        ledger: _ledger,
-    } = run;
-    Ok(verdicts)
-}
-
-/// The result of a run in parts: the verdicts, and the closed ledger that handed out the parts.
-#[derive(Drop)]
-pub struct LedgerRun {
-    /// The verdicts.
-    pub verdicts: Verdicts,
-    /// The ledger, whose classes are the parts that have a class of the job, each with one block. A
-    /// part is Clear in it once all its classes are settled.
-    pub ledger: Closed,
-}
-
-/// Runs all classes of a job as [`run_in_parts`] does, and returns the closed ledger of the parts
-/// beside the verdicts. The ledger shows a finished history, in which each report stands for a part
-/// whose classes have these first tests.
-///
-/// # Errors
-///
-/// The errors of [`run_in_parts`].
-pub fn run_over_ledger<G: Gate + Sync, R: Threads + Wait>(
-    rt: &R,
-    alloc: Global,
-    job: &Job,
-    parts: u32,
-    workers: u32,
-    gate: &G,
-) -> Result<LedgerRun, RunFault>
-    requires { 0 < parts }
-    ensures firsts { IfOk result (λ run.
-        AreFirsts job.now.list.model job.now.circuit job.now.tests.tests run.verdicts.firsts) }
-    ensures skipped { IfOk result (λ run. AreAfterHits job.now run.verdicts.skipped) }
-    ensures workers { OnOk result ((0 < workers) × (workers ≤ 64)) }
-    ensures within { OnOk result (ArePartsWithin job.now parts) }
-    ensures stretches { IfOk result (λ run.
-        IsOfStretches job.now parts workers run.verdicts run.ledger) }
-    ensures refused { IfErr result (IsPartsFault job.now parts workers (G.passing gate.now)
-        (G.stops gate.now)) }
-{
     check_workers(workers)?;
     let count = job.classes().count();
     check_pieces(job, count.div_ceil(parts))?;
@@ -202,12 +158,12 @@ pub fn run_over_ledger<G: Gate + Sync, R: Threads + Wait>(
         classes: _classes,
         positions,
         kept: firsts,
-        ledger,
+        ledger: _ledger,
     } = done;
     let ordered = OrderedFirsts { positions, firsts };
     let blocks = job.tests().blocks();
     let verdicts = verdicts_in(rt, alloc, job, &ordered, blocks, workers)?;
-    Ok(LedgerRun { verdicts, ledger })
+    Ok(verdicts)
 }
 
 /// Puts the results of a worker at the places of its parts.
