@@ -41,5 +41,5 @@ pub use run_job::RunJob;
 pub use stretches::{parts_for, stretches_for};
 pub use watch::{ReasonCounts, Watch};
 pub use window_goal::WindowGoal;
-pub use windows::{WindowRun, run_goal_in_windows, run_in_windows, window_blocks};
+pub use windows::{WindowRun, run_in_windows, window_blocks};
 pub use word_reader::WordReader;
