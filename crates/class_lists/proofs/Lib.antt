@@ -1,7 +1,4 @@
 mod NumberedPlaces
 mod ListOrders
-mod OpenPlaces
-mod ListRuns
-mod ClassHits
-mod TakenCounts
 mod ClassCounts
+mod FaultFirsts

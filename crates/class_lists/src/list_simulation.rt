@@ -1,14 +1,18 @@
 //! The simulation of lists of classes of a job, one list after another.
 
-ghost use Rattle.std.specs.Prelude.{◌≡◌, ◌<◌, All, IfOk, None, length, map, slice_index_or};
-ghost use Rattle.workers.specs.Verdict.{AreClassFirsts};
-ghost use Rattle.n_detect.specs.ListLanes.{numbers_at};
+ghost use Rattle.std.specs.Prelude.{◌≡◌, ◌^◌, ◌<◌, All, IfOk, None, length, map, slice_index_or};
+ghost use Rattle.flat_circuit.specs.BlockSpans.{groups};
+ghost use Rattle.workers.specs.Verdict.{AreClassFirsts, AreFirsts};
+ghost use Rattle.n_detect.specs.ListLanes.{AreListLanes};
 ghost use Rattle.class_lists.specs.Lists.{AreClassCounts, ServesClasses};
+ghost use Rattle.class_lists.specs.Orders.{numbers_at};
 
 use crate::count::counts_of;
+use crate::fault_firsts::{all_classes, first_at, firsts_of};
 use crate::list_order::{number_at, order_of};
-use crate::list_run::run;
 use block_sim::Job;
+use n_detect::list_lanes;
+use region_runs::run_alone;
 use region_sim::class_order::{ClassOrder, class_order};
 use region_sim::{FirstTest, RegionSimulation};
 use std::alloc::{AllocError, Global};
@@ -74,8 +78,25 @@ impl ListSimulation {
         let count = job.classes().count();
         let order = order_of(alloc, self.ranks.as_slice(), count, classes)?;
         let listed = order.classes.as_slice();
-        let found = run(alloc, job, listed, &mut self.regions, &FirstTest)?;
+        let found = run_alone(alloc, job, listed, &mut self.regions, &FirstTest)?;
         let firsts = firsts_at(alloc, found.as_slice(), order.positions.as_slice())?;
+        Ok(firsts)
+    }
+
+    /// Returns for each fault of a job, by its number, the first test that detects it, or none if
+    /// no test does. Each class is simulated once. It takes the time and memory of
+    /// [`ListSimulation::first_tests`] for all classes, and a number for each fault.
+    pub fn fault_firsts(&mut self, alloc: Global, job: &Job) -> Result<Vec<Option<u32>>, AllocError>
+        requires { ServesClasses self.old job.now }
+        ensures firsts { IfOk result (λ firsts. AreFirsts job.now.list.model job.now.circuit
+            job.now.tests.tests firsts.items) }
+        ensures few { IfOk result (λ firsts. length firsts.items < 2 ^ 32) }
+        ensures serves { ServesClasses self.new job.now }
+    {
+        let _classes = job.classes();
+        let all = all_classes(alloc, job)?;
+        let found = self.first_tests(alloc, job, all.as_slice())?;
+        let firsts = firsts_of(alloc, job, found.as_slice())?;
         Ok(firsts)
     }
 
@@ -104,6 +125,32 @@ impl ListSimulation {
         let counts = counts_at(alloc, found.as_slice(), order.positions.as_slice())?;
         Ok(counts)
     }
+
+    /// Returns for each class of a list the tests of a group that detect it, as [`list_lanes`]
+    /// does. The list may have any order, and name a class more than once. It takes the memory of
+    /// [`ListSimulation::first_tests`], and the time for the tests of a group.
+    pub fn lanes(
+        &mut self,
+        alloc: Global,
+        job: &Job,
+        classes: &[u32],
+        group: u32,
+    ) -> Result<Vec<u128>, AllocError>
+        requires serves { ServesClasses self.old job.now }
+        requires group { group < groups (length job.now.tests.tests) }
+        requires classes { All (λ class. class < length job.now.classes.representative)
+            classes.now }
+        ensures lanes { IfOk result (λ lanes.
+            AreListLanes job.now group classes.now lanes.items) }
+        ensures serves { ServesClasses self.new job.now }
+    {
+        let count = job.classes().count();
+        let order = order_of(alloc, self.ranks.as_slice(), count, classes)?;
+        let listed = order.classes.as_slice();
+        let found = list_lanes(alloc, job, listed, group, &mut self.regions)?;
+        let lanes = words_at(alloc, found.as_slice(), order.positions.as_slice())?;
+        Ok(lanes)
+    }
 }
 
 /// Returns the first tests at these positions.
@@ -121,16 +168,6 @@ fn firsts_at(
         .collect(alloc)
 }
 
-/// Returns the first test at a position, or none past the last.
-fn first_at(found: &[Option<u32>], position: u32) -> Option<u32>
-    ensures { result ≡ slice_index_or found.now position None }
-{
-    match found.get(position as usize) {
-        Some(first) => *first,
-        None => None,
-    }
-}
-
 /// Returns the counts at these positions.
 fn counts_at(alloc: Global, found: &[u32], positions: &[u32]) -> Result<Vec<u32>, AllocError>
     ensures { IfOk result (λ counts. counts.items ≡ numbers_at found.now positions.now) }
@@ -139,4 +176,24 @@ fn counts_at(alloc: Global, found: &[u32], positions: &[u32]) -> Result<Vec<u32>
         .iter()
         .map(|position| number_at(found, *position))
         .collect(alloc)
+}
+
+/// Returns the words at these positions.
+fn words_at(alloc: Global, found: &[u128], positions: &[u32]) -> Result<Vec<u128>, AllocError>
+    ensures { IfOk result (λ words. words.items ≡ numbers_at found.now positions.now) }
+{
+    positions
+        .iter()
+        .map(|position| word_at(found, *position))
+        .collect(alloc)
+}
+
+/// Returns the word at a position, or 0 past the last.
+fn word_at(found: &[u128], position: u32) -> u128
+    ensures { result ≡ slice_index_or found.now position 0 }
+{
+    match found.get(position as usize) {
+        Some(word) => *word,
+        None => 0,
+    }
 }

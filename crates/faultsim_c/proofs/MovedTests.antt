@@ -91,7 +91,8 @@ module _ (old new : List (List Bool)) (some : 0 < length old) where
 -- one word more
 pub words_more : (tests : List (List Bool)) (width : ℕ) (words : List ℕ) (block source word : ℕ)
     → length words ≡ width * block + source → source < width → word < 2 ^ 64
-    → IsWord tests block source word → AreFirstWords tests width words → AreFirstWords tests width (words ++ word ∷ [])
+    → IsWord tests block source word → AreFirstWords tests width words
+    → AreFirstWords tests width (words ++ word ∷ [])
 words_more tests width words block source word count within few is was = record {
   fits = All-push (λ n. n < 2 ^ 64) words word was.fits few;
   each = λ b s lt low. go b s lt low (cases_lt (width * b + s) (length words));

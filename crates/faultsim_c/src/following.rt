@@ -57,8 +57,8 @@ fn memory_of(fault: WordsFault) -> AllocError
     AllocError
 }
 
-/// Returns the words of the last test of `old` and the tests of `new` after it: for each block, from
-/// the first on, one for each source.
+/// Returns the words of the last test of `old` and the tests of `new` after it: for each block,
+/// from the first on, one for each source.
 fn moved_words(alloc: Global, old: &Tests, new: &Tests) -> Result<Vec<u64>, AllocError>
     requires some { 0 < length old.now.tests }
     requires room { length new.now.tests < max_tests }
@@ -108,7 +108,8 @@ fn moved_word(old: &Tests, new: &Tests, block: u32, source: u32) -> u64
     (word % LAST) * 2 + first
 }
 
-/// Returns the bit of the test before a block of `new`, which for block 0 is the last test of `old`.
+/// Returns the bit of the test before a block of `new`, which for block 0 is the last test of
+/// `old`.
 fn bit_before(old: &Tests, new: &Tests, block: u32, source: u32) -> bool
     requires some { 0 < length old.now.tests }
     requires width { old.now.width ≡ new.now.width }

@@ -9,10 +9,10 @@ ghost use Rattle.faultsim_c.specs.Lanes.{AreAddedCounts, AreClassLanes};
 
 use crate::are_below;
 use crate::handle::{FsJob, put, take};
+use crate::session::Session;
 use crate::status::{DONE, MEMORY, NO_JOB, RANGE};
 use block_sim::Job;
 use block_sim::block_lanes::block_word;
-use n_detect::list_lanes;
 use std::alloc::Global;
 
 /// Writes for each class of a list the lanes of a block whose tests detect it. The lengths are
@@ -37,32 +37,40 @@ pub extern "C" fn fs_lanes(
     ensures untouched { result ≢ 0 → lanes.new ≡ lanes.old }
     ensures kept { job.new.held.holding ≡ job.old.held.holding }
 {
-    let Some(holding) = take(alloc, job) else {
+    let Some(mut holding) = take(alloc, job) else {
         return NO_JOB;
     };
-    let status = lanes_in(alloc, holding.session.job(), block, classes, lanes);
+    let status = lanes_in(alloc, &mut holding.session, block, classes, lanes);
     put(alloc, job, holding);
     status
 }
 
-/// Writes for each class of a list the lanes of a block of a job whose tests detect it.
-fn lanes_in(alloc: Global, job: &Job, block: u32, classes: &[u32], lanes: &mut [u64]) -> u32
-    ensures done { result ≡ 0 → AreClassLanes job.now block classes.now lanes.new }
-    ensures serves { block < blocks (length job.now.tests.tests)
-        → AreRequests job.now classes.now lanes.old → (result ≡ 0) ⊎ (result ≡ 2) }
-    ensures range { (blocks (length job.now.tests.tests) ≤ block)
-        ⊎ (¬ AreRequests job.now classes.now lanes.old) → result ≡ 4 }
+/// Writes for each class of a list the lanes of a block whose tests detect it, in a session.
+fn lanes_in(
+    alloc: Global,
+    session: &mut Session,
+    block: u32,
+    classes: &[u32],
+    lanes: &mut [u64],
+) -> u32
+    ensures done { result ≡ 0 → AreClassLanes session.old block classes.now lanes.new }
+    ensures serves { block < blocks (length session.old.tests.tests)
+        → AreRequests session.old classes.now lanes.old → (result ≡ 0) ⊎ (result ≡ 2) }
+    ensures range { (blocks (length session.old.tests.tests) ≤ block)
+        ⊎ (¬ AreRequests session.old classes.now lanes.old) → result ≡ 4 }
     ensures untouched { result ≢ 0 → lanes.new ≡ lanes.old }
+    ensures kept { session.new ≡ session.old }
 {
+    let job = session.job();
     if block >= job.tests().blocks()
         || lanes.len() != classes.len()
         || !are_below(classes, job.classes().count())
     {
         return RANGE;
     }
-    match list_lanes(alloc, job, classes, block / 2) {
+    match session.lanes(alloc, classes, block / 2) {
         Ok(words) => {
-            write_lanes(job, block, classes, words.as_slice(), lanes);
+            write_lanes(session.job(), block, classes, words.as_slice(), lanes);
             DONE
         }
         Err(_) => MEMORY,
@@ -105,41 +113,50 @@ pub extern "C" fn fs_count(
     ensures untouched { result ≢ 0 → counts.new ≡ counts.old }
     ensures kept { job.new.held.holding ≡ job.old.held.holding }
 {
-    let Some(holding) = take(alloc, job) else {
+    let Some(mut holding) = take(alloc, job) else {
         return NO_JOB;
     };
-    let status = count_in(alloc, holding.session.job(), block, classes, most, counts);
+    let status = count_in(alloc, &mut holding.session, block, classes, most, counts);
     put(alloc, job, holding);
     status
 }
 
-/// Adds to the count of each class of a list the number of tests of a block of a job that detect
-/// it.
+/// Adds to the count of each class of a list the number of tests of a block that detect it, in a
+/// session.
 fn count_in(
     alloc: Global,
-    job: &Job,
+    session: &mut Session,
     block: u32,
     classes: &[u32],
     most: u32,
     counts: &mut [u32],
 ) -> u32
     ensures done { result ≡ 0
-        → AreAddedCounts job.now block classes.now most counts.old counts.new }
-    ensures serves { block < blocks (length job.now.tests.tests)
-        → AreRequests job.now classes.now counts.old → (result ≡ 0) ⊎ (result ≡ 2) }
-    ensures range { (blocks (length job.now.tests.tests) ≤ block)
-        ⊎ (¬ AreRequests job.now classes.now counts.old) → result ≡ 4 }
+        → AreAddedCounts session.old block classes.now most counts.old counts.new }
+    ensures serves { block < blocks (length session.old.tests.tests)
+        → AreRequests session.old classes.now counts.old → (result ≡ 0) ⊎ (result ≡ 2) }
+    ensures range { (blocks (length session.old.tests.tests) ≤ block)
+        ⊎ (¬ AreRequests session.old classes.now counts.old) → result ≡ 4 }
     ensures untouched { result ≢ 0 → counts.new ≡ counts.old }
+    ensures kept { session.new ≡ session.old }
 {
+    let job = session.job();
     if block >= job.tests().blocks()
         || counts.len() != classes.len()
         || !are_below(classes, job.classes().count())
     {
         return RANGE;
     }
-    match list_lanes(alloc, job, classes, block / 2) {
+    match session.lanes(alloc, classes, block / 2) {
         Ok(words) => {
-            add_counts(job, block, classes, most, words.as_slice(), counts);
+            add_counts(
+                session.job(),
+                block,
+                classes,
+                most,
+                words.as_slice(),
+                counts,
+            );
             DONE
         }
         Err(_) => MEMORY,

@@ -459,18 +459,18 @@ pub extern "C" fn fs_firsts(
         return RANGE;
     };
     match Session::read_both(alloc, model, bench, text) {
-        Ok(session) => firsts_in(alloc, &session, firsts, faults),
+        Ok(mut session) => firsts_in(alloc, &mut session, firsts, faults),
         Err(refusal) => tell(refusal, fault),
     }
 }
 
 /// Writes the first test that detects each fault of a session.
-fn firsts_in(alloc: Global, session: &Session, firsts: &mut [u32], faults: &mut u32) -> u32
-    ensures done { result ≡ 0 → AreFaultFirsts session.now firsts.new
-        × (length firsts.old ≡ length session.now.list.list) }
+fn firsts_in(alloc: Global, session: &mut Session, firsts: &mut [u32], faults: &mut u32) -> u32
+    ensures done { result ≡ 0 → AreFaultFirsts session.old firsts.new
+        × (length firsts.old ≡ length session.old.list.list) }
     ensures statuses { (result ≡ 0) ⊎ (result ≡ 2) ⊎ (result ≡ 4) }
-    ensures range { (result ≡ 4) ↔ (length firsts.old ≢ length session.now.list.list) }
-    ensures faults { result ≢ 2 → faults.new ≡ length session.now.list.list }
+    ensures range { (result ≡ 4) ↔ (length firsts.old ≢ length session.old.list.list) }
+    ensures faults { result ≢ 2 → faults.new ≡ length session.old.list.list }
     ensures uncounted { result ≡ 2 → faults.new ≡ faults.old }
     ensures untouched { result ≢ 0 → firsts.new ≡ firsts.old }
 {

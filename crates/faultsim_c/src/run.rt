@@ -6,7 +6,6 @@ ghost use Rattle.faultsim_c.specs.Calls.{AreFaultFirsts, AreFirsts, AreFirstNumb
 use crate::session::Session;
 use crate::status::NONE;
 use std::alloc::{AllocError, Global};
-use workers::Verdicts;
 
 /// Finds the first test that detects each class of a list.
 pub(crate) fn simulate(
@@ -31,16 +30,17 @@ pub(crate) fn simulate(
 /// Finds the first test that detects each fault.
 pub(crate) fn fault_firsts(
     alloc: Global,
-    session: &Session,
+    session: &mut Session,
     firsts: &mut [u32],
 ) -> Result<(), AllocError>
-    requires { length firsts.old ≡ length session.now.list.list }
-    ensures done { IfOk result (λ _. AreFaultFirsts session.now firsts.new) }
+    requires { length firsts.old ≡ length session.old.list.list }
+    ensures done { IfOk result (λ _. AreFaultFirsts session.old firsts.new) }
     ensures untouched { IfErr result (λ _. firsts.new ≡ firsts.old) }
+    ensures kept { session.new ≡ session.old }
 {
     let _tests = session.job().tests();
-    let verdicts = session.verdicts(alloc)?;
-    write_verdicts(&verdicts, firsts);
+    let found = session.fault_firsts(alloc)?;
+    write_firsts(found.as_slice(), firsts);
     Ok(())
 }
 
@@ -51,16 +51,6 @@ fn write_firsts(found: &[Option<u32>], firsts: &mut [u32])
 {
     for place in 0..firsts.len() {
         firsts[place] = first_number(first_at(found, place));
-    }
-}
-
-/// Writes the first tests of all faults by their numbers.
-fn write_verdicts(verdicts: &Verdicts, firsts: &mut [u32])
-    requires { length firsts.old ≡ length verdicts.now.firsts }
-    ensures { AreFirstNumbers verdicts.now.firsts firsts.new }
-{
-    for fault in 0..verdicts.total() {
-        firsts[fault as usize] = first_number(verdicts.first(fault));
     }
 }
 

@@ -1,6 +1,6 @@
 //! The session of a handle: a job with room to simulate it.
 
-ghost use Rattle.std.specs.Prelude.{◌≡◌, ◌<◌, All, IfErr, IfOk, length};
+ghost use Rattle.std.specs.Prelude.{◌≡◌, ◌^◌, ◌<◌, All, IfErr, IfOk, length};
 ghost use Rattle.bench_net.specs.Circuit.{IsCircuit};
 ghost use Rattle.bench_net.specs.Scan.{names, sources};
 ghost use Rattle.patterns.specs.Making.{IsMadeOf};
@@ -8,7 +8,9 @@ ghost use Rattle.patterns.specs.Tests.{HasTests, IsTestList, TestList, blocks};
 ghost use Rattle.block_sim.specs.First.{AreDetecting};
 ghost use Rattle.block_sim.specs.Flips.{AreObserving};
 ghost use Rattle.block_sim.specs.Parts.{BelongTogether, with_tests};
+ghost use Rattle.flat_circuit.specs.BlockSpans.{groups};
 ghost use Rattle.workers.specs.Verdict.{AreClassFirsts, AreFirsts};
+ghost use Rattle.n_detect.specs.ListLanes.{AreListLanes};
 ghost use Rattle.class_lists.specs.Lists.{AreClassCounts, ServesClasses};
 ghost use Rattle.faultsim_c.specs.Calls.{IsCircuitJob, IsJobOfTexts};
 ghost use Rattle.faultsim_c.specs.Statuses.{IsBenchReply, IsTestsReply, IsTextsReply, IsUntaken};
@@ -22,11 +24,9 @@ use block_sim::{Job, Workspace, detecting, observing};
 use class_lists::ListSimulation;
 use fault_model::{Model as FaultModel, collapse, list_faults_in};
 use patterns::{Tests, read_tests};
-use region_runs::ListRunner;
 use std::alloc::{AllocError, Global};
 use std::marker::Model;
 use std::sync::Arc;
-use workers::Verdicts;
 
 /// A job, which sessions of several threads share, and the session's own room to simulate it.
 #[derive(Drop)]
@@ -229,13 +229,31 @@ impl Session {
         self.lists.first_tests(alloc, &self.job, classes)
     }
 
-    /// Returns the verdicts on all faults.
-    pub(crate) fn verdicts(&self, alloc: Global) -> Result<Verdicts, AllocError>
-        ensures { IfOk result (λ verdicts. AreFirsts self.now.list.model self.now.circuit
-            self.now.tests.tests verdicts.firsts) }
+    /// Returns the first test that detects each fault, or none.
+    pub(crate) fn fault_firsts(&mut self, alloc: Global) -> Result<Vec<Option<u32>>, AllocError>
+        ensures firsts { IfOk result (λ firsts. AreFirsts self.old.list.model self.old.circuit
+            self.old.tests.tests firsts.items) }
+        ensures few { IfOk result (λ firsts. length firsts.items < 2 ^ 32) }
+        ensures kept { self.new ≡ self.old }
     {
-        let mut runner = ListRunner::new(alloc, &self.job)?;
-        runner.verdicts(alloc, &self.job)
+        self.lists.fault_firsts(alloc, &self.job)
+    }
+
+    /// Returns for each class of a list the lanes of a group whose tests detect it.
+    pub(crate) fn lanes(
+        &mut self,
+        alloc: Global,
+        classes: &[u32],
+        group: u32,
+    ) -> Result<Vec<u128>, AllocError>
+        requires group { group < groups (length self.old.tests.tests) }
+        requires classes { All (λ class. class < length self.old.classes.representative)
+            classes.now }
+        ensures lanes { IfOk result (λ lanes.
+            AreListLanes self.old group classes.now lanes.items) }
+        ensures kept { self.new ≡ self.old }
+    {
+        self.lists.lanes(alloc, &self.job, classes, group)
     }
 }
 

@@ -16,6 +16,7 @@ use crate::status::{MEMORY, NO_JOB, RANGE};
 use block_sim::Job;
 use report::{Contents, Lines, Plain, write_fault, write_report_with};
 use std::alloc::{AllocError, Global};
+use workers::Verdicts;
 
 /// Writes the name of a fault, as a report writes it, and the number of its bytes. If `text` has
 /// less room, the status is 4, and `wanted` is the room that it needs.
@@ -168,8 +169,10 @@ fn bytes_of_report(
         IsReportOfJob session.old contents bytes.items) }
     ensures kept { session.new ≡ session.old }
 {
-    let verdicts = session.verdicts(alloc)?;
+    let firsts = session.fault_firsts(alloc)?;
     let _faults = session.job().faults();
+    // A report doesn't tell the skipped pieces.
+    let verdicts = Verdicts::of(firsts, 0);
     let mut out = Plain::new(Vec::new(alloc));
     match write_report_with(session.job(), &verdicts, contents, &mut out) {
         Ok(()) => Ok(out.into_writer()),

@@ -1,54 +1,14 @@
 -- Counts of classes, and of the faults of a class.
-use Rattle.std.proofs.Common.{◌≡◌, ◌<◌, ◌≤◌, ◌+◌, ◌*◌, ◌/◌, ℕ, Bool, List, Option, length, min, sym}
-use Rattle.std.proofs.Common.{ap, ◌∙◌, arith}
-use Rattle.std.specs.Prelude.{Some, count_by, slice_get}
-use Rattle.std.specs.Bool.{Decides}
+use Rattle.std.proofs.Common.{◌≡◌, ◌<◌, ◌∙◌, ℕ, List, Option, ap, arith, length, sym}
+use Rattle.std.specs.Prelude.{Some, slice_get}
 use Rattle.std.proofs.lemmas.List.{length-map}
 use Rattle.std.proofs.lemmas.Option.{slice_get_within}
 use Rattle.list_lemmas.proofs.Places.{within_place}
 use Rattle.fault_model.specs.Fault.{Fault, FaultList, faults}
 use Rattle.fault_model.specs.Collapse.{AreEquivalent, IsClassOf, representatives}
-use Rattle.fault_model.specs.Detection.{DetectsAt}
 use Rattle.fault_model.proofs.Public.{classes_detected_same, own_class}
-use Rattle.patterns.specs.Least.{below}
 use Rattle.block_sim.specs.Parts.{BelongTogether, Parts}
-use Rattle.flat_circuit.proofs.Public.{representative_at}
-use Rattle.block_sim.proofs.Public.{which_detect}
 use Rattle.n_detect.specs.Detections.{AreCounts, IsClassCount, IsCount}
-
-module _ (job : Parts) (most class block count : ℕ) (b : BelongTogether job)
-    (lt : class < length job.classes.representative) where
-  abbrev IsCounted : Type 0
-  IsCounted =
-      (r : Fault) (detects : ℕ → Bool)
-      → slice_get (representatives job.list.model job.circuit) class ≡ Some r
-      → ((t : ℕ) → Decides (detects t) (DetectsAt job.circuit job.tests.tests r t))
-      → count ≡ min most (count_by detects (below (64 * block)))
-
-  fault : (r : Fault) × (slice_get (representatives job.list.model job.circuit) class ≡ Some r)
-  fault =
-      let k = within_place job.classes.representative class lt in
-      let r = representative_at job.list.model job.circuit job.classes class k.0 b.classes k.1 in
-      (r.0, r.2)
-
-  which : (detects : ℕ → Bool)
-      × ((t : ℕ) → Decides (detects t) (DetectsAt job.circuit job.tests.tests fault.0 t))
-  which =
-      which_detect job.list.model job.circuit job.tests.tests class fault.0 b.circuit.well_formed
-      fault.1
-
-  -- the class has this count, if it is the number of tests that detect its representative
-  counted_by : count ≡ min most (count_by which.0 (below (length job.tests.tests)))
-      → IsClassCount job most class count
-  counted_by number = record {
-    fault = fault.0;
-    of = fault.1;
-    count = record {
-      detects = which.0;
-      decides = which.1;
-      number = number;
-    };
-  }
 
 -- as many tests detect a fault as detect the representative of its class
 pub fault_count : (job : Parts) (most class n : ℕ) (f : Fault) → BelongTogether job

@@ -13,10 +13,10 @@ use Rattle.flat_circuit.proofs.Public.{set_here, set_there}
 use Rattle.flat_circuit.specs.BlockSpans.{groups}
 use Rattle.block_sim.specs.Parts.{BelongTogether, Parts}
 use Rattle.region_sim.specs.Goals.{AreHits, TellHits}
+use Rattle.region_runs.proofs.Public.{some_hits}
 use Rattle.region_runs.specs.Tasks.{AreKept, task_of}
 use Rattle.n_detect.specs.ClassTests.{AreClassTests, AreGroupsIn}
 use Rattle.n_detect.specs.ListLanes.{AreLanesIn}
-use Rattle.n_detect.proofs.CountsBefore.{class_hits}
 use Rattle.n_detect.proofs.GroupWords.{lanes_more, lanes_same}
 
 -- a word of a group more
@@ -106,5 +106,5 @@ tests_of_classes {Z} job b count is classes positions rows placed long are = rec
         → (hit : (hits : ℕ → Bool) × AreHits job class hits)
         × AreGroupsIn count hit.0 0 (64 * blocks (length job.tests.tests)) row.items
     own class row lt at =
-        let h = class_hits job b class lt in
+        let h = some_hits job b class lt in
         (h, are.each h.0 (slice_index positions class) class row (there class lt) at h.1)

@@ -1,5 +1,5 @@
 -- Counts on the first tests of a list, and those that a run keeps.
-use Rattle.std.proofs.Common.{◌≡◌, ◌<◌, ◌≤◌, ◌+◌, ◌-◌, ◌*◌, ℕ, suc, Bool, List, length, map, max}
+use Rattle.std.proofs.Common.{◌≡◌, ◌<◌, ◌≤◌, ◌+◌, ◌-◌, ◌*◌, ℕ, suc, Bool, List, length, map}
 use Rattle.std.proofs.Common.{min, Option, None, ap, ◌∙◌, arith, cond, refl, subst}
 use Rattle.std.specs.Prelude.{Some, count_by, nat_lt, slice_get, slice_index}
 use Rattle.std.specs.Bool.{Decides}
@@ -15,8 +15,8 @@ use Rattle.patterns.specs.Tests.{blocks}
 use Rattle.block_sim.specs.Parts.{BelongTogether, Parts}
 use Rattle.flat_circuit.proofs.Public.{representative_at}
 use Rattle.block_sim.proofs.Public.{which_detect}
-use Rattle.region_sim.specs.Goals.{AreHits, IsFirstHit}
-use Rattle.region_runs.specs.Tasks.{AreKept, IsOpenAtFirst, first_tests, task_of}
+use Rattle.region_sim.specs.Goals.{IsFirstHit}
+use Rattle.region_runs.specs.Tasks.{AreKept, first_tests, task_of}
 use Rattle.n_detect.specs.CountLaws.{count_more, count_none, count_parts}
 use Rattle.n_detect.specs.Detections.{AreCountsAt, IsClassCount}
 use Rattle.n_detect.specs.HitCounts.{IsHitCount, one_of}
@@ -64,17 +64,20 @@ module _ (job : Parts) (most class tests count : ℕ) (b : BelongTogether job)
       let all = all_blocks job.circuit job.tests.tests fault.0 which.0 which.1 tests done in
       counted_by (so_far ∙ ap (min most) all)
 
--- a class has hits
-pub class_hits : (job : Parts) → BelongTogether job → (class : ℕ)
-    → class < length job.classes.representative → (hits : ℕ → Bool) × AreHits job class hits
-class_hits job b class lt =
-    let k = within_place job.classes.representative class lt in
-    let r = representative_at job.list.model job.circuit job.classes class k.0 b.classes k.1 in
-    let w = which_detect job.list.model job.circuit job.tests.tests class r.0
-    b.circuit.well_formed r.2 in
-    (w.0, (r.0, r.2, w.1))
+-- what a run for counts keeps of a class is its count
+pub count_kept : (job : Parts) (most : ℕ) (classes kept : List ℕ) → BelongTogether job
+    → AreKept (task_of job 0 (λ n. nat_lt n most) (IsHitCount most)) classes kept
+    → (k class n : ℕ) → class < length job.classes.representative
+    → slice_get classes k ≡ Some class → slice_get kept k ≡ Some n → IsClassCount job most class n
+count_kept job most classes kept b are k class n lt at is =
+    counted_before job most class (64 * blocks (length job.tests.tests)) n b lt (omega arith)
+    (λ r detects of decides.
+    let whole : 64 * blocks (length job.tests.tests) - 0 ≡ 64 * blocks (length job.tests.tests) =
+    omega arith in
+    are.each detects k class n at is (r, of, decides)
+    ∙ ap (λ m. min most (count_by detects (below m))) whole)
 
--- what a run for counts keeps of all classes is the count of each at its position
+-- so it is at the position of each class
 pub counts_at : (job : Parts) (most : ℕ) (classes positions kept : List ℕ) → BelongTogether job
     → ArePositions classes positions → length positions ≡ length job.classes.representative
     → AreKept (task_of job 0 (λ n. nat_lt n most) (IsHitCount most)) classes kept
@@ -87,33 +90,9 @@ counts_at job most classes positions kept b placed long are = record {
       let count = are.count in
       omega (arith, low, count);
   each = λ class n lt is.
-      let at = placed.each class (omega (arith, lt, long)) in
-      counted_before job most class (64 * blocks (length job.tests.tests)) n b lt (omega arith)
-      (λ r detects of decides.
-      let whole : 64 * blocks (length job.tests.tests) - 0 ≡ 64 * blocks (length job.tests.tests) =
-      omega arith in
-      are.each detects (slice_index positions class) class n at is (r, of, decides)
-      ∙ ap (λ m. min most (count_by detects (below m))) whole);
+      count_kept job most classes kept b are (slice_index positions class) class n lt
+      (placed.each class (omega (arith, lt, long))) is;
 }
-
--- a count up to a number, of one up to a greater one
-pub fewer : (job : Parts) (most class n : ℕ) → IsClassCount job (max most 1) class n
-    → IsClassCount job most class (min most n)
-fewer job most class n is = record {
-  fault = is.fault;
-  of = is.of;
-  count = record {
-    detects = is.count.detects;
-    decides = is.count.decides;
-    number = omega (arith, is.count.number);
-  };
-}
-
--- no class has a first test at first
-pub first_open : (job : Parts) → IsOpenAtFirst (first_tests job)
-first_open job None hits at h = refl
-first_open job (Some t) hits at h =
-    let low = h.0 in let high = h.1 in absurd (omega (arith, low, high))
 
 -- one hit at least, if there is a first one
 one_hit : (hits : ℕ → Bool) (low high : ℕ) (first : Option ℕ) → IsFirstHit hits low high first
@@ -135,15 +114,17 @@ one_hit hits low high (Some t) h =
     let here : number (hits t) ≡ 1 = ap number h.2 in
     omega (arith, whole, both, moved, own, here)
 
--- counts up to 1 of all classes, from their first tests
-pub ones_kept : (job : Parts) (classes : List ℕ) (firsts : List (Option ℕ))
-    → AreKept (first_tests job) classes firsts
-    → AreKept (task_of job 0 (λ n. nat_lt n 1) (IsHitCount 1)) classes (map one_of firsts)
-ones_kept job classes firsts are = record {
-  count = length-map firsts one_of ∙ are.count;
+-- counts up to 1, from the first tests of classes
+pub ones_kept : (job : Parts) (most : ℕ) (classes : List ℕ) (firsts : List (Option ℕ))
+    → most ≤ 1 → AreKept (first_tests job) classes firsts
+    → AreKept (task_of job 0 (λ n. nat_lt n most) (IsHitCount most)) classes
+    (map (λ first. min most (one_of first)) firsts)
+ones_kept job most classes firsts few are = record {
+  count = length-map firsts (λ first. min most (one_of first)) ∙ are.count;
   each = λ hits k class one ec ek h.
-      let x = from_mapped one_of firsts k one ek in
-      subst (IsHitCount 1 hits 0 (64 * blocks (length job.tests.tests))) x.2
-      (one_hit hits 0 (64 * blocks (length job.tests.tests)) x.0
-      (are.each hits k class x.0 ec x.1 h));
+      let x = from_mapped (λ first. min most (one_of first)) firsts k one ek in
+      let own = one_hit hits 0 (64 * blocks (length job.tests.tests)) x.0
+      (are.each hits k class x.0 ec x.1 h) in
+      subst (IsHitCount most hits 0 (64 * blocks (length job.tests.tests))) x.2
+      (omega (arith, own, few));
 }

@@ -1,6 +1,6 @@
 -- The tests of a group that detect the classes of a list.
-use Rattle.std.specs.Prelude.{◌≡◌, ◌+◌, ◌*◌, ◌<◌, ◌≤◌, ℕ, All, Bool, List, Some, length, map}
-use Rattle.std.specs.Prelude.{slice_get, slice_index_or, true}
+use Rattle.std.specs.Prelude.{◌≡◌, ◌+◌, ◌*◌, ◌<◌, ◌≤◌, ℕ, Bool, List, Some, length, slice_get}
+use Rattle.std.specs.Prelude.{true}
 use Rattle.std.specs.Bool.{Decides}
 use Rattle.fault_model.specs.Collapse.{representatives}
 use Rattle.fault_model.specs.Detection.{DetectsAt}
@@ -8,8 +8,6 @@ use Rattle.fault_model.specs.Fault.{Fault}
 use Rattle.flat_circuit.specs.Words.{lane}
 use Rattle.flat_circuit.specs.declared.origin.ListedClass.{ListedClass}
 use Rattle.block_sim.specs.Parts.{Parts}
-use Rattle.counting_sort.specs.SortedPlaces.{ArePositions}
-use Rattle.counting_sort.specs.declared.SortedPlaces.{SortedPlaces}
 
 -- the lanes of a word that are 1 are the lanes whose test of the group detects the representative
 -- of the class
@@ -36,13 +34,3 @@ pub record AreListLanes (job : Parts) (group : ℕ) (classes words : List ℕ) :
   pub count : length words ≡ length classes
   pub each : (k class word : ℕ) → slice_get classes k ≡ Some class
       → slice_get words k ≡ Some word → AreGroupLanes job group class word
-
--- the places of a list of this length in an order, each of them once
-pub record IsOrderOf (count : ℕ) (order : SortedPlaces) : Type 0 where
-  pub long : length order.places.items ≡ count
-  pub within : All (λ place. place < count) order.places.items
-  pub positions : ArePositions order.places.items order.positions.items
-
--- the numbers of a list at these places, one after the other
-abbrev pub numbers_at : List ℕ → List ℕ → List ℕ
-numbers_at numbers places = map (λ place. slice_index_or numbers place 0) places

@@ -1,18 +1,19 @@
 //! The number of tests that detect a class, as the goal of a simulation.
 
-ghost use Rattle.std.specs.Prelude.{◌≡◌, ◌^◌, ◌≤◌, ◌<◌, min, nat_lt, true};
+ghost use Rattle.std.specs.Prelude.{◌≡◌, ◌^◌, ◌≤◌, ◌<◌, IfOk, map, min, nat_lt, true};
 ghost use Rattle.n_detect.specs.CountLaws.{count_agrees, count_stays, count_unchanged};
-ghost use Rattle.n_detect.specs.HitCounts.{IsHitCount};
+ghost use Rattle.n_detect.specs.HitCounts.{IsHitCount, one_of};
 
 use region_runs::WindowGoal;
 use region_sim::Goal;
 use std::alloc::{AllocError, Global};
 
-/// The number of tests that detect a class, counted up to a number.
+/// The number of tests that detect a class, counted up to a number. A class is open until its count
+/// is this number.
 #[derive(Clone, Copy)]
-pub(crate) struct Count {
+pub struct Count {
     /// The number at which a count ends.
-    pub(crate) most: u32,
+    pub most: u32,
 }
 
 impl Goal for Count {
@@ -63,9 +64,29 @@ impl WindowGoal for Count {
 
 /// Returns the lesser of two numbers.
 #[inline(always)]
-pub(crate) fn least(one: u32, other: u32) -> u32
+fn least(one: u32, other: u32) -> u32
     ensures least { result ≡ min one other }
     ensures fits { one < 2 ^ 32 }
 {
     one.min(other)
+}
+
+/// Returns for each first test the count of the tests, up to `most`, which is 0 or 1.
+pub fn ones_of(alloc: Global, firsts: &[Option<u32>], most: u32) -> Result<Vec<u32>, AllocError>
+    ensures { IfOk result (λ ones. ones.items ≡ map (λ first. min most (one_of first)) firsts.now) }
+{
+    firsts
+        .iter()
+        .map(|first| one_of(*first, most))
+        .collect(alloc)
+}
+
+/// Returns 1, or `most` if that is less, if there is a first test, and 0 if not.
+fn one_of(first: Option<u32>, most: u32) -> u32
+    ensures { result ≡ min most (one_of first) }
+{
+    match first {
+        Some(_test) => most.min(1),
+        None => 0,
+    }
 }

@@ -24,8 +24,8 @@ pub struct ClassTests {
 }
 
 /// Returns the tests that detect each class of a job. The run is one in `parts` parts
-/// ([`run_goal`]), under a gate that lets each piece pass. Beside the rooms of the workers it takes 16 bytes for each class and group of
-/// 128 tests.
+/// ([`run_goal`]), under a gate that lets each piece pass. Beside the rooms of the workers it takes
+/// 16 bytes for each class and group of 128 tests.
 ///
 /// # Errors
 ///

@@ -1,11 +1,10 @@
 //! Counts of the tests that detect each fault.
 
-ghost use Rattle.std.specs.Prelude.{◌≡◌, ◌<◌, ◌≤◌, IfErr, IfOk, OnOk, length, map, max};
+ghost use Rattle.std.specs.Prelude.{◌≡◌, ◌<◌, ◌≤◌, IfErr, IfOk, OnOk, length};
 ghost use Rattle.region_runs.specs.Refused.{IsOpenFault};
 ghost use Rattle.n_detect.specs.Detections.{AreCounts, AreCountsAt, IsClassCount};
-ghost use Rattle.n_detect.specs.HitCounts.{one_of};
 
-use crate::count::{Count, least};
+use crate::count::{Count, ones_of};
 use region_runs::{RunJob, Watch};
 use region_sim::FirstTest;
 use std::alloc::{AllocError, Global};
@@ -46,7 +45,7 @@ pub fn detections<G: Watch + Sync, R: Threads + Wait>(
     let _tests = run.tests();
     if most < 2 {
         let done = run.run_goal(rt, alloc, parts, workers, &FirstTest, gate)?;
-        let ones = ones_of(alloc, done.kept.as_slice())?;
+        let ones = ones_of(alloc, done.kept.as_slice(), most)?;
         let positions = done.positions.as_slice();
         let counts = by_fault(alloc, run, most, positions, ones.as_slice())?;
         return Ok(counts);
@@ -55,24 +54,6 @@ pub fn detections<G: Watch + Sync, R: Threads + Wait>(
     let positions = done.positions.as_slice();
     let counts = by_fault(alloc, run, most, positions, done.kept.as_slice())?;
     Ok(counts)
-}
-
-/// Returns 1 for each class that a test detects, and 0 for each other, from the first tests of the
-/// classes.
-fn ones_of(alloc: Global, firsts: &[Option<u32>]) -> Result<Vec<u32>, AllocError>
-    ensures { IfOk result (λ ones. ones.items ≡ map one_of firsts.now) }
-{
-    firsts.iter().map(|first| one_of(*first)).collect(alloc)
-}
-
-/// Returns 1 if there is a first test, and 0 if not.
-fn one_of(first: Option<u32>) -> u32
-    ensures { result ≡ one_of first }
-{
-    match first {
-        Some(_test) => 1,
-        None => 0,
-    }
 }
 
 /// Returns the count of each fault, which is the count of its class. Each class has its count at
@@ -84,7 +65,7 @@ fn by_fault(
     positions: &[u32],
     kept: &[u32],
 ) -> Result<Vec<u32>, AllocError>
-    requires { AreCountsAt run.now.parts (max most 1) positions.now kept.now }
+    requires { AreCountsAt run.now.parts most positions.now kept.now }
     ensures { IfOk result (λ counts. AreCounts run.now.parts.list.model run.now.parts.circuit
         run.now.parts.tests.tests most counts.items) }
 {
@@ -102,9 +83,9 @@ fn by_fault(
 /// Returns the count of a class.
 fn count_of(run: &RunJob, most: u32, positions: &[u32], kept: &[u32], class: u32) -> u32
     requires class { class < length run.now.parts.classes.representative }
-    requires counted { AreCountsAt run.now.parts (max most 1) positions.now kept.now }
+    requires counted { AreCountsAt run.now.parts most positions.now kept.now }
     ensures { IsClassCount run.now.parts most class result }
 {
-    let _run = run;
-    least(most, kept[positions[class as usize] as usize])
+    let (_run, _most) = (run, most);
+    kept[positions[class as usize] as usize]
 }

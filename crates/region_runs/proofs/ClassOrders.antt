@@ -1,8 +1,8 @@
 -- The classes of a part, in the order of all classes.
-use Rattle.std.proofs.Common.{◌≡◌, ◌<◌, ◌≤◌, ◌+◌, ◌⊎◌, inl, inr, ℕ, zero, suc, true, false}
+use Rattle.std.proofs.Common.{◌≡◌, ◌<◌, ◌≤◌, ◌+◌, ◌⊎◌, inl, inr, ℕ, zero, suc}
 use Rattle.std.proofs.Common.{List, [], ◌∷◌, ◌++◌, length, Some, None, refl, sym, ap}
 use Rattle.std.proofs.Common.{◌∙◌, subst, arith, length-append}
-use Rattle.std.specs.Prelude.{Bool, slice_get, filter, cond}
+use Rattle.std.specs.Prelude.{slice_get}
 use Rattle.std.proofs.lemmas.Bool.{cases_lt}
 use Rattle.std.proofs.lemmas.Option.{slice_get_within}
 use Rattle.block_sim.specs.Parts.{Parts}
@@ -34,22 +34,6 @@ kept (z ∷ xs) x y (suc i) e = kept xs x y i e
 at_end : {X : Type 0} (xs : List X) (x : X) → slice_get (xs ++ x ∷ []) (length xs) ≡ Some x
 at_end [] x = refl
 at_end (z ∷ xs) x = at_end xs x
-
--- each class that is to be kept is there
-pub is_kept : {X : Type 0} (p : X → Bool) (xs : List X) (j : ℕ) (x : X) → slice_get xs j ≡ Some x
-    → p x ≡ true → (k : ℕ) × (slice_get (filter p xs) k ≡ Some x)
-is_kept p [] j x e is = let bad : None ≡ Some x = e in absurd (cc)
-is_kept {X} p (y ∷ xs) zero x e is = (
-  0,
-  let same : y ≡ x = cc in
-      ap (λ t. slice_get (cond t (y ∷ filter p xs) (filter p xs)) 0) (ap p same ∙ is) ∙ e,
-)
-is_kept {X} p (y ∷ xs) (suc j) x e is = go (p y) (is_kept p xs j x e is)
-  where
-    go : (t : Bool) → (k : ℕ) × (slice_get (filter p xs) k ≡ Some x)
-        → (k : ℕ) × (slice_get (cond t (y ∷ filter p xs) (filter p xs)) k ≡ Some x)
-    go true h = (suc h.0, h.1)
-    go false h = h
 
 -- ---- the classes of a part
 

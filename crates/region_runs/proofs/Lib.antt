@@ -2,7 +2,6 @@ mod PartsOfClasses
 mod ClassOrders
 mod SumsInOrder
 mod FaultFirsts
-mod ListedRuns
 mod StretchRuns
 mod FirstHits
 mod OpenClasses

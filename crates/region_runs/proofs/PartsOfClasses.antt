@@ -15,21 +15,19 @@ use Rattle.std.proofs.lemmas.Option.{get_or_from_slice_get, slice_get-get_or}
 use Rattle.std.proofs.lemmas.Option.{slice_get_within}
 use Rattle.std.proofs.lemmas.List.{length-map, take_all}
 use Rattle.std.proofs.lemmas.List.Elements.{All-drop, All-take}
-use Rattle.std.proofs.lemmas.List.Sums.{sum_by-cons}
 use Rattle.list_lemmas.proofs.Places.{from_mapped}
 use Rattle.fault_model.specs.Fault.{Fault}
 use Rattle.fault_model.specs.Collapse.{IsClassOf}
 use Rattle.block_sim.specs.Parts.{Parts, BelongTogether}
 use Rattle.workers.specs.Settling.{shape_for}
-use Rattle.workers.specs.Verdict.{AreAfterHits, AreClassFirsts, AreFirsts, blocks_after}
-use Rattle.workers.specs.Verdict.{pieces_after}
+use Rattle.workers.specs.Verdict.{AreClassFirsts, blocks_after}
 use Rattle.workers.proofs.Public.{class_count, class_in}
 use Rattle.region_runs.specs.declared.parts.PartVerdict.{PartVerdict}
 use Rattle.region_runs.specs.declared.parts.PartVerdict.TheVariants.{First, OtherPart}
 use Rattle.region_runs.specs.Part.{AreClassVerdicts, ArePartOf, ArePartVerdicts, IsClassVerdict}
 use Rattle.region_sim.specs.ClassOrder.{AreAllByRegion}
 use Rattle.region_runs.specs.Part.{IsInOnePart, IsOfPart, IsPartVerdict}
-use Rattle.region_runs.specs.Part.{first_in, stretch, stretch_size}
+use Rattle.region_runs.specs.Part.{stretch, stretch_size}
 use Rattle.region_runs.specs.Cut.{IsCutOf}
 use Rattle.region_runs.specs.Tasks.{AreKept, Task}
 use Rattle.region_sim.specs.Goals.{AreHits}
@@ -200,51 +198,7 @@ stretch_within job size part classes are =
     All-take (λ class. class < length job.classes.representative) size (drop (part * size) classes)
     (All-drop (λ class. class < length job.classes.representative) (part * size) classes are)
 
--- the first test in the verdict on a class is the first test of its faults
-pub class_first : (job : Parts) (classes : List ℕ)
-    (firsts : List (Option ℕ)) (table : List PartVerdict) → AreAllByRegion job classes
-    → AreClassFirsts job.list.model job.circuit job.tests.tests classes firsts
-    → AreClassVerdicts (length job.classes.representative) classes firsts (length classes) table
-    → (f : Fault) (class : ℕ) → class < length job.classes.representative
-    → IsClassOf job.list.model job.circuit f class
-    → IsFirst job.circuit job.tests.tests f (first_in (get_or table class OtherPart))
-class_first job classes firsts table all known by f class lt of = go (by.each class lt)
-  where
-    go : IsClassVerdict classes firsts (length classes) class (slice_get table class)
-        → IsFirst job.circuit job.tests.tests f (first_in (get_or table class OtherPart))
-    go (inl x) =
-        subst (λ v. IsFirst job.circuit job.tests.tests f (first_in v))
-        (sym (get_or_from_slice_get table class (First x.1) OtherPart x.5))
-        (known.first x.0 class f x.1 x.3 of x.4)
-    go (inr x) =
-        let y = all.all class lt tt in
-        absurd (x.0 y.0 (slice_get_within classes y.0 class y.1) y.1)
-
--- the first tests of all classes are the first tests of all faults
-pub all_firsts : (job : Parts) (classes : List ℕ)
-    (firsts found : List (Option ℕ)) (table : List PartVerdict) → BelongTogether job
-    → AreAllByRegion job classes
-    → AreClassFirsts job.list.model job.circuit job.tests.tests classes firsts
-    → AreClassVerdicts (length job.classes.representative) classes firsts (length classes) table
-    → found ≡ map (λ class. first_in (get_or table class OtherPart)) job.classes.class_of
-    → AreFirsts job.list.model job.circuit job.tests.tests found
-all_firsts job classes firsts found table b all known by is = record {
-  count = ap (λ (l : List (Option ℕ)). length l) is ∙ length-map job.classes.class_of g
-      ∙ b.classes.count;
-  first = λ i f first at v.
-      let x = from_mapped g job.classes.class_of i first
-      (ap (λ (l : List (Option ℕ)). slice_get l i) (sym is) ∙ v) in
-      let of : IsClassOf job.list.model job.circuit f x.0 = b.classes.class i f x.0 at x.1 in
-      let lt : x.0 < length job.classes.representative = class_in job (shape_for job 1) i x.0 b
-      (record { classes = refl; tests = refl }) x.1 in
-      subst (IsFirst job.circuit job.tests.tests f) x.2
-      (class_first job classes firsts table all known by f x.0 lt of);
-}
-  where
-    g : ℕ → Option ℕ
-    g class = first_in (get_or table class OtherPart)
-
--- so is each verdict of a part that is not of another part
+-- each verdict of a part that is not of another part is the first test of a class of its list
 pub part_verdict_there : (job : Parts) (classes : List ℕ) (firsts : List (Option ℕ))
     (table verdicts : List PartVerdict) → BelongTogether job
     → AreClassVerdicts (length job.classes.representative) classes firsts (length classes) table
@@ -271,37 +225,12 @@ part_verdict_there job classes firsts table verdicts b by is i class first at v 
     go e (inl x) =
         let own = get_or_from_slice_get table class (First x.1) OtherPart x.5 in
         let same : First x.1 ≡ First first = sym own ∙ e in
-        let first_is : x.1 ≡ first = ap first_in same in
+        let first_is : x.1 ≡ first = cc in
         (x.0, x.3, x.4 ∙ ap Some first_is)
     go e (inr x) =
         let own = get_or_from_slice_get table class OtherPart OtherPart x.1 in
         let bad : OtherPart ≡ First first = sym own ∙ e in
         absurd (cc)
-
--- and the pieces after them are after the hits of all classes
-pub all_hits : (job : Parts) (classes : List ℕ)
-    (firsts : List (Option ℕ)) (table : List PartVerdict) (n skipped : ℕ)
-    → AreAllByRegion job classes
-    → AreClassFirsts job.list.model job.circuit job.tests.tests classes firsts
-    → AreClassVerdicts (length job.classes.representative) classes firsts (length classes) table
-    → n ≡ blocks (length job.tests.tests) → skipped ≡ pieces_after n (map first_in table)
-    → AreAfterHits job skipped
-all_hits job classes firsts table n skipped all known by same is = record {
-  firsts = map first_in table;
-  count = length-map table first_in ∙ by.long;
-  first = λ class f first of at.
-      let x = from_mapped first_in table class first at in
-      let lt : class < length job.classes.representative = omega (
-        arith,
-        slice_get_within table class x.0 x.1,
-        by.long,
-      ) in
-      let own : first_in (get_or table class OtherPart) ≡ first =
-      ap first_in (get_or_from_slice_get table class x.0 OtherPart x.1) ∙ x.2 in
-      subst (IsFirst job.circuit job.tests.tests f) own
-      (class_first job classes firsts table all known by f class lt of);
-  number = is ∙ ap (λ k. pieces_after k (map first_in table)) same;
-}
 
 -- the pieces of a class
 behind_le : (n : ℕ) (first : Option ℕ) → blocks_after n first ≤ n
@@ -310,18 +239,6 @@ behind_le n (Some test) = omega arith
 
 pub behind_within : (n r : ℕ) (first : Option ℕ) → r ≡ blocks_after n first → r ≤ n
 behind_within n r first is = omega (arith, is, behind_le n first)
-
--- the classes before one leave room for its own
-pub behind_room : (n : ℕ) (table : List PartVerdict) (i : ℕ) → i < length table
-    → pieces_after n (map first_in (take i table)) + n ≤ length table * n
-behind_room n [] i lt = absurd (omega (arith, lt))
-behind_room n (x ∷ xs) zero lt = omega (arith, suc-mul (length xs) n)
-behind_room n (x ∷ xs) (suc i) lt =
-    let rest = behind_room n xs i (omega (arith, lt)) in
-    let one : pieces_after n (map first_in (take (suc i) (x ∷ xs))) ≡ blocks_after n (first_in x)
-    + pieces_after n (map first_in (take i xs)) = sum_by-cons (blocks_after n) (first_in x)
-    (map first_in (take i xs)) in
-    omega (arith, suc-mul (length xs) n, rest, one, behind_le n (first_in x))
 
 -- a product of two numbers of 32 bits has 64
 pub small_product : (a b : ℕ) → a < 2 ^ 32 → b < 2 ^ 32 → a * b < 2 ^ 64

@@ -52,9 +52,10 @@ looks_up c tests window from end TransitionPairs l b h k of even lt back = (
 )
 
 -- and the other way round, unless the test before isn't in the window
-pub looks_down : (c : List Statement) (tests window : List Test) (from end : ℕ) (m : Model) (l : Line)
-    (b : Bool) (h k : ℕ) → IsWindowOf tests from end window → from ≡ 2 * h → k < length window
-    → (from ≡ 0) ⊎ (0 < k) → LooksBack c tests m l b (from + k) → LooksBack c window m l b k
+pub looks_down : (c : List Statement) (tests window : List Test) (from end : ℕ) (m : Model)
+    (l : Line) (b : Bool) (h k : ℕ) → IsWindowOf tests from end window → from ≡ 2 * h
+    → k < length window → (from ≡ 0) ⊎ (0 < k) → LooksBack c tests m l b (from + k)
+    → LooksBack c window m l b k
 looks_down c tests window from end StuckAt l b h k of even lt after back = tt
 looks_down c tests window from end Transition l b h k of even lt after back =
     initialized_down c tests window from end l b k of lt after back

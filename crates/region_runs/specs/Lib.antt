@@ -5,7 +5,6 @@ pub mod StretchRuns
 pub mod Refused
 pub mod BlockSweeps
 pub mod Stretches
-pub mod ListRunners
 pub mod Windows
 pub mod Joins
 pub mod WindowLedgers

@@ -65,11 +65,6 @@ pub record AreClassVerdicts (count : ℕ) (classes : List ℕ) (firsts : List (O
   pub each : (class : ℕ) → class < count
       → IsClassVerdict classes firsts n class (slice_get verdicts class)
 
--- the first test in a verdict, none in one of another part
-abbrev pub first_in : PartVerdict → Option ℕ
-first_in (First first) = first
-first_in OtherPart = None
-
 -- the verdict on a fault of a class: its first test if the class is in the part
 abbrev pub IsPartVerdict : Parts → ℕ → ℕ → ℕ → Fault → PartVerdict → Type 0
 IsPartVerdict job parts part class f (First first) =

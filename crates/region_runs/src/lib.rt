@@ -7,17 +7,17 @@
 //! of the workers.
 //!
 //! [`run_in_parts`] runs all classes in some number of stretches, and [`run_open`] in a number that
-//! suits the workers. [`run_goal`] runs them for any [`region_sim::Goal`]. [`run_in_windows`] does so
-//! on some blocks at a time, and a [`RunJob`] as its tests want it, under a gate that may observe the
-//! run ([`Watch`]). [`run_part`] runs the classes of one part of a run that several machines share,
-//! and [`RunJob::read_words`] reads the fault-free words. A [`ListRunner`] runs lists of classes in
-//! its caller's thread.
+//! suits the workers. [`run_goal`] runs them for any [`region_sim::Goal`]. [`run_in_windows`] does
+//! so on some blocks at a time, and a [`RunJob`] as its tests want it, under a gate that may
+//! observe the run ([`Watch`]). [`run_part`] runs the classes of one part of a run that several
+//! machines share, and [`RunJob::read_words`] reads the fault-free words. [`run_alone`] runs a list
+//! of classes in the thread of its caller.
 #![tactic(auto)]
 
+mod alone;
 mod class_order;
 mod fault_firsts;
 mod goal_run;
-mod list_runner;
 mod open_classes;
 mod open_run;
 mod part_run;
@@ -31,14 +31,15 @@ mod window_goal;
 mod windows;
 mod word_reader;
 
+pub use alone::run_alone;
 pub use goal_run::{GoalRun, run_goal};
-pub use list_runner::ListRunner;
+pub use open_classes::all_open;
 pub use open_run::{run_classes, run_open};
 pub use part_run::run_part;
-pub use parts::{LedgerRun, PartVerdict, in_one_part, part_of, run_in_parts, run_over_ledger};
+pub use parts::{PartVerdict, in_one_part, part_of, run_in_parts};
 pub use run_job::RunJob;
 pub use stretches::{parts_for, stretches_for};
 pub use watch::{ReasonCounts, Watch};
 pub use window_goal::WindowGoal;
-pub use windows::{WindowRun, run_goal_in_windows, run_in_windows, window_blocks};
+pub use windows::{WindowRun, run_in_windows, window_blocks};
 pub use word_reader::WordReader;

@@ -6,8 +6,9 @@ ghost use Rattle.region_sim.specs.OpenPlaces.{AreSuccessors};
 
 use std::alloc::{AllocError, Global};
 
-/// Returns for each of some places the one after it.
-pub(crate) fn all_open(alloc: Global, places: usize) -> Result<Vec<usize>, AllocError>
+/// Returns for each of some places the one after it, which is the next one of a list in which all
+/// classes may be open.
+pub fn all_open(alloc: Global, places: usize) -> Result<Vec<usize>, AllocError>
     requires { places < 2 ^ 63 }
     ensures count { IfOk result (λ next. length next.items ≡ places) }
     ensures next { IfOk result (λ next. AreSuccessors next.items) }

@@ -1,17 +1,16 @@
 //! Runs over a part of the classes, and over all parts.
 
-ghost use Rattle.std.specs.Prelude.{◌≡◌, ◌⊎◌, ◌<◌, ◌≤◌, ◌^◌, ◌++◌, ℕ, All, IfErr, IfOk, List};
+ghost use Rattle.std.specs.Prelude.{◌≡◌, ◌⊎◌, ◌<◌, ◌≤◌, ◌++◌, ℕ, All, IfErr, IfOk, List};
 ghost use Rattle.std.specs.Prelude.{OnOk, Some, length, map, slice_index_or, vec_len};
 ghost use Rattle.patterns.specs.Tests.{blocks, max_pieces};
 ghost use Rattle.block_sim.specs.Parts.{BelongTogether, Parts};
 ghost use Rattle.fault_ledger.specs.Seats.{ClosedFace, Closes, Sitter, newcomers};
 ghost use Rattle.workers.specs.Verdict.{AreAfterHits, AreFirsts};
-ghost use Rattle.workers.specs.Verdict.{blocks_after, pieces_after};
 ghost use Rattle.region_runs.specs.StretchRuns.{AreAllKept, AreAllLowest, AreGivenBack, ArePut};
 ghost use Rattle.region_runs.specs.StretchRuns.{IsLowest, IsLowestAt, IsLowestIn, WaitsIn, run_at};
 ghost use Rattle.region_runs.specs.StretchRuns.{runs_from};
 ghost use Rattle.region_runs.specs.Part.{AreClassVerdicts, IsInOnePart};
-ghost use Rattle.region_runs.specs.Part.{IsOfPart, first_in, stretch, stretch_count, stretch_size};
+ghost use Rattle.region_runs.specs.Part.{IsOfPart, stretch, stretch_count, stretch_size};
 ghost use Rattle.region_runs.specs.Cut.{IsCutOf};
 ghost use Rattle.region_runs.specs.Refused.{ArePartsWithin, IsPartsFault};
 ghost use Rattle.region_runs.specs.Refused.{IsStretchesFault};
@@ -100,41 +99,12 @@ pub(crate) fn of_faults(
 }
 
 /// Returns the verdict of a class, from the verdicts of all classes.
-pub(crate) fn verdict_on(by_class: &[PartVerdict], class: u32) -> PartVerdict
+fn verdict_on(by_class: &[PartVerdict], class: u32) -> PartVerdict
     ensures { result ≡ slice_index_or by_class.now class PartVerdict.OtherPart }
 {
     match by_class.get(class as usize) {
         Some(verdict) => *verdict,
         None => PartVerdict::OtherPart,
-    }
-}
-
-/// Returns the first test of each fault, which is the first test of its class.
-pub(crate) fn firsts_of_faults(
-    alloc: Global,
-    job: &Job,
-    by_class: &[PartVerdict],
-) -> Result<Vec<Option<u32>>, AllocError>
-    ensures firsts { IfOk result (λ firsts. firsts.items
-        ≡ map (λ class. first_in (slice_index_or by_class.now class PartVerdict.OtherPart))
-        job.now.classes.class_of) }
-    ensures few { IfOk result (λ firsts. length firsts.items < 2 ^ 32) }
-{
-    let classes = job.classes();
-    let mut firsts = Vec::with_capacity(alloc, job.faults().count() as usize)?;
-    for fault in 0..job.faults().count() {
-        firsts.push(first_in(verdict_on(by_class, classes.class_of(fault))))?;
-    }
-    Ok(firsts)
-}
-
-/// Returns the first test in a verdict; none if the fault is in another part.
-pub(crate) fn first_in(verdict: PartVerdict) -> Option<u32>
-    ensures { result ≡ first_in verdict }
-{
-    match verdict {
-        PartVerdict::First(first) => first,
-        PartVerdict::OtherPart => None,
     }
 }
 
@@ -148,8 +118,8 @@ pub(crate) fn first_in(verdict: PartVerdict) -> Option<u32>
 /// A part is here a stretch of the list of all classes, region by region in the order of the
 /// visits. So the data that a worker reads for one region are near to the data for the next. With n
 /// classes a stretch has n divided by the number of parts, rounded up; the last ones have fewer, or
-/// none. The parts of [`crate::run_part`] instead depend on the stems, by a rule that a part file names,
-/// so that other machines make the same parts.
+/// none. The parts of [`crate::run_part`] instead depend on the stems, by a rule that a part file
+/// names, so that other machines make the same parts.
 ///
 /// # Errors
 ///
@@ -180,50 +150,6 @@ pub fn run_in_parts<G: Gate + Sync, R: Threads + Wait>(
     ensures refused { IfErr result (IsPartsFault job.now parts workers (G.passing gate.now)
         (G.stops gate.now)) }
 {
-    let run = run_over_ledger(rt, alloc, job, parts, workers, gate)?;
-    let LedgerRun {
-        verdicts,
-        ledger: _ledger,
-    } = run;
-    Ok(verdicts)
-}
-
-/// The result of a run in parts: the verdicts, and the closed ledger that handed out the parts.
-#[derive(Drop)]
-pub struct LedgerRun {
-    /// The verdicts.
-    pub verdicts: Verdicts,
-    /// The ledger, whose classes are the parts that have a class of the job, each with one block. A
-    /// part is Clear in it once all its classes are settled.
-    pub ledger: Closed,
-}
-
-/// Runs all classes of a job as [`run_in_parts`] does, and returns the closed ledger of the parts
-/// beside the verdicts. The ledger shows a finished history, in which each report stands for a part
-/// whose classes have these first tests.
-///
-/// # Errors
-///
-/// The errors of [`run_in_parts`].
-pub fn run_over_ledger<G: Gate + Sync, R: Threads + Wait>(
-    rt: &R,
-    alloc: Global,
-    job: &Job,
-    parts: u32,
-    workers: u32,
-    gate: &G,
-) -> Result<LedgerRun, RunFault>
-    requires { 0 < parts }
-    ensures firsts { IfOk result (λ run.
-        AreFirsts job.now.list.model job.now.circuit job.now.tests.tests run.verdicts.firsts) }
-    ensures skipped { IfOk result (λ run. AreAfterHits job.now run.verdicts.skipped) }
-    ensures workers { OnOk result ((0 < workers) × (workers ≤ 64)) }
-    ensures within { OnOk result (ArePartsWithin job.now parts) }
-    ensures stretches { IfOk result (λ run.
-        IsOfStretches job.now parts workers run.verdicts run.ledger) }
-    ensures refused { IfErr result (IsPartsFault job.now parts workers (G.passing gate.now)
-        (G.stops gate.now)) }
-{
     check_workers(workers)?;
     let count = job.classes().count();
     check_pieces(job, count.div_ceil(parts))?;
@@ -232,35 +158,12 @@ pub fn run_over_ledger<G: Gate + Sync, R: Threads + Wait>(
         classes: _classes,
         positions,
         kept: firsts,
-        ledger,
+        ledger: _ledger,
     } = done;
     let ordered = OrderedFirsts { positions, firsts };
     let blocks = job.tests().blocks();
     let verdicts = verdicts_in(rt, alloc, job, &ordered, blocks, workers)?;
-    Ok(LedgerRun { verdicts, ledger })
-}
-
-/// Returns the number of pieces after the first hits of all classes.
-pub(crate) fn skipped_after(by_class: &[PartVerdict], blocks: u32) -> u64
-    requires { length by_class.now < 2 ^ 32 }
-    ensures { result ≡ pieces_after blocks (map first_in by_class.now) }
-{
-    let mut skipped = 0;
-    for verdict in by_class {
-        let more = blocks_after(*verdict, blocks);
-        skipped += u64::from(more);
-    }
-    skipped
-}
-
-/// Returns the number of blocks after the block of a first hit, none if no test detects.
-fn blocks_after(verdict: PartVerdict, blocks: u32) -> u32
-    ensures { result ≡ blocks_after blocks (first_in verdict) }
-{
-    match verdict {
-        PartVerdict::First(Some(test)) => blocks.saturating_sub(test / 64 + 1),
-        PartVerdict::First(None) | PartVerdict::OtherPart => 0,
-    }
+    Ok(verdicts)
 }
 
 /// Puts the results of a worker at the places of its parts.

@@ -223,8 +223,8 @@ impl RunJob {
         }
     }
 
-    /// Runs a list of classes for a goal. If the tests are the job's own, workers claim stretches of
-    /// the list at a ledger that all share ([`run_list_for`]). If not, it runs window by window,
+    /// Runs a list of classes for a goal. If the tests are the job's own, workers claim stretches
+    /// of the list at a ledger that all share ([`run_list_for`]). If not, it runs window by window,
     /// under a gate that lets each piece pass ([`run_windows`]).
     pub(crate) fn run_list<A: WindowGoal + Sync, R: Threads + Wait, G: Gate + Sync>(
         &mut self,

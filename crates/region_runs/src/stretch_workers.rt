@@ -16,13 +16,12 @@ ghost use Rattle.region_runs.specs.Cut.{IsCutOf};
 ghost use Rattle.region_runs.specs.Stretches.{AfterRun, AreServed, ClaimsStretch, HasServed};
 ghost use Rattle.region_runs.specs.Stretches.{SeesAllClaimed};
 
-use crate::open_classes::all_open;
-use crate::stretch_run::{Stop, Waiting, lowest_open, run_list};
+use crate::alone::{Ended, run_from};
+use crate::stretch_run::{Stop, Waiting, lowest_open};
 use crate::stretches::Cut;
 use block_sim::Job;
 use fault_ledger::{Claim, Seat, SharedLedger};
 use patterns::Outcome;
-use region_sim::class_order::rows_of;
 use region_sim::{Goal, RegionSimulation};
 use std::alloc::{AllocError, Global};
 use std::snapshot::Snapshot;
@@ -65,7 +64,7 @@ impl Member {
 }
 
 /// Lets a worker simulate a part by itself.
-pub(crate) fn run_alone<A: Goal, G: Gate>(
+pub(crate) fn run_stretch<A: Goal, G: Gate>(
     alloc: Global,
     job: &Job,
     cut: &Cut,
@@ -85,19 +84,11 @@ pub(crate) fn run_alone<A: Goal, G: Gate>(
     ensures serves { ServesRegions member.new.simulation job.now 0 }
 {
     let own = cut.stretch(part);
-    member.simulation.make_room(own.len())?;
-    let rows = rows_of(alloc, job, own)?;
-    let mut kept = starts(alloc, goal, own.len())?;
-    let mut open = all_open(alloc, own.len())?;
     let worker = member.number;
-    let simulation = &mut member.simulation;
-    let listed = rows.as_slice();
-    let next = open.as_mut_slice();
-    let found = kept.as_mut_slice();
     let from = cut.from;
-    let stop = run_list(
-        job, from, listed, worker, simulation, goal, gate, next, found,
-    );
+    let simulation = &mut member.simulation;
+    let ended = run_from(alloc, job, from, own, worker, simulation, goal, gate)?;
+    let Ended { kept, stop } = ended;
     let waiting = match stop {
         Some(stop) => lowest_open(job, own, from, stop, goal, kept.as_slice()),
         None => None,
@@ -226,7 +217,7 @@ fn run_held<A: Goal, G: Gate>(
     ensures member { member.new.number ≡ member.old.number }
     ensures serves { ServesRegions member.new.simulation job.now 0 }
 {
-    let done = run_alone(alloc, job, cut, part, member, goal, gate)?;
+    let done = run_stretch(alloc, job, cut, part, member, goal, gate)?;
     if done.waiting.is_none() {
         report_done(ledger, seat);
     }

@@ -489,7 +489,7 @@ pub struct WindowRun<K> {
 /// [`RunFault::NoWorkers`]; [`RunFault::TooManyWorkers`] above 64 workers; [`RunFault::Memory`] or
 /// [`RunFault::Threads`] if memory runs out or a thread doesn't start. The job then has its own
 /// tests, those of some window, or none.
-pub fn run_goal_in_windows<A: WindowGoal + Sync, G: Gate + Sync, R: Threads + Wait>(
+pub(crate) fn run_goal_in_windows<A: WindowGoal + Sync, G: Gate + Sync, R: Threads + Wait>(
     rt: &R,
     alloc: Global,
     job: &mut Job,

@@ -1,21 +1,17 @@
 //! Runs in threads, over pieces and over parts. The gates of most hold workers until others have
 //! come, so the workers run at the same time.
 
-ghost use Rattle.std.specs.Prelude.{◌↔◌, ◌<◌, All, IsTrue};
-ghost use Rattle.region_runs.specs.ListRunners.{ServesLists};
-
 use crate::checks::check;
 use crate::worker::fixtures::{BUFFER, C17, C17_FIRSTS, JobText, has_firsts, job_of};
 use crate::worker::gates::{Plan, Planned};
 use block_sim::Job;
 use fault_model::Model;
-use region_runs::{ListRunner, run_in_parts};
-use std::alloc::{AllocError, Global};
+use region_runs::run_in_parts;
+use std::alloc::Global;
 use std::process::Abort;
 use std::sync::Wait;
 use std::thread::Threads;
 use std::time::Clock;
-use worked_circuits::C17_TEXT;
 use workers::{OpenGate, RunFault, run};
 
 /// Returns whether a run of a job has these verdicts, by workers in threads with a gate of this
@@ -104,47 +100,6 @@ fn names_the_last<R: Threads + Wait + Clock + Sync>(rt: &R, alloc: Global, job: 
     run_in_parts(rt, alloc, job, 3, 3, &gate).err() == waiting
 }
 
-/// Returns whether all are below the number of classes.
-fn are_classes(classes: &[u32], count: u32) -> bool
-    ensures { IsTrue result ↔ All (λ class. class < count) classes.now }
-{
-    classes.iter().all(|class| *class < count)
-}
-
-/// Returns whether a runner finds these first tests of classes of a job.
-fn finds(
-    runner: &mut ListRunner,
-    alloc: Global,
-    job: &Job,
-    classes: &[u32],
-    firsts: &[Option<u32>],
-) -> Result<bool, AllocError>
-    requires { ServesLists runner.old job.now }
-    ensures { ServesLists runner.new job.now }
-{
-    if !are_classes(classes, job.classes().count()) {
-        return Ok(false);
-    }
-    let found = runner.first_tests(alloc, job, classes)?;
-    Ok(found.as_slice() == firsts)
-}
-
-/// Returns whether a runner finds the first tests of three classes of C17, and then the verdicts.
-/// No test detects class 0, the class of G1 sa1. The second pieces of the eight classes that ones
-/// detect are skipped.
-fn runs_a_list(alloc: Global, job: &Job) -> Result<bool, AllocError> {
-    let mut runner = ListRunner::new(alloc, job)?;
-    let is_found = finds(
-        &mut runner,
-        alloc,
-        job,
-        &[21, 0, 1],
-        &[Some(0), None, Some(64)],
-    )?;
-    let verdicts = runner.verdicts(alloc, job)?;
-    Ok(is_found && verdicts.detected() == 19 && verdicts.skipped() == 8)
-}
-
 /// Returns whether a run of one worker skips a single piece of a job.
 fn skips_one<R: Threads + Wait>(rt: &R, alloc: Global, job: &Job) -> Result<bool, RunFault> {
     let verdicts = run(rt, alloc, job, 1, &OpenGate)?;
@@ -165,7 +120,6 @@ enum Running {
     /// Do runs leave pieces open, and does one find these first tests afterwards?
     AreLeftOpen(Firsts),
     NamesTheLast,
-    RunsAList,
     SkipsOne,
 }
 
@@ -193,7 +147,7 @@ const TWO_BLOCKS: JobText = JobText {
 /// The first tests of the faults of that buffer.
 const BUFFER_FIRSTS: [Option<u32>; 4] = [Some(64), Some(0), Some(64), Some(0)];
 
-static CASES: [Case; 12] = [
+static CASES: [Case; 11] = [
     Case {
         name: "two_workers_hold_a_piece_at_once",
         job: ONE_ZERO,
@@ -265,18 +219,6 @@ static CASES: [Case; 12] = [
         job: C17,
         question: Running::NamesTheLast,
     },
-    // C17 with 64 tests of ones, which are block 0, and one of zeros, which is test 64. Under zeros
-    // G10, G11, G16 and G19 are 1, and the outputs are 0. So zeros detect the classes of G2 sa1, G7
-    // sa1 and G22 sa1, which ones don't: classes 1, 7 and 19.
-    Case {
-        name: "a_list_and_then_all_faults",
-        job: JobText {
-            model: Model::StuckAt,
-            bench: C17_TEXT,
-            rows: &[("11111", 64), ("00000", 1)],
-        },
-        question: Running::RunsAList,
-    },
     // The worker claims class 0, of `z` stuck at 0, and class 1 on block 0 and then both on block
     // 1. Each test is 1, so it reports a hit of class 0 and class 1 as clear. On block 1 it drops
     // class 0, after that hit, and reports class 1 as clear: one piece of four is skipped.
@@ -310,7 +252,6 @@ fn is_so<R: Threads + Wait + Clock + Sync>(
             are_left_open(rt, alloc, job) && runs_again(rt, alloc, job, firsts) == Ok(true)
         }
         Running::NamesTheLast => names_the_last(rt, alloc, job),
-        Running::RunsAList => runs_a_list(alloc, job) == Ok(true),
         Running::SkipsOne => skips_one(rt, alloc, job) == Ok(true),
     }
 }

@@ -1,4 +1,5 @@
-use Rattle.std.proofs.Common.{◌≡◌, ◌+◌, ◌*◌, ◌∙◌, ℕ, All, List, ap, arith, inl, inr, length, subst, sym}
+use Rattle.std.proofs.Common.{◌≡◌, ◌+◌, ◌*◌, ◌∙◌, ℕ, All, List, ap, arith, inl, inr, length, subst}
+use Rattle.std.proofs.Common.{sym}
 use Rattle.patterns.specs.Making.{IsMadeOf, IsWordsRefusal}
 use Rattle.patterns.specs.Tests.{blocks}
 use Rattle.faultsim_c.specs.Following.{after_last}

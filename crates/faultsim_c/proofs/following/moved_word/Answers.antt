@@ -7,4 +7,5 @@ pub returns : goal.returns
 returns c =
     word_moved c.args.old.now.tests c.args.new.now.tests c.requires.some c.args.block c.args.source
     c.word_of-word.result c.from-first.result _
-    (c.from-first.ensures ∙ (byte_number c.bit_before.result ∙ ap as_number c.bit_before.ensures)) c.word_of-word.ensures refl
+    (c.from-first.ensures ∙ (byte_number c.bit_before.result ∙ ap as_number c.bit_before.ensures))
+    c.word_of-word.ensures refl

@@ -2,7 +2,7 @@ use Rattle.std.proofs.Common.{◌<◌, ◌∙◌, All, ap, length, subst, sym}
 use Rattle.std.specs.Prelude.{nat_lt}
 use Rattle.region_runs.specs.Tasks.{AreKept, task_of}
 use Rattle.n_detect.specs.HitCounts.{IsHitCount}
-use Rattle.n_detect.specs.ListLanes.{numbers_at}
+use Rattle.class_lists.specs.Orders.{numbers_at}
 use Rattle.class_lists.specs.Lists.{AreClassCounts}
 use Rattle.class_lists.proofs.ClassCounts.{counts_are}
 use Rattle.class_lists.proofs.ListOrders.{all_in_order, kept_back}

@@ -2,12 +2,12 @@ use Rattle.std.proofs.Common.{◌<◌, ◌∙◌, ℕ, All, List, None, Option, 
 use Rattle.std.specs.Prelude.{slice_index_or}
 use Rattle.region_runs.specs.Tasks.{AreKept, first_tests}
 use Rattle.workers.specs.Verdict.{AreClassFirsts}
-use Rattle.class_lists.proofs.ClassHits.{firsts_are}
+use Rattle.region_runs.proofs.Public.{firsts_kept}
 use Rattle.class_lists.proofs.ListOrders.{all_in_order, kept_back}
 use Rattle.class_lists.proofs.list_simulation.ListSimulation.first_tests.Goals as goal
 
-pub run-requires-clause-classes : goal.run-requires-clause-classes
-run-requires-clause-classes c =
+pub run_alone-requires-clause-classes : goal.run_alone-requires-clause-classes
+run_alone-requires-clause-classes c =
     let count = length c.args.job.now.classes.representative in
     subst (All (λ class. class < count)) (sym c.as_slice-listed.ensures.value)
     (all_in_order count c.args.classes.now c.in_ok-order.order c.in_ok-order.ensures
@@ -26,5 +26,5 @@ returns-clause-firsts c =
     c.as_slice-2.ensures.value
     ∙ ap (map (λ p. slice_index_or found p None)) c.as_slice-3.ensures.value) in
     subst (AreClassFirsts job.list.model job.circuit job.tests.tests classes) (sym told)
-    (firsts_are job classes _ c.classes.ensures.together c.requires.classes
+    (firsts_kept job classes _ c.classes.ensures.together c.requires.classes
     (kept_back (first_tests job) None classes order found c.in_ok-order.ensures kept))
