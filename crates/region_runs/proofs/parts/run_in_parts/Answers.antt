@@ -64,8 +64,7 @@ returns-clause-stretches g c =
     let positions = c.in_ok-done.done.positions.items in
     let firsts = c.in_ok-done.done.kept.items in
     let known = firsts_kept job classes firsts c.classes.ensures.together
-    (all_within job classes c.in_ok-done.ensures.classes) c.in_ok-done.ensures.kept in
-    (
+    (all_within job classes c.in_ok-done.ensures.classes) c.in_ok-done.ensures.kept in (
       c.in_ok-done.done.ledger,
       record {
         classes = classes;
