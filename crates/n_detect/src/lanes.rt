@@ -1,6 +1,6 @@
 //! The tests of a group that detect the classes of a list.
 
-ghost use Rattle.std.specs.Prelude.{◌≡◌, ◌+◌, ◌*◌, ◌<◌, All, IfOk, length, true};
+ghost use Rattle.std.specs.Prelude.{◌≡◌, ◌+◌, ◌*◌, ◌<◌, ℕ, All, IfOk, length, true};
 ghost use Rattle.flat_circuit.specs.BlockSpans.{IsSpan, groups};
 ghost use Rattle.region_sim.specs.RegionHits.{ServesRegions};
 ghost use Rattle.n_detect.specs.CountLaws.{always_wanted, lanes_unchanged};
