@@ -8,6 +8,7 @@ use Rattle.block_sim.specs.Parts.{Parts}
 use Rattle.job_loading.specs.declared.fault.SimFault.{SimFault}
 use Rattle.job_loading.specs.declared.fault.SimFault.TheVariants as fault
 use Rattle.job_loading.specs.Jobs.{IsJobOf}
+use Rattle.job_loading.specs.Sums.{sum_text}
 use Rattle.report.specs.EndToEnd.{WritesOneOf}
 use Rattle.report.proofs.Public.{written_as}
 use Rattle.analysis_reports.specs.declared.compacted.KeptCount.{KeptCount}
@@ -15,22 +16,48 @@ use Rattle.analysis_reports.specs.declared.compacted.KeptLayout.{KeptLayout}
 use Rattle.analysis_reports.specs.Compacted.{GivesOneOf, IsKeptTextOfJob}
 use Rattle.command_line.specs.declared.form.Form.{Form}
 use Rattle.command_line.specs.declared.form.Form.TheVariants as form
-use Rattle.command_line.specs.Form.{IsFormOf, IsFormOfJob}
+use Rattle.command_line.specs.Form.{IsFormOf, IsFormOfJob, IsKeptOfJob, NeedsSums}
+
+-- sums matter only to an output that has them
+pub same_form : (job : Parts) (b t bench tests : List ℕ) (form : Form) (bytes : List ℕ)
+    → (NeedsSums form → b ≡ bench) → (NeedsSums form → t ≡ tests)
+    → IsFormOfJob job b t form bytes → IsFormOfJob job bench tests form bytes
+same_form job b t bench tests (form.Report contents) bytes one other is = is
+same_form job b t bench tests (form.Table lines format) bytes one other is = is
+same_form job b t bench tests (form.Reasons classes) bytes one other is = is
+same_form job b t bench tests (form.ReasonTable format) bytes one other is = is
+same_form job b t bench tests (form.Blocks separator) bytes one other is = is
+same_form job b t bench tests (form.BlockTable separator format) bytes one other is = is
+same_form job b t bench tests form.Curve bytes one other is = is
+same_form job b t bench tests (form.CurveTable format) bytes one other is = is
+same_form job b t bench tests (form.Detections most list) bytes one other is = is
+same_form job b t bench tests (form.Histogram most list) bytes one other is = is
+same_form job b t bench tests (form.HistogramTable most format) bytes one other is = is
+same_form job b t bench tests (form.Kept layout) bytes one other is = is
+same_form job b t bench tests (form.Part part) bytes one other is =
+    subst (λ x. IsFormOfJob job x tests (form.Part part) bytes) (one tt)
+    (subst (λ x. IsFormOfJob job b x (form.Part part) bytes) (other tt) is)
 
 -- the output for a job of files is the output for the files
-pub written_form : (m : Model) (bench : List ℕ) (text : Option (List ℕ)) (form : Form) (job : Parts)
-    (r : Result (Unit {0}) SimFault) (old new : Output) → IfSome text (λ t. IsJobOf m bench t job)
-    → WritesOneOf (IsFormOfJob job form) r old new
-    → IfSome text (λ t. WritesOneOf (IsFormOf m bench t form) r old new)
-written_form m bench None form job r old new is w = is
-written_form m bench (Some text) form job r old new is w =
-    written_as (IsFormOfJob job form) (IsFormOf m bench text form) r old new
-    (λ bytes of_job. (job, is, of_job)) w
+pub written_form : (m : Model) (bench b t : List ℕ) (text : Option (List ℕ)) (form : Form)
+    (job : Parts) (r : Result (Unit {0}) SimFault) (old new : Output)
+    → IfSome text (λ x. IsJobOf m bench x job)
+    → (NeedsSums form → b ≡ sum_text bench) → IfSome text (λ x. NeedsSums form → t ≡ sum_text x)
+    → WritesOneOf (IsFormOfJob job b t form) r old new
+    → IfSome text (λ x. WritesOneOf (IsFormOf m bench x form) r old new)
+written_form m bench b t None form job r old new is one other w = is
+written_form m bench b t (Some text) form job r old new is one other w =
+    written_as (IsFormOfJob job b t form) (IsFormOf m bench text form) r old new
+    (λ bytes of_job. (
+      job,
+      is,
+      same_form job b t (sum_text bench) (sum_text text) form bytes one other of_job,
+    )) w
 
 -- the text of a failed compaction
 pub kept_refused : (job : Parts) (layout : KeptLayout) (f : SimFault) (old new : Output)
     → GivesOneOf (IsKeptTextOfJob job layout) (Err f) old new
-    → WritesOneOf (IsFormOfJob job (form.Kept layout)) (Err f) old new
+    → WritesOneOf (IsKeptOfJob job layout) (Err f) old new
 kept_refused job layout (fault.Report f) old new w = (w.1, (w.0, w.2), w.3)
 kept_refused job layout (fault.Bench f) old new w = w
 kept_refused job layout (fault.Tests f) old new w = w
