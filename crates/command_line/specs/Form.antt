@@ -18,7 +18,6 @@ use Rattle.analysis_reports.specs.Reasons.{IsReasonReportOfJob}
 use Rattle.tables.specs.BlockTables.{IsBlockTableOfJob}
 use Rattle.tables.specs.CurveTables.{IsCurveTableOfJob}
 use Rattle.tables.specs.HistogramTables.{IsHistogramTableOfJob}
-use Rattle.tables.specs.Reasons.{IsReasonTableOfJob}
 use Rattle.tables.specs.Tables.{IsFirstTableOfJob}
 use Rattle.command_line.specs.declared.form.Form.{Form}
 use Rattle.command_line.specs.declared.form.Form.TheVariants as form
@@ -28,9 +27,9 @@ use Rattle.command_line.specs.declared.form_run.TestFile.TheVariants.{Bytes, Pie
 -- the bytes are such an output of a job
 abbrev pub IsFormOfJob : Parts → Form → List ℕ → Type 0
 IsFormOfJob job (form.Report contents) bytes = IsReportOfJob job contents bytes
-IsFormOfJob job (form.Table lines format) bytes = IsFirstTableOfJob job lines format bytes
+IsFormOfJob job (form.Table lines wanted format) bytes =
+    IsFirstTableOfJob job lines wanted format bytes
 IsFormOfJob job (form.Reasons classes) bytes = IsReasonReportOfJob job classes bytes
-IsFormOfJob job (form.ReasonTable format) bytes = IsReasonTableOfJob job format bytes
 IsFormOfJob job (form.Blocks separator) bytes = IsBlockReportOfJob job (byte_of separator) bytes
 IsFormOfJob job (form.BlockTable separator format) bytes =
     IsBlockTableOfJob job (byte_of separator) format bytes

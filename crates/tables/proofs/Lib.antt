@@ -2,7 +2,6 @@ mod BlockPieces
 mod CurvePieces
 mod HistogramPieces
 mod Nets
-mod ReasonTables
 mod RowsByPairs
 mod TablesOfTexts
 mod Texts
