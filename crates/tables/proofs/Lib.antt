@@ -1,5 +1,6 @@
 mod BlockPieces
 mod CurvePieces
+mod FurtherCells
 mod HistogramPieces
 mod Nets
 mod RowsByPairs

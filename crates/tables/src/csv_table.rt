@@ -35,15 +35,15 @@ pub(crate) fn csv_table(
 {
     let further = column.further();
     let mut writer = WriterBuilder::new().from_writer(Vec::new(alloc));
-    let mut record = StringRecord::new(alloc);
-    put_header(&mut writer, &mut record, column.name(), further)?;
+    let mut fields = StringRecord::new(alloc);
+    put_header(&mut writer, &mut fields, column.name(), further)?;
     for fault in 0..list.count() {
         let value = column.value(fault);
         if !column.has_row(value) {
             continue;
         }
         let row = row_of(circuit, list, fault);
-        put_row(&mut writer, &mut record, &row, value, fault, further)?;
+        put_row(&mut writer, &mut fields, &row, value, fault, further)?;
     }
     text_of(writer)
 }
@@ -63,7 +63,7 @@ pub(crate) fn text_of(writer: Writer<Vec<u8>>) -> Result<Vec<u8>, AllocError>
 /// Writes the header: the names of the columns.
 fn put_header(
     writer: &mut Writer<Vec<u8>>,
-    record: &mut StringRecord,
+    fields: &mut StringRecord,
     column: &str,
     further: &[Further<'_>],
 ) -> Result<(), AllocError>
@@ -71,18 +71,18 @@ fn put_header(
         → OnOk result (HasTaken writer.new
         (taken ++ csv_header column.now (map further_in further.now))) }
 {
-    set_fields(record, "kind", "name", "pin", "defect", column, "net")?;
-    push_names(record, further)?;
-    put_record(writer, record)
+    set_fields(fields, "kind", "name", "pin", "defect", column, "net")?;
+    push_names(fields, further)?;
+    put_record(writer, fields)
 }
 
 /// Adds the names of further columns to a record.
-fn push_names(record: &mut StringRecord, further: &[Further<'_>]) -> Result<(), AllocError>
-    ensures { OnOk result (fields_of record.new
-        ≡ fields_of record.old ++ map (λ f. (further_in f).name) further.now) }
+fn push_names(fields: &mut StringRecord, further: &[Further<'_>]) -> Result<(), AllocError>
+    ensures { OnOk result (fields_of fields.new
+        ≡ fields_of fields.old ++ map (λ f. (further_in f).name) further.now) }
 {
     for column in further {
-        record.push_field(column.name())?;
+        fields.push_field(column.name())?;
     }
     Ok(())
 }
@@ -90,7 +90,7 @@ fn push_names(record: &mut StringRecord, further: &[Further<'_>]) -> Result<(), 
 /// Writes the record of the row of a fault.
 fn put_row(
     writer: &mut Writer<Vec<u8>>,
-    record: &mut StringRecord,
+    fields: &mut StringRecord,
     row: &FaultRow<'_>,
     value: Option<u32>,
     fault: u32,
@@ -105,7 +105,7 @@ fn put_row(
     let mut pin = Buffer::new();
     let mut last = Buffer::new();
     set_fields(
-        record,
+        fields,
         place.kind,
         place.name,
         number_text(place.pin, "", &mut pin),
@@ -113,30 +113,30 @@ fn put_row(
         number_text(widened(value), "", &mut last),
         place.net,
     )?;
-    push_cells(record, fault, further)?;
-    put_record(writer, record)
+    push_cells(fields, fault, further)?;
+    put_record(writer, fields)
 }
 
 /// Adds the cells of a fault in further columns to a record.
 fn push_cells(
-    record: &mut StringRecord,
+    fields: &mut StringRecord,
     fault: u32,
     further: &[Further<'_>],
 ) -> Result<(), AllocError>
     requires { All (λ f. fault < length (further_in f).cells) further.now }
-    ensures { OnOk result (fields_of record.new ≡ fields_of record.old
+    ensures { OnOk result (fields_of fields.new ≡ fields_of fields.old
         ++ map (λ f. csv_cell (cell_at (further_in f) fault)) further.now) }
 {
     for column in further {
         let mut buffer = Buffer::new();
-        record.push_field(column.cell(fault).csv_text(&mut buffer))?;
+        fields.push_field(column.cell(fault).csv_text(&mut buffer))?;
     }
     Ok(())
 }
 
 /// Gives a record these fields, and no others.
 fn set_fields(
-    record: &mut StringRecord,
+    fields: &mut StringRecord,
     kind: &str,
     name: &str,
     pin: &str,
@@ -144,25 +144,25 @@ fn set_fields(
     value: &str,
     net: &str,
 ) -> Result<(), AllocError>
-    ensures { OnOk result (fields_of record.new
+    ensures { OnOk result (fields_of fields.new
         ≡ kind.now ∷ name.now ∷ pin.now ∷ defect.now ∷ value.now ∷ net.now ∷ []) }
 {
-    record.clear();
-    record.push_field(kind)?;
-    record.push_field(name)?;
-    record.push_field(pin)?;
-    record.push_field(defect)?;
-    record.push_field(value)?;
-    record.push_field(net)
+    fields.clear();
+    fields.push_field(kind)?;
+    fields.push_field(name)?;
+    fields.push_field(pin)?;
+    fields.push_field(defect)?;
+    fields.push_field(value)?;
+    fields.push_field(net)
 }
 
 /// Writes a record.
-fn put_record(writer: &mut Writer<Vec<u8>>, record: &StringRecord) -> Result<(), AllocError>
+fn put_record(writer: &mut Writer<Vec<u8>>, fields: &StringRecord) -> Result<(), AllocError>
     ensures { (taken : List ℕ) → HasTaken writer.old taken
         → OnOk result (HasTaken writer.new
-        (taken ++ row_text default_writer (fields_of record.now))) }
+        (taken ++ row_text default_writer (fields_of fields.now))) }
 {
-    match writer.write_byte_record(record.as_byte_record()) {
+    match writer.write_byte_record(fields.as_byte_record()) {
         Ok(()) => Ok(()),
         // A vector only refuses bytes if there is no memory.
         Err(_) => Err(AllocError),

@@ -6,14 +6,15 @@ ghost use Rattle.block_sim.specs.Parts.{BelongTogether};
 ghost use Rattle.region_runs.specs.Refused.{ArePartsWithin, IsOpenFault, IsPartsFault};
 ghost use Rattle.report.specs.EndToEnd.{IsJobTextFault, WritesOneOf};
 ghost use Rattle.workers.specs.Verdict.{AreFirsts};
-ghost use Rattle.tables.specs.FurtherColumns.{HasCounts, HasReasons, class_cells, column_of};
-ghost use Rattle.tables.specs.FurtherColumns.{count_cells, further_in, reason_cells};
+ghost use Rattle.tables.specs.FurtherColumns.{HasClasses, HasCounts, HasReasons, class_cells};
+ghost use Rattle.tables.specs.FurtherColumns.{column_of, count_cells, further_in, reason_cells};
 ghost use Rattle.tables.specs.Tables.{IsFirstTableOfJob};
 
 use crate::column::Column;
 use crate::further::Further;
 use crate::table::{Format, write_table};
 use analysis_reports::{Reason, reason_counts};
+use block_sim::Job;
 use fault_model::Classes;
 use job_loading::{RunJob, Watch};
 use n_detect::detections;
@@ -79,11 +80,7 @@ pub fn write_table_of_run<R: Threads + Wait, G: Watch + Sync, W: Out>(
     let reasons = find_reasons(rt, alloc, run, &verdicts, wanted.reasons, workers, gate)?;
     let counts = find_counts(rt, alloc, run, wanted.detections, parts, workers, gate)?;
     let job = run.job();
-    let classes = if wanted.classes {
-        Some(job.classes())
-    } else {
-        None
-    };
+    let classes = classes_if(job, wanted.classes);
     let further = further_columns(alloc, &reasons, &counts, classes)?;
     let column = Column::First {
         verdicts: &verdicts,
@@ -141,6 +138,14 @@ fn find_counts<R: Threads + Wait, G: Watch + Sync>(
     };
     let counts = detections(rt, alloc, run, most, parts, workers, gate)?;
     Ok(Some(counts))
+}
+
+/// Returns the classes of a job's faults, if they are wanted.
+fn classes_if(job: &Job, wanted: bool) -> Option<&Classes>
+    ensures { HasClasses job.now wanted
+        (column_of class_cells (option_map (λ k. k.now.class_of) result)) }
+{
+    if wanted { Some(job.classes()) } else { None }
 }
 
 /// Returns the further columns of what was found.
