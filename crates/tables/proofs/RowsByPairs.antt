@@ -42,7 +42,8 @@ numbered_at fs xs i f x e h =
     let all = length-enumerate_from 0 pairs in
     let own : get_or (enumerate_from 0 pairs) i (i, (f, x)) ≡ (i, (f, x)) =
     get_or-enumerate_from 0 pairs i (i, (f, x)) lt
-    ∙ ap (λ p. (i, p)) (get_or_from_slice_get pairs i (f, x) (f, x) at) in
+    ∙ (ap (λ k. (k, get_or pairs i (f, x))) (omega arith)
+    ∙ ap (λ p. (i, p)) (get_or_from_slice_get pairs i (f, x) (f, x) at)) in
     slice_get-get_or (enumerate_from 0 pairs) i (i, (f, x)) (omega (arith, all, lt)) ∙ ap Some own
 
 taken_from : {X : Type 0} (k i : ℕ) (xs : List X) → take i xs ≡ xs

@@ -138,11 +138,26 @@ fn add_member(rows: &mut Vec<u8>, name: &str, cell: Cell) -> Result<(), AllocErr
     ensures { OnOk result (rows.new.items ≡ rows.old.items
         ++ (codes ",\"" ++ (name.now ++ (codes "\":" ++ json_cell (cell_in cell))))) }
 {
-    let mut buffer = Buffer::new();
+    let pieces = [",\"", name, "\":"];
+    add_pieces(rows, &pieces)?;
+    add_cell(rows, cell)
+}
+
+/// Adds the text of a cell.
+fn add_cell(rows: &mut Vec<u8>, cell: Cell) -> Result<(), AllocError>
+    ensures { OnOk result (rows.new.items ≡ rows.old.items ++ json_cell (cell_in cell)) }
+{
     match cell {
-        Cell::Empty => add_pieces(rows, &[",\"", name, "\":", "null"]),
-        Cell::Number(number) => add_pieces(rows, &[",\"", name, "\":", buffer.format(number)]),
-        Cell::Words(words) => add_pieces(rows, &[",\"", name, "\":", "\"", words, "\""]),
+        Cell::Empty => add_pieces(rows, &["null"]),
+        Cell::Number(number) => {
+            let mut buffer = Buffer::new();
+            let pieces = [buffer.format(number)];
+            add_pieces(rows, &pieces)
+        }
+        Cell::Words(words) => {
+            let pieces = ["\"", words, "\""];
+            add_pieces(rows, &pieces)
+        }
     }
 }
 

@@ -158,7 +158,7 @@ fn further_columns<'a>(
     ensures { IfOk result (λ further. map further_in further.items
         ≡ column_of reason_cells (option_map (λ r. r.items) reasons.now)
         ++ (column_of count_cells (option_map (λ n. n.items) counts.now)
-        ++ column_of class_cells (option_map (λ k. k.now.class_of) classes))) }
+        ++ column_of class_cells (option_map (λ k. k.now.class_of) classes.entry))) }
 {
     let mut further = Vec::new(alloc);
     if let Some(reasons) = reasons {

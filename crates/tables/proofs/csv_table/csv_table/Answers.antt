@@ -1,7 +1,8 @@
 use Rattle.std.proofs.Common.{◌≡◌, ◌<◌, ◌≤◌, ◌∙◌, ◌++◌, [], ap, append-nil, append_assoc, arith}
-use Rattle.std.proofs.Common.{length, refl, subst, sym, take}
+use Rattle.std.proofs.Common.{length, map, refl, subst, sym, take}
 use Rattle.std.specs.Prelude.{IfOk}
 use Rattle.list_lemmas.proofs.Places.{within_place}
+use Rattle.tables.specs.FurtherColumns.{further_in}
 use Rattle.tables.specs.Records.{HasTaken}
 use Rattle.tables.specs.Rows.{row_cells, row_in}
 use Rattle.tables.specs.Tables.{column_in, csv_header, csv_record, numbered, rows_text}
@@ -20,8 +21,9 @@ loop-fault-init c =
     } in
     let told = column_in c.args.column.now in
     subst (λ t. HasTaken c.put_header.new.writer t)
-    (ap (λ n. csv_header n _) c.name.ensures
-    ∙ (ap (csv_header told.name) c.further-further.ensures ∙ sym (append-nil _)))
+    (ap (λ n. csv_header n (map further_in c.further-further.result.now)) c.name.ensures
+    ∙ (ap (λ fs. csv_header told.name fs) c.further-further.ensures
+    ∙ sym (append-nil (csv_header told.name told.further))))
     (c.in_ok-put_header.ensures [] fresh)
 
 pub loop-fault-preserved-then-not-has_row : goal.loop-fault-preserved-then-not-has_row

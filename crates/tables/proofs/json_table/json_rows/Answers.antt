@@ -1,4 +1,5 @@
-use Rattle.std.proofs.Common.{◌≡◌, ◌<◌, ◌≤◌, ◌∙◌, ◌++◌, ap, append_assoc, arith, length, sym, take}
+use Rattle.std.proofs.Common.{◌≡◌, ◌<◌, ◌≤◌, ◌∙◌, ◌++◌, List, ap, append_assoc, arith, length}
+use Rattle.std.proofs.Common.{sym, take}
 use Rattle.std.specs.Prelude.{codes, flat_map}
 use Rattle.list_lemmas.proofs.Places.{within_place}
 use Rattle.tables.specs.FurtherColumns.{FurtherColumn, further_in, json_member}
