@@ -102,3 +102,19 @@ columns_have job firsts wanted columns (reasons, counts, classes, r, n, k, is) =
     (All-append (λ column. length column.cells ≡ count) counts classes
     (counts_have job wanted.detections counts n)
     (classes_have job wanted.classes classes k)))
+
+-- the classes of a job with the same faults and circuit
+classes_same : (one job : Parts) (wanted : Bool) (columns : List FurtherColumn)
+    → one.list ≡ job.list → one.circuit ≡ job.circuit → HasClasses one wanted columns
+    → HasClasses job wanted columns
+classes_same one job false columns e f none = none
+classes_same one job true columns e f (classes, are, is) = (classes, rw (e, f) at are, is)
+
+-- the further columns of a job, from those that were found one after another
+pub columns_found : (job one : Parts) (firsts : List (Option ℕ)) (wanted : FurtherColumns)
+    (reasons counts classes columns : List FurtherColumn) → one.list ≡ job.list
+    → one.circuit ≡ job.circuit → HasReasons job firsts wanted.reasons reasons
+    → HasCounts job wanted.detections counts → HasClasses one wanted.classes classes
+    → columns ≡ reasons ++ (counts ++ classes) → AreFurtherColumns job firsts wanted columns
+columns_found job one firsts wanted reasons counts classes columns e f r n k is =
+    (reasons, counts, classes, r, n, classes_same one job wanted.classes classes e f k, is)
