@@ -1,6 +1,6 @@
 //! The command `run` without reports of detection counts.
 
-ghost use Rattle.std.specs.Prelude.{◌<◌, IfOk, IfSome};
+ghost use Rattle.std.specs.Prelude.{◌<◌, IfSome};
 ghost use Rattle.job_loading.specs.Splits.{HasSomePart};
 
 use crate::blocks::read_separator;

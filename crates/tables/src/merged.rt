@@ -37,7 +37,8 @@ pub fn write_merged_table<W: Out>(
     requires list { list.now.list ≡ faults list.now.model circuit.now }
     requires count { length (run_of merged.now).firsts ≡ length list.now.list }
     ensures written { WritesOneOf (IsTable format circuit.now list.now.list
-        (first_column (run_of merged.now).firsts lines [])) result (W.seen out.old) (W.seen out.new) }
+        (first_column (run_of merged.now).firsts lines [])) result
+        (W.seen out.old) (W.seen out.new) }
     ensures refused { IfErr result IsListFault }
 {
     let column = Column::Merged { merged, lines };

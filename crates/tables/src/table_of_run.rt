@@ -37,8 +37,8 @@ pub struct FurtherColumns {
 }
 
 /// Runs a job in a number of parts by workers in threads of their own, and writes a table of its
-/// faults with the first test that detects each, as `report::write_report_of_run` writes its report.
-/// With [`Lines::Undetected`] only the undetected faults have a row, and else all have one.
+/// faults with the first test that detects each, as `report::write_report_of_run` writes its
+/// report. With [`Lines::Undetected`] only the undetected faults have a row, and else all have one.
 ///
 /// The further columns that are requested are the last columns, or the last members of each object.
 /// The counts take a second run, whose pieces the gate lets pass.
