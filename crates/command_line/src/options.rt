@@ -284,7 +284,7 @@ not observed   a test activates the fault, and none detects it
 --format csv prints for the three tests:
 
     kind,name,pin,defect,first,net,reason,detections,class
-    stem,a,,sa0,,a,not observed,0,3
+    stem,a,,sa0,,a,not observed,0,2
     stem,a,,sa1,1,a,,1,0
 
 and so on.
