@@ -8,7 +8,6 @@ import shutil
 import subprocess
 import sys
 import tempfile
-from itertools import zip_longest
 
 HERE = os.path.dirname(os.path.realpath(__file__))
 REASONS = {"no path": 0, "not activated": 1, "not observed": 2}
@@ -76,62 +75,43 @@ class Results:
         self.inputs = ["--bench", given.bench, "--tests", given.tests, *model]
         self.program = program
         self.warnings = self.read_check()["warnings"]
-        self.read_lists([program, "faults", "--bench", given.bench, *model, "--format", "csv"])
-        self.read_reasons()
-        self.read_counts(given.detections)
+        self.read_table(given.detections)
         self.other = self.first_of(given.beside, model) if given.beside else None
-
-    def lines(self, command, *options):
-        """The lines of a command on the two files."""
-        return call([self.program, command, *self.inputs, *options])
 
     def read_check(self):
         """The object of `check`, which ends this program if a file has an error."""
-        return json.loads("\n".join(self.lines("check", "--format", "json")))
+        words = [self.program, "check", *self.inputs, "--format", "json"]
+        return json.loads("\n".join(call(words)))
 
-    def read_lists(self, faults):
-        """First tests, classes and lines, from the table of a run and from the list of faults."""
-        self.first, self.classes, self.lines_of = array.array("I"), array.array("I"), []
-        table = [self.program, "run", *self.inputs, *self.runs, "--format", "csv"]
-        for mine, other in zip_longest(rows(table), rows(faults)):
-            if mine is None or other is None or mine[:4] != other[:4]:
-                raise Failed("report: 'run' and 'faults' list other faults; has a file changed?", 1)
-            if len(self.first) % 2 == 0:
-                name = mine[2] if mine[0] == "out" else mine[1]
-                self.lines_of.append((line_text(mine), mine[0], name))
-            self.first.append(int(mine[4]) + 1 if mine[4] else 0)
-            self.classes.append(int(other[4]))
-
-    def read_reasons(self):
-        """The reasons of undetected faults, and the sums of the run."""
+    def read_table(self, most):
+        """The lines of all faults, first tests, reasons, classes and counts, and the sums."""
+        self.first, self.classes = array.array("I"), array.array("I")
+        self.counts, self.reasons, self.lines_of = array.array("B"), bytearray(), []
         with tempfile.TemporaryDirectory(prefix="report-") as room:
-            options = ["--undetected", "--why", "--format", "csv", "--summary", f"{room}/sums"]
-            table = rows([self.program, "run", *self.inputs, *self.runs, *options])
-            self.reasons = bytearray(REASONS[row[6]] for row in table)
+            options = ["--why", "--classes", "--format", "csv", "--summary", f"{room}/sums"]
+            if most > 1:  # up to 1 the first tests are enough
+                options += ["--detections", str(most)]
+            for row in rows([self.program, "run", *self.inputs, *self.runs, *options]):
+                self.read_row(row)
             with open(f"{room}/sums", encoding="utf-8") as file:
                 self.sums = json.load(file)
-        self.fit("--why", len(self.reasons) + len(self.first) - self.first.count(0))
 
-    def read_counts(self, most):
-        """The number of tests that detect each fault, up to `most`."""
-        if most == 1:
-            self.counts = array.array("B", (min(it, 1) for it in self.first))
-            return
-        self.counts = array.array("B")
-        for line in self.lines("run", *self.runs, "--detections", str(most), "--list"):
-            if not line.endswith(")"):
-                self.counts.append(int(line[line.rindex(" ") + 1:]))
-        self.fit("--detections", len(self.counts))
+    def read_row(self, row):
+        """The row of a fault."""
+        kind, name, pin, _, first, _, reason, *count, number = row
+        if len(self.first) % 2 == 0:
+            self.lines_of.append((line_text(row), kind, pin if kind == "out" else name))
+        self.first.append(int(first) + 1 if first else 0)
+        self.classes.append(int(number))
+        self.counts.append(int(count[0]) if count else 1 if first else 0)
+        if not first:
+            self.reasons.append(REASONS[reason])
 
     def first_of(self, tests, model):
         """The first of other tests that detect each fault, from 1, or 0."""
         inputs = ["--bench", self.inputs[1], "--tests", tests, *model]
         table = rows([self.program, "run", *inputs, *self.runs, "--format", "csv"])
         first = array.array("I", (int(row[4]) + 1 if row[4] else 0 for row in table))
-        self.fit("--beside", len(first))
+        if len(first) != len(self.first):
+            raise Failed("report: the other tests have other faults; has a file changed?", 1)
         return first
-
-    def fit(self, option, length):
-        """Fails if a list has another length than the list of the run."""
-        if length != len(self.first):
-            raise Failed(f"report: 'run {option}' lists other faults; has a file changed?", 1)

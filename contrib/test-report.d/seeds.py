@@ -22,7 +22,7 @@ SEEDS = [
     ("lists", "columns.py", "found[1], found[2].upper(), found[3]",
      "found[1], found[2].strip(), found[3]"),
     # what faultsim reported
-    ("lists", "results.py", 'int(mine[4]) + 1 if mine[4] else 0', 'int(mine[4]) if mine[4] else 0'),
+    ("lists", "results.py", 'int(first) + 1 if first else 0', 'int(first) if first else 0'),
     ("lists", "result.js", "Math.floor(10000 * part / whole)", "Math.round(10000 * part / whole)"),
     ("lists", "result.js", "columns.reason[at++]", "columns.reason[f]"),
     ("lists", "result.js", "for (const f of list) most = Math.max(most, key(f));",
@@ -44,7 +44,7 @@ SEEDS = [
      "this.all[8 * parents[node] + i] += this.own[8 * node + i]"),
     ("use", "blocks.js", "wide = width >= height;", "wide = true;"),
     # places and another list of tests
-    ("places", "results.py", 'name = mine[2] if mine[0] == "out" else mine[1]', "name = mine[1]"),
+    ("places", "results.py", 'pin if kind == "out" else name', "name"),
     ("beside", "result.js", "(this.first[f] ? 2 : 0) + (this.other[f] ? 1 : 0)",
      "(this.first[f] ? 1 : 0) + (this.other[f] ? 2 : 0)"),
     # mouse and keys

@@ -23,9 +23,8 @@ pub same_form : (job : Parts) (b t bench tests : List ℕ) (form : Form) (bytes 
     → (NeedsSums form → b ≡ bench) → (NeedsSums form → t ≡ tests)
     → IsFormOfJob job b t form bytes → IsFormOfJob job bench tests form bytes
 same_form job b t bench tests (form.Report contents) bytes one other is = is
-same_form job b t bench tests (form.Table lines format) bytes one other is = is
+same_form job b t bench tests (form.Table lines wanted format) bytes one other is = is
 same_form job b t bench tests (form.Reasons classes) bytes one other is = is
-same_form job b t bench tests (form.ReasonTable format) bytes one other is = is
 same_form job b t bench tests (form.Blocks separator) bytes one other is = is
 same_form job b t bench tests (form.BlockTable separator format) bytes one other is = is
 same_form job b t bench tests form.Curve bytes one other is = is

@@ -22,7 +22,6 @@ use Rattle.analysis_reports.specs.Reasons.{IsReasonReportOfJob}
 use Rattle.tables.specs.BlockTables.{IsBlockTableOfJob}
 use Rattle.tables.specs.CurveTables.{IsCurveTableOfJob}
 use Rattle.tables.specs.HistogramTables.{IsHistogramTableOfJob}
-use Rattle.tables.specs.Reasons.{IsReasonTableOfJob}
 use Rattle.tables.specs.Tables.{IsFirstTableOfJob}
 use Rattle.command_line.specs.declared.form.Form.{Form}
 use Rattle.command_line.specs.declared.form.Form.TheVariants as form
@@ -37,9 +36,9 @@ IsKeptOfJob job layout bytes = (count : KeptCount) × IsKeptTextOfJob job layout
 -- the bytes are such an output of a job whose bench file and test file have these sums
 abbrev pub IsFormOfJob : Parts → List ℕ → List ℕ → Form → List ℕ → Type 0
 IsFormOfJob job bench tests (form.Report contents) bytes = IsReportOfJob job contents bytes
-IsFormOfJob job bench tests (form.Table lines format) bytes = IsFirstTableOfJob job lines format bytes
+IsFormOfJob job bench tests (form.Table lines wanted format) bytes =
+    IsFirstTableOfJob job lines wanted format bytes
 IsFormOfJob job bench tests (form.Reasons classes) bytes = IsReasonReportOfJob job classes bytes
-IsFormOfJob job bench tests (form.ReasonTable format) bytes = IsReasonTableOfJob job format bytes
 IsFormOfJob job bench tests (form.Blocks separator) bytes = IsBlockReportOfJob job (byte_of separator) bytes
 IsFormOfJob job bench tests (form.BlockTable separator format) bytes =
     IsBlockTableOfJob job (byte_of separator) format bytes

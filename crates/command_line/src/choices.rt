@@ -45,6 +45,8 @@ pub(crate) enum Choice {
     Undetected,
     Why,
     Classes,
+    /// The same for a run, whose tables have the class of each fault.
+    RunClasses,
     /// The coverage of each block of a run, and of merged part files.
     Blocks,
     MergeBlocks,
@@ -67,7 +69,7 @@ pub(crate) enum Choice {
     /// The format of merged part files.
     MergeFormat,
     FailUnder,
-    /// The same for a run that may be of one part, or count detections.
+    /// The same for a run that may be of one part, or write a histogram.
     RunFailUnder,
     Summary,
     PartTexts,
@@ -141,9 +143,7 @@ fn detections_option<'a>(alloc: Global) -> Result<Arg<'a>, AllocError> {
         .value_name("N")
         .value_parser(value_parser!(u32).range(1..=i64::from(MAX_DETECTIONS)))
         .help("Count up to N tests that detect each fault, 1 to 65536")
-        .conflicts_with("part")?
-        .conflicts_with("undetected")?
-        .conflicts_with("classes")
+        .conflicts_with("part")
 }
 
 /// Returns the flag `--histogram`.
@@ -152,6 +152,8 @@ fn histogram_flag<'a>(alloc: Global) -> Result<Arg<'a>, AllocError> {
         .long("histogram")
         .action(ArgAction::SetTrue)
         .help("With --detections, also write how many faults have each count")
+        .conflicts_with("undetected")?
+        .conflicts_with("classes")?
         .requires_arg("detections")
 }
 
@@ -183,10 +185,10 @@ fn why_flag<'a>(alloc: Global) -> Result<Arg<'a>, AllocError> {
     Arg::new(alloc, "why")
         .long("why")
         .action(ArgAction::SetTrue)
-        .help("With --undetected, print the reason for each fault, also as csv or json")
+        .help("With --undetected or --format, print the reason for each undetected fault")
         .conflicts_with("list")?
         .conflicts_with("part")?
-        .conflicts_with("detections")
+        .conflicts_with("histogram")
 }
 
 /// Returns the flag `--classes`.
@@ -196,6 +198,10 @@ fn classes_flag<'a>(alloc: Global) -> Arg<'a> {
         .action(ArgAction::SetTrue)
         .help("Print the coverage of the fault classes, too")
 }
+
+/// The help of the flag `--classes` of `run`.
+const RUN_CLASSES_HELP: &str =
+    "Print the coverage of the fault classes, too, or with --format the class of each fault";
 
 /// Returns the option `--blocks S`.
 fn blocks_option<'a>(alloc: Global) -> Result<Arg<'a>, AllocError> {
@@ -280,7 +286,7 @@ fn check_format_option<'a>(alloc: Global) -> Arg<'a> {
         .help("The format of the result; json also has the errors")
 }
 
-/// The help of the option `--format FORMAT` of `run`.
+/// The help of the option `--format FORMAT` of `run` and `merge`.
 const RUN_FORMAT_HELP: &str =
     "The format of the list; csv and json list all faults, or only undetected ones";
 
@@ -288,8 +294,7 @@ const RUN_FORMAT_HELP: &str =
 fn run_format_option<'a>(alloc: Global) -> Result<Arg<'a>, AllocError> {
     format_option(alloc)
         .help(RUN_FORMAT_HELP)
-        .conflicts_with("part")?
-        .conflicts_with("classes")
+        .conflicts_with("part")
 }
 
 /// Returns the option `--format FORMAT` of `merge`.
@@ -311,7 +316,7 @@ fn fail_under_option<'a>(alloc: Global) -> Arg<'a> {
 fn run_fail_under_option<'a>(alloc: Global) -> Result<Arg<'a>, AllocError> {
     fail_under_option(alloc)
         .conflicts_with("part")?
-        .conflicts_with("detections")
+        .conflicts_with("histogram")
 }
 
 /// Returns the option `--summary FILE`.
@@ -321,7 +326,7 @@ fn summary_option<'a>(alloc: Global) -> Result<Arg<'a>, AllocError> {
         .value_name("FILE")
         .help("Write a summary of the run to FILE, as JSON")
         .conflicts_with("part")?
-        .conflicts_with("detections")
+        .conflicts_with("histogram")
 }
 
 /// Returns the flag `--progress`.
@@ -377,6 +382,7 @@ pub(crate) fn option<'a>(
         Choice::Undetected => undetected_flag(alloc)?,
         Choice::Why => why_flag(alloc)?,
         Choice::Classes => classes_flag(alloc),
+        Choice::RunClasses => classes_flag(alloc).help(RUN_CLASSES_HELP),
         Choice::Blocks => run_blocks_option(alloc)?,
         Choice::MergeBlocks => blocks_option(alloc)?.requires_arg("bench")?,
         Choice::Pairs => pairs_flag(alloc),

@@ -8,7 +8,7 @@ use crate::choices::{Setting, workers_help};
 use crate::columns::{InputFiles, read_inputs};
 use crate::compact::do_compact;
 use crate::curve::do_curve;
-use crate::detected::do_detections;
+use crate::detected::{do_detections, read_most};
 use crate::format::{read_format, write_faults_table};
 use crate::merge::do_merge;
 use crate::options::{Task, command_line};
@@ -279,7 +279,7 @@ pub(crate) fn read_contents<'a>(matches: &ArgMatches<'a>) -> Result<Contents, Co
     })
 }
 
-/// Runs `run`, or `run` with `--detections`.
+/// Runs `run`, also with a report of detection counts.
 fn do_run_or_detections<'a, R: Threads + Wait, S: Source, W: Out, E: Out + Send>(
     rt: &R,
     alloc: Global,
@@ -288,7 +288,7 @@ fn do_run_or_detections<'a, R: Threads + Wait, S: Source, W: Out, E: Out + Send>
     out: &mut W,
     err: &mut E,
 ) -> Result<(), CommandError<'a>> {
-    match matches.get_one::<u32>("detections") {
+    match read_most(matches)? {
         Some(most) => do_detections(rt, alloc, matches, most, files, out, err),
         None => do_run(rt, alloc, matches, files, out, err),
     }

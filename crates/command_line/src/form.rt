@@ -20,8 +20,8 @@ use std::alloc::Global;
 use std::sync::Wait;
 use std::thread::Threads;
 use tables::{
-    Format, write_block_table_of_run, write_curve_table_of_run, write_histogram_table_of_run,
-    write_reason_table_of_run, write_table_of_run,
+    Format, FurtherColumns, write_block_table_of_run, write_curve_table_of_run,
+    write_histogram_table_of_run, write_table_of_run,
 };
 
 /// The output of a run, of all classes or of a part.
@@ -29,12 +29,16 @@ use tables::{
 pub(crate) enum Form {
     /// The report.
     Report(Contents),
-    /// The table of the first tests.
-    Table { lines: Lines, format: Format },
+    /// The table of the first tests, with the further columns that are requested.
+    Table {
+        lines: Lines,
+        wanted: FurtherColumns,
+        format: Format,
+    },
     /// The report of the undetected faults with their reasons.
-    Reasons { classes: bool },
-    /// The table of the undetected faults with their reasons.
-    ReasonTable(Format),
+    Reasons {
+        classes: bool,
+    },
     /// The coverage of each block.
     Blocks(Separator),
     /// The table of the coverage of each block.
@@ -44,11 +48,20 @@ pub(crate) enum Form {
     /// The table of the curve.
     CurveTable(Format),
     /// The report of how many tests detect each fault, with a line for each if `list` is set.
-    Detections { most: u32, list: bool },
+    Detections {
+        most: u32,
+        list: bool,
+    },
     /// That report, and then the histogram.
-    Histogram { most: u32, list: bool },
+    Histogram {
+        most: u32,
+        list: bool,
+    },
     /// The table of the histogram.
-    HistogramTable { most: u32, format: Format },
+    HistogramTable {
+        most: u32,
+        format: Format,
+    },
     /// The tests that a compaction keeps.
     Kept(KeptLayout),
     /// The file of one part of the classes.
@@ -97,14 +110,15 @@ pub(crate) fn write_form_of_run<R: Threads + Wait, G: Watch + Sync, W: Out>(
         Form::Report(contents) => {
             write_report_of_run(rt, alloc, run, parts, workers, contents, gate, out)
         }
-        Form::Table { lines, format } => {
-            write_table_of_run(rt, alloc, run, parts, workers, lines, format, gate, out)
-        }
+        Form::Table {
+            lines,
+            wanted,
+            format,
+        } => write_table_of_run(
+            rt, alloc, run, parts, workers, lines, wanted, format, gate, out,
+        ),
         Form::Reasons { classes } => {
             write_reasons_of_run(rt, alloc, run, parts, workers, classes, gate, out)
-        }
-        Form::ReasonTable(format) => {
-            write_reason_table_of_run(rt, alloc, run, parts, workers, format, gate, out)
         }
         Form::Blocks(separator) => {
             write_blocks_of_run(rt, alloc, run, parts, workers, separator, gate, out)

@@ -116,7 +116,7 @@ static RUN_CHOICES: [Choice; 17] = [
     Choice::List,
     Choice::Undetected,
     Choice::Why,
-    Choice::Classes,
+    Choice::RunClasses,
     Choice::Blocks,
     Choice::RunFormat,
     Choice::RunFailUnder,
@@ -278,6 +278,16 @@ number of faults for each reason. Without test 11 these are:
 no path        no OUTPUT line and no flip-flop is reached from the line
 not activated  no test sets the other bit, or no pair launches the transition
 not observed   a test activates the fault, and none detects it
+
+--format csv and json list all faults, or only the undetected ones. --why,
+--detections N and --classes add columns. --why --detections 4 --classes
+--format csv prints for the three tests:
+
+    kind,name,pin,defect,first,net,reason,detections,class
+    stem,a,,sa0,,a,not observed,0,2
+    stem,a,,sa1,1,a,,1,0
+
+and so on.
 
 --blocks . prints after the coverage that of each block, the most undetected
 first. Each . in a name ends a block: the faults at u.v.z are in u and in u.v. A

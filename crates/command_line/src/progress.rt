@@ -296,6 +296,10 @@ impl<E: Out> Gate for Progress<'_, E> {
 impl<E: Out> Watch for Progress<'_, E> {
     fn starts(&self, classes: u32, blocks: u32) {
         let pieces = u64::from(classes) * u64::from(blocks);
+        for place in &self.places {
+            place.begin();
+        }
+        self.first.store(0, Ordering::SeqCst);
         self.classes.store(u64::from(classes), Ordering::SeqCst);
         self.pieces.store(pieces, Ordering::SeqCst);
         self.blocks.store(u64::from(blocks), Ordering::SeqCst);

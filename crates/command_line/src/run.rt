@@ -1,4 +1,4 @@
-//! The command `run` without `--detections`.
+//! The command `run` without reports of detection counts.
 
 ghost use Rattle.job_loading.specs.Splits.{HasSomePart};
 
@@ -20,7 +20,7 @@ use report::{Contents, Lines, Out, Split};
 use std::alloc::Global;
 use std::sync::Wait;
 use std::thread::Threads;
-use tables::{Format, Summary};
+use tables::{Format, FurtherColumns, Summary};
 
 /// Returns the output that the command line requests of `run` without `--part`.
 fn read_form<'a>(matches: &ArgMatches<'a>) -> Result<Form, CommandError<'a>> {
@@ -31,7 +31,11 @@ fn read_form<'a>(matches: &ArgMatches<'a>) -> Result<Form, CommandError<'a>> {
         return Ok(blocks_form(separator, format));
     }
     match format {
-        Some(format) => table_form(contents.lines, format, why),
+        Some(format) => Ok(Form::Table {
+            lines: contents.lines,
+            wanted: read_columns(matches),
+            format,
+        }),
         None => report_form(contents, why),
     }
 }
@@ -55,17 +59,17 @@ fn report_form<'a>(contents: Contents, why: bool) -> Result<Form, CommandError<'
     }
 }
 
-/// Returns the form of a table, of the undetected faults with their reasons if `why` is set.
-fn table_form<'a>(lines: Lines, format: Format, why: bool) -> Result<Form, CommandError<'a>> {
-    match (why, lines) {
-        (false, _) => Ok(Form::Table { lines, format }),
-        (true, Lines::Undetected) => Ok(Form::ReasonTable(format)),
-        (true, Lines::Omitted | Lines::All) => Err(CommandError::Unfit("--why", NO_WHY)),
+/// Returns the further columns of a table that the command line requests.
+fn read_columns(matches: &ArgMatches<'_>) -> FurtherColumns {
+    FurtherColumns {
+        reasons: matches.get_flag("why"),
+        detections: matches.get_one::<u32>("detections"),
+        classes: matches.get_flag("classes"),
     }
 }
 
 /// The reason why `--why` cannot be used alone.
-const NO_WHY: &str = "give --undetected, too";
+const NO_WHY: &str = "give --undetected or --format csv or json, too";
 
 /// The reason why `--parts` cannot be used beside `--part`.
 const BESIDE_PART: &str = "give --part or --parts, not both";
@@ -87,7 +91,7 @@ fn read_part(text: &str) -> Option<Part> {
     })
 }
 
-/// Runs `run` without `--detections`.
+/// Runs `run` without a report of detection counts.
 pub(crate) fn do_run<'a, R: Threads + Wait, S: Source, W: Out, E: Out + Send>(
     rt: &R,
     alloc: Global,

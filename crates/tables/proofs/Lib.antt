@@ -1,8 +1,8 @@
 mod BlockPieces
 mod CurvePieces
+mod FurtherCells
 mod HistogramPieces
 mod Nets
-mod ReasonTables
 mod RowsByPairs
 mod TablesOfTexts
 mod Texts

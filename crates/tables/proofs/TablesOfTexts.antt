@@ -13,7 +13,13 @@ use Rattle.job_loading.specs.declared.fault.SimFault.TheVariants as fault
 use Rattle.byte_output.specs.Output.{Output}
 use Rattle.report.specs.declared.contents.Lines.{Lines}
 use Rattle.report.specs.EndToEnd.{IsListingFault, WritesOneOf}
+use Rattle.region_runs.specs.Refused.{IsOpenFault, IsPartsFault}
+use Rattle.workers.specs.declared.RunFault.{RunFault}
+use Rattle.workers.specs.declared.RunFault.TheVariants as run_fault
+use Rattle.workers.specs.Stops.{Stops}
 use Rattle.tables.specs.declared.table.Format.{Format}
+use Rattle.tables.specs.declared.table_of_run.FurtherColumns.{FurtherColumns}
+use Rattle.tables.specs.FurtherColumns.{AreFurtherColumns, FurtherColumn}
 use Rattle.report.specs.EndToEnd.{IsListFault}
 use Rattle.tables.specs.Tables.{IsClassTableOf, IsClassTableOfCircuit}
 use Rattle.tables.specs.Tables.{IsFirstTableOfJob, IsTable, class_column, first_column, table_text}
@@ -62,15 +68,30 @@ pub classes_of_text : (m : Model) (bench : List ℕ) (c : List Statement) (forma
     → IsClassTableOf m bench format bytes
 classes_of_text m bench c format accepted bytes is = (c, is.0, accepted, is.1, is.2)
 
--- the table of a job's faults and of their first tests
-pub firsts_table : (job : Parts) (firsts : List (Option ℕ)) (lines : Lines) (format : Format)
+-- the table of a job's faults, of their first tests and of further columns
+pub firsts_table : (job : Parts) (firsts : List (Option ℕ)) (lines : Lines)
+    (wanted : FurtherColumns) (further : List FurtherColumn) (format : Format)
     → job.list ≡ fault_list job.list.model job.circuit
-    → AreFirsts job.list.model job.circuit job.tests.tests firsts → (bytes : List ℕ)
-    → IsTable format job.circuit job.list.list (first_column firsts lines) bytes
-    → IsFirstTableOfJob job lines format bytes
-firsts_table job firsts lines format listed are bytes is = (
+    → AreFirsts job.list.model job.circuit job.tests.tests firsts
+    → AreFurtherColumns job firsts wanted further → (bytes : List ℕ)
+    → IsTable format job.circuit job.list.list (first_column firsts lines further) bytes
+    → IsFirstTableOfJob job lines wanted format bytes
+firsts_table job firsts lines wanted further format listed are all bytes is = (
   firsts,
+  further,
   are,
-  is ∙ ap (λ l. table_text format job.circuit l (first_column firsts lines))
+  all,
+  is ∙ ap (λ l. table_text format job.circuit l (first_column firsts lines further))
       (ap (λ l. l.list) listed),
 )
+
+-- an error of the second run is an error of the first run, too
+pub counts_fault : (job : Parts) (parts workers : ℕ) (passing : Type 0) (stops : Stops)
+    (f : RunFault) → IsOpenFault workers f → IsPartsFault job parts workers passing stops f
+counts_fault job parts workers passing stops run_fault.Memory h = h
+counts_fault job parts workers passing stops run_fault.Threads h = h
+counts_fault job parts workers passing stops run_fault.TooManyPieces h = absurd h
+counts_fault job parts workers passing stops (run_fault.Unfinished class block) h = absurd h
+counts_fault job parts workers passing stops run_fault.NoWorkers h = h
+counts_fault job parts workers passing stops run_fault.TooManyWorkers h = h
+counts_fault job parts workers passing stops (run_fault.NoSuchMove index) h = h

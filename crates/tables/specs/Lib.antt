@@ -1,7 +1,7 @@
 pub mod BlockTables
 pub mod CurveTables
+pub mod FurtherColumns
 pub mod HistogramTables
-pub mod Reasons
 pub mod Records
 pub mod Rows
 pub mod Summaries

@@ -1,7 +1,7 @@
 //! Tables of the coverage of each block, as comma-separated values (RFC 4180) and as JSON
 //! (RFC 8259).
 
-ghost use Rattle.std.specs.Prelude.{◌≡◌, ◌<◌, ◌≤◌, ◌^◌, ◌++◌, ◌∷◌, [], ℕ, List, All, IfErr, IfOk};
+ghost use Rattle.std.specs.Prelude.{◌≡◌, ◌<◌, ◌≤◌, ◌++◌, ◌∷◌, [], ℕ, List, All, IfErr, IfOk};
 ghost use Rattle.std.specs.Prelude.{OnOk, is_some, length, map, true};
 ghost use Rattle.std.specs.List.{flat_map};
 ghost use Rattle.csv.specs.Writing.{default_writer, row_text};
@@ -12,7 +12,6 @@ ghost use Rattle.region_runs.specs.Refused.{ArePartsWithin, IsPartsFault};
 ghost use Rattle.report.specs.EndToEnd.{IsJobTextFault, IsListFault, WritesOneOf};
 ghost use Rattle.report.specs.Report.{percentage};
 ghost use Rattle.part_files.specs.Merging.{run_of};
-ghost use Rattle.analysis_reports.specs.Blocks.{flagged};
 ghost use Rattle.tables.specs.BlockTables.{IsBlockTable, IsBlockTableOfJob, block_table};
 ghost use Rattle.tables.specs.BlockTables.{blocks_csv, csv_block, json_blocks, json_row};
 ghost use Rattle.tables.specs.Records.{HasTaken};

@@ -1,8 +1,10 @@
 //! The column of a table that describes a fault beside its name.
 
-ghost use Rattle.std.specs.Prelude.{◌≡◌, ◌<◌, Some, length, slice_get};
+ghost use Rattle.std.specs.Prelude.{◌≡◌, ◌<◌, Some, length, map, slice_get};
+ghost use Rattle.tables.specs.FurtherColumns.{further_in};
 ghost use Rattle.tables.specs.Tables.{column_in, has_row};
 
+use crate::further::Further;
 use fault_model::Classes;
 use part_files::Merged;
 use report::Lines;
@@ -11,10 +13,12 @@ use workers::Verdicts;
 /// The value of each fault.
 #[derive(Clone, Copy)]
 pub(crate) enum Column<'a> {
-    /// The first test that detects the fault, and the choice of the faults that have a row.
+    /// The first test that detects the fault, the choice of the faults that have a row, and the
+    /// columns beside it.
     First {
         verdicts: &'a Verdicts,
         lines: Lines,
+        further: &'a [Further<'a>],
     },
     /// The first test of the fault in a merged run, and the choice of the faults that have a row.
     Merged {
@@ -25,7 +29,7 @@ pub(crate) enum Column<'a> {
     Class(&'a Classes),
 }
 
-impl Column<'_> {
+impl<'a> Column<'a> {
     /// Returns the name of the column.
     pub(crate) fn name(&self) -> &'static str
         ensures { result.now ≡ (column_in self.now).name }
@@ -33,6 +37,16 @@ impl Column<'_> {
         match self {
             Column::First { .. } | Column::Merged { .. } => "first",
             Column::Class(_) => "class",
+        }
+    }
+
+    /// Returns the columns beside it.
+    pub(crate) fn further(&self) -> &'a [Further<'a>]
+        ensures { map further_in result.now ≡ (column_in self.now).further }
+    {
+        match *self {
+            Column::First { further, .. } => further,
+            Column::Merged { .. } | Column::Class(_) => &[],
         }
     }
 

@@ -21,10 +21,10 @@ use std::sync::Wait;
 use std::thread::Threads;
 
 /// Runs a job in a number of parts by workers in threads of their own, and writes a table of its
-/// curve, as `report::write_report_of_run` writes its report. The table has a row for each test that
-/// is the first to detect some fault, in order. A row has the test's number from 0 and the number of
-/// faults that it is the first to detect. Then it has the number of faults that it and the tests
-/// before it detect, also in percent.
+/// curve, as `report::write_report_of_run` writes its report. The table has a row for each test
+/// that is the first to detect some fault, in order. A row has the test's number from 0 and the
+/// number of faults that it is the first to detect. Then it has the number of faults that it and
+/// the tests before it detect, also in percent.
 ///
 /// # Examples
 ///

@@ -1,16 +1,19 @@
 //! Tables of faults as JSON (RFC 8259).
 
-ghost use Rattle.std.specs.Prelude.{◌≡◌, ◌<◌, ◌*◌, ◌/◌, ◌++◌, IfOk, OnOk, codes, drop, length};
-ghost use Rattle.std.specs.Prelude.{string_bytes, zip};
+ghost use Rattle.std.specs.Prelude.{◌≡◌, ◌<◌, ◌*◌, ◌/◌, ◌++◌, All, IfOk, OnOk, codes, drop};
+ghost use Rattle.std.specs.Prelude.{length, string_bytes};
 ghost use Rattle.std.specs.List.{flat_map};
 ghost use Rattle.json.specs.Print.{quoted};
 ghost use Rattle.fault_model.specs.Fault.{faults};
 ghost use Rattle.byte_output.specs.Output.{Writes};
+ghost use Rattle.tables.specs.FurtherColumns.{HaveCells, cell_in, further_in, json_cell};
+ghost use Rattle.tables.specs.FurtherColumns.{json_member};
 ghost use Rattle.tables.specs.Rows.{row_in};
 ghost use Rattle.tables.specs.Tables.{classes_object, column_in, coverage_object, json_object};
-ghost use Rattle.tables.specs.Tables.{object_of, object_text, rows_text};
+ghost use Rattle.tables.specs.Tables.{members_of, numbered, object_text, row_members, rows_text};
 
 use crate::column::Column;
+use crate::further::{Cell, Further};
 use crate::number::{number_text, widened};
 use crate::row::{FaultRow, row_of};
 use bench_net::Circuit;
@@ -30,24 +33,22 @@ pub(crate) fn json_rows(
 ) -> Result<Vec<u8>, AllocError>
     requires list { list.now.list ≡ faults list.now.model circuit.now }
     requires count { length (column_in column.now).values ≡ length list.now.list }
+    requires further { HaveCells (length list.now.list) (column_in column.now).further }
     ensures { IfOk result (λ rows. rows.items
-        ≡ rows_text (json_object (column_in column.now).name) circuit.now
-        (column_in column.now).lines
-        (zip list.now.list (column_in column.now).values)) }
+        ≡ rows_text (json_object (column_in column.now).name (column_in column.now).further)
+        circuit.now (column_in column.now).lines
+        (numbered list.now.list (column_in column.now).values)) }
 {
+    let further = column.further();
     let mut rows = Vec::new(alloc);
     for fault in 0..list.count() {
         let value = column.value(fault);
         if !column.has_row(value) {
             continue;
         }
-        add_row(
-            &mut rows,
-            alloc,
-            column.name(),
-            &row_of(circuit, list, fault),
-            value,
-        )?;
+        let row = row_of(circuit, list, fault);
+        add_members(&mut rows, alloc, column.name(), &row, value)?;
+        end_object(&mut rows, fault, further)?;
     }
     Ok(rows)
 }
@@ -59,8 +60,8 @@ pub(crate) fn quoted(alloc: Global, text: &str) -> Result<String, AllocError>
     Value::String(String::from_str(alloc, text)?).to_string(alloc)
 }
 
-/// Adds the object of a row.
-fn add_row(
+/// Adds the first members of the object of a row.
+fn add_members(
     rows: &mut Vec<u8>,
     alloc: Global,
     column: &str,
@@ -68,14 +69,14 @@ fn add_row(
     value: Option<u32>,
 ) -> Result<(), AllocError>
     ensures { OnOk result (rows.new.items
-        ≡ rows.old.items ++ json_object column.now (row_in row.now) value) }
+        ≡ rows.old.items ++ row_members column.now (row_in row.now) value) }
 {
     let FaultRow { place, defect } = *row;
     let name = quoted(alloc, place.name)?;
     let net = quoted(alloc, place.net)?;
     let mut pin = Buffer::new();
     let mut last = Buffer::new();
-    add_object(
+    begin_object(
         rows,
         place.kind,
         name.as_str(),
@@ -87,8 +88,8 @@ fn add_row(
     )
 }
 
-/// Adds an object with members of this spelling, after a comma and a line feed.
-fn add_object<'a>(
+/// Adds the first members of an object in this spelling, after a comma and a line feed.
+fn begin_object<'a>(
     rows: &mut Vec<u8>,
     kind: &'a str,
     name: &'a str,
@@ -99,7 +100,7 @@ fn add_object<'a>(
     net: &'a str,
 ) -> Result<(), AllocError>
     ensures { OnOk result (rows.new.items ≡ rows.old.items
-        ++ object_of kind.now name.now pin.now defect.now column.now value.now net.now) }
+        ++ members_of kind.now name.now pin.now defect.now column.now value.now net.now) }
 {
     let pieces = [
         ",\n{\"kind\":\"",
@@ -116,9 +117,48 @@ fn add_object<'a>(
         value,
         ",\"net\":",
         net,
-        "}",
     ];
     add_pieces(rows, &pieces)
+}
+
+/// Adds the members of a fault in further columns, and the end of its object.
+fn end_object(rows: &mut Vec<u8>, fault: u32, further: &[Further<'_>]) -> Result<(), AllocError>
+    requires { All (λ f. fault < length (further_in f).cells) further.now }
+    ensures { OnOk result (rows.new.items ≡ rows.old.items
+        ++ (flat_map (λ f. json_member fault (further_in f)) further.now ++ codes "}")) }
+{
+    for column in further {
+        add_member(rows, column.name(), column.cell(fault))?;
+    }
+    add_pieces(rows, &["}"])
+}
+
+/// Adds a member of an object, after a comma.
+fn add_member(rows: &mut Vec<u8>, name: &str, cell: Cell) -> Result<(), AllocError>
+    ensures { OnOk result (rows.new.items ≡ rows.old.items
+        ++ (codes ",\"" ++ (name.now ++ (codes "\":" ++ json_cell (cell_in cell))))) }
+{
+    let pieces = [",\"", name, "\":"];
+    add_pieces(rows, &pieces)?;
+    add_cell(rows, cell)
+}
+
+/// Adds the text of a cell.
+fn add_cell(rows: &mut Vec<u8>, cell: Cell) -> Result<(), AllocError>
+    ensures { OnOk result (rows.new.items ≡ rows.old.items ++ json_cell (cell_in cell)) }
+{
+    match cell {
+        Cell::Empty => add_pieces(rows, &["null"]),
+        Cell::Number(number) => {
+            let mut buffer = Buffer::new();
+            let pieces = [buffer.format(number)];
+            add_pieces(rows, &pieces)
+        }
+        Cell::Words(words) => {
+            let pieces = ["\"", words, "\""];
+            add_pieces(rows, &pieces)
+        }
+    }
 }
 
 /// Adds pieces of text, one after another.

@@ -1,6 +1,6 @@
 //! The law of the tables of merged runs.
 
-ghost use Rattle.std.specs.Prelude.{All, List, ℕ};
+ghost use Rattle.std.specs.Prelude.{[], All, List, ℕ};
 ghost use Rattle.bench_net.specs.Refusal.{IsAccepted};
 ghost use Rattle.bench_net.specs.Statement.{Statement};
 ghost use Rattle.fault_model.specs.Fault.{faults};
@@ -21,7 +21,7 @@ pub fn merged_table()
         → All (IsSomePartDistinguished run) others → IsMergeOf first others merged
         → IsAccepted run.bench c
         → IsFirstTableOf run.model run.bench run.tests lines format
-        (table_text format c (faults run.model c) (first_column merged.firsts lines)) }
+        (table_text format c (faults run.model c) (first_column merged.firsts lines [])) }
 {
     merged_firsts();
 }

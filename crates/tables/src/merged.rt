@@ -1,6 +1,6 @@
 //! Tables of merged runs.
 
-ghost use Rattle.std.specs.Prelude.{◌≡◌, IfErr, length};
+ghost use Rattle.std.specs.Prelude.{◌≡◌, [], IfErr, length};
 ghost use Rattle.fault_model.specs.Fault.{faults};
 ghost use Rattle.report.specs.EndToEnd.{WritesOneOf};
 ghost use Rattle.part_files.specs.Merging.{run_of};
@@ -37,7 +37,8 @@ pub fn write_merged_table<W: Out>(
     requires list { list.now.list ≡ faults list.now.model circuit.now }
     requires count { length (run_of merged.now).firsts ≡ length list.now.list }
     ensures written { WritesOneOf (IsTable format circuit.now list.now.list
-        (first_column (run_of merged.now).firsts lines)) result (W.seen out.old) (W.seen out.new) }
+        (first_column (run_of merged.now).firsts lines [])) result
+        (W.seen out.old) (W.seen out.new) }
     ensures refused { IfErr result IsListFault }
 {
     let column = Column::Merged { merged, lines };

@@ -1,14 +1,12 @@
 //! Tables of faults.
 
-ghost use Rattle.std.specs.Prelude.{◌≡◌, ◌<◌, ◌≤◌, IfErr, OnOk, length, true};
-ghost use Rattle.block_sim.specs.Parts.{BelongTogether};
+ghost use Rattle.std.specs.Prelude.{◌≡◌, IfErr, length};
 ghost use Rattle.fault_model.specs.Fault.{faults};
 ghost use Rattle.byte_output.specs.Output.{Writes};
-ghost use Rattle.report.specs.EndToEnd.{IsJobTextFault, IsListingFault, WritesOneOf};
-ghost use Rattle.report.specs.EndToEnd.{IsListFault};
-ghost use Rattle.tables.specs.Tables.{IsClassTableOf, IsClassTableOfCircuit};
-ghost use Rattle.tables.specs.Tables.{IsFirstTableOfJob, IsTable, column_in, csv_table, json_table};
-ghost use Rattle.region_runs.specs.Refused.{ArePartsWithin, IsPartsFault};
+ghost use Rattle.report.specs.EndToEnd.{IsListFault, IsListingFault, WritesOneOf};
+ghost use Rattle.tables.specs.FurtherColumns.{HaveCells};
+ghost use Rattle.tables.specs.Tables.{IsClassTableOf, IsClassTableOfCircuit, IsTable, column_in};
+ghost use Rattle.tables.specs.Tables.{csv_table, json_table};
 
 use crate::column::Column;
 use crate::csv_table::csv_table;
@@ -16,11 +14,8 @@ use crate::json_table::{json_rows, put_json};
 use bench_net::{Circuit, read_bench};
 use byte_output::put_all;
 use fault_model::{Faults, Model, collapse, list_faults_in};
-use job_loading::{RunJob, Watch};
-use report::{Lines, Out, ReportFault, SimFault};
+use report::{Out, ReportFault, SimFault};
 use std::alloc::Global;
-use std::sync::Wait;
-use std::thread::Threads;
 
 /// The format of a table.
 #[derive(Clone, Copy, Debug, PartialEq, Eq)]
@@ -43,6 +38,7 @@ pub(crate) fn write_table<W: Out>(
 ) -> Result<(), SimFault>
     requires list { list.now.list ≡ faults list.now.model circuit.now }
     requires count { length (column_in column.now).values ≡ length list.now.list }
+    requires further { HaveCells (length list.now.list) (column_in column.now).further }
     ensures written { WritesOneOf
         (IsTable format circuit.now list.now.list (column_in column.now)) result
         (W.seen out.old) (W.seen out.new) }
@@ -64,6 +60,7 @@ fn write_csv<W: Out>(
 ) -> Result<(), SimFault>
     requires list { list.now.list ≡ faults list.now.model circuit.now }
     requires count { length (column_in column.now).values ≡ length list.now.list }
+    requires further { HaveCells (length list.now.list) (column_in column.now).further }
     ensures written { WritesOneOf
         (λ bytes. bytes ≡ csv_table circuit.now list.now.list (column_in column.now)) result
         (W.seen out.old) (W.seen out.new) }
@@ -91,6 +88,7 @@ fn write_json<W: Out>(
 ) -> Result<(), SimFault>
     requires list { list.now.list ≡ faults list.now.model circuit.now }
     requires count { length (column_in column.now).values ≡ length list.now.list }
+    requires further { HaveCells (length list.now.list) (column_in column.now).further }
     ensures written { WritesOneOf
         (λ bytes. bytes ≡ json_table circuit.now list.now.list (column_in column.now)) result
         (W.seen out.old) (W.seen out.new) }
@@ -137,38 +135,4 @@ fn write_classes<W: Out>(
     let classes = collapse(alloc, circuit, &list)?;
     let column = Column::Class(&classes);
     write_table(alloc, circuit, &list, &column, format, out)
-}
-
-/// Runs a job in a number of parts by workers in threads of their own, and writes a table of its
-/// faults with the first test that detects each, as `report::write_report_of_run` writes its report.
-/// With [`Lines::Undetected`] only the undetected faults have a row, and else all have one.
-pub fn write_table_of_run<R: Threads + Wait, G: Watch + Sync, W: Out>(
-    rt: &R,
-    alloc: Global,
-    run: &mut RunJob,
-    parts: u32,
-    workers: u32,
-    lines: Lines,
-    format: Format,
-    gate: &G,
-    out: &mut W,
-) -> Result<(), SimFault>
-    requires job { BelongTogether run.old.parts }
-    requires gate { run.old.apart ≡ true → G.passing gate.now }
-    requires parts { 0 < parts }
-    ensures written { WritesOneOf (IsFirstTableOfJob run.old.parts lines format) result
-        (W.seen out.old) (W.seen out.new) }
-    ensures refused { IfErr result (IsJobTextFault workers
-        (IsPartsFault run.old.parts parts workers (G.passing gate.now) (G.stops gate.now))) }
-    ensures workers { OnOk result ((0 < workers) × (workers ≤ 64)) }
-    ensures within { OnOk result (ArePartsWithin run.old.parts parts) }
-    ensures kept { run.new ≡ run.old }
-{
-    let verdicts = run.run(rt, alloc, parts, workers, gate)?;
-    let column = Column::First {
-        verdicts: &verdicts,
-        lines,
-    };
-    let job = run.job();
-    write_table(alloc, job.circuit(), job.faults(), &column, format, out)
 }
