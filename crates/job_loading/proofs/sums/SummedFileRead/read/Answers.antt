@@ -8,9 +8,13 @@ invariant_of-self-in-Some g c = record {
   known =
       let bytes = take c.in_ok-count.count c.read.new.buf in
       let took : HasTaken c.args.self.now.hasher (Some c.update.new.self) bytes =
-      λ b q. (c.in-Some.hasher, c.in-Some.is, λ m h.
-          let same : c.update.new.self ≡ b = cc in
-          subst (λ x. Holds256 x (m ++ bytes)) same (c.update.ensures m h)) in
+      λ b q. (
+        c.in-Some.hasher,
+        c.in-Some.is,
+        λ m h.
+            let same : c.update.new.self ≡ b = cc in
+            subst (λ x. Holds256 x (m ++ bytes)) same (c.update.ensures m h),
+      ) in
       summed_more g.T.FileText.text (g.F.Read.remaining c.args.self.now.file)
       (g.F.Read.remaining c.read.new.self) c.args.self.now.hasher (Some c.update.new.self) bytes
       c.args.self.now.known c.in_ok-count.ensures.bytes.0 took;
