@@ -1,18 +1,17 @@
 -- The cells of further columns in the form of the program.
 use Rattle.std.proofs.Common.{◌≡◌, ◌<◌, ◌∙◌, ◌++◌, [], ◌∷◌, ℕ, List, ap, arith, length, map, refl}
 use Rattle.std.proofs.Common.{subst, sym}
-use Rattle.std.specs.Prelude.{All, Bool, true, false, Option, Some, None, flat_map, option_map}
-use Rattle.std.specs.Prelude.{slice_get, unwrap_or}
+use Rattle.std.specs.Prelude.{All, Bool, true, false, Option, Some, None, flat_map}
 use Rattle.std.proofs.lemmas.List.{length-map}
-use Rattle.std.proofs.lemmas.List.Elements.{All-append, All-cons, All-head, All-nil, All-same}
-use Rattle.std.proofs.lemmas.List.Elements.{All-tail, All-weaker}
-use Rattle.std.proofs.lemmas.Option.{slice_get-map}
+use Rattle.std.proofs.lemmas.List.Elements.{All-append, All-cons, All-head, All-nil, All-tail}
+use Rattle.std.proofs.lemmas.List.Elements.{All-weaker}
 use Rattle.fault_model.specs.Fault.{faults}
 use Rattle.block_sim.specs.Parts.{Parts}
 use Rattle.tables.specs.declared.further.Further.{Further}
 use Rattle.tables.specs.declared.table_of_run.FurtherColumns.{FurtherColumns}
-use Rattle.tables.specs.FurtherColumns.{AreFurtherColumns, Cell, Empty, FurtherColumn, HasClasses}
-use Rattle.tables.specs.FurtherColumns.{HasCounts, HasReasons, HaveCells, further_in}
+use Rattle.tables.specs.FurtherColumns.{AreFurtherColumns, FurtherColumn, HasClasses, HasCounts}
+use Rattle.tables.specs.FurtherColumns.{HasReasons, HaveCells, Number, class_cells, count_cells}
+use Rattle.tables.specs.FurtherColumns.{further_in, reason_cell, reason_cells}
 
 -- a map of a map
 pub mapped_twice : {A B C : Type 0} (g : B → C) (f : A → B) (xs : List A)
@@ -44,63 +43,43 @@ cells_within fs columns count i same have lt =
     (λ f. i < length (further_in f).cells) (λ f e. omega (arith, e, lt)) fs
     (cells_of count fs (subst (HaveCells count) (sym same) have))
 
--- the cell of a fault whose value has a place in a column of values
-pub cell_of : {X : Type 0} (cell : X → Cell) (xs : List X) (i : ℕ) (x : X)
-    → slice_get xs i ≡ Some x → unwrap_or (slice_get (map cell xs) i) Empty ≡ cell x
-cell_of cell xs i x at =
-    ap (λ o. unwrap_or o Empty) (slice_get-map cell xs i ∙ ap (option_map cell) at)
-
 one_column : (count : ℕ) (column : FurtherColumn) → length column.cells ≡ count
     → HaveCells count (column ∷ [])
 one_column count column long =
     All-cons (λ column. length column.cells ≡ count) column [] long
     (All-nil (λ column. length column.cells ≡ count))
 
-have_same : (count : ℕ) (one other : List FurtherColumn) → one ≡ other → HaveCells count other
-    → HaveCells count one
-have_same count one other same h = All-same (λ column. length column.cells ≡ count) one other same h
-
 reasons_have : (job : Parts) (firsts : List (Option ℕ)) (wanted : Bool)
     (columns : List FurtherColumn) → HasReasons job firsts wanted columns
     → HaveCells (length (faults job.list.model job.circuit)) columns
-reasons_have job firsts false columns none =
-    let count = length (faults job.list.model job.circuit) in
-    have_same count columns [] none (All-nil (λ column. length column.cells ≡ count))
-reasons_have job firsts true columns some =
-    have_same _ columns _ some.2
-    (one_column _ _ (length-map some.0 _ ∙ some.1.count))
+reasons_have job firsts false columns none = rw (none) (All-nil _)
+reasons_have job firsts true columns (reasons, are, is) =
+    rw (is) (one_column _ (reason_cells reasons) (length-map reasons reason_cell ∙ are.count))
 
 counts_have : (job : Parts) (wanted : Option ℕ) (columns : List FurtherColumn)
     → HasCounts job wanted columns
     → HaveCells (length (faults job.list.model job.circuit)) columns
-counts_have job None columns none =
-    let count = length (faults job.list.model job.circuit) in
-    have_same count columns [] none (All-nil (λ column. length column.cells ≡ count))
-counts_have job (Some most) columns some =
-    have_same _ columns _ some.2
-    (one_column _ _ (length-map some.0 _ ∙ some.1.count))
+counts_have job None columns none = rw (none) (All-nil _)
+counts_have job (Some most) columns (counts, are, is) =
+    rw (is) (one_column _ (count_cells counts) (length-map counts Number ∙ are.count))
 
 classes_have : (job : Parts) (wanted : Bool) (columns : List FurtherColumn)
     → HasClasses job wanted columns
     → HaveCells (length (faults job.list.model job.circuit)) columns
-classes_have job false columns none =
-    let count = length (faults job.list.model job.circuit) in
-    have_same count columns [] none (All-nil (λ column. length column.cells ≡ count))
-classes_have job true columns some =
-    have_same _ columns _ some.2
-    (one_column _ _ (length-map some.0.class_of _ ∙ some.1.count))
+classes_have job false columns none = rw (none) (All-nil _)
+classes_have job true columns (classes, are, is) = rw (is) (one_column _
+    (class_cells classes.class_of) (length-map classes.class_of Number ∙ are.count))
 
 -- the further columns of a job have a cell for each fault
 pub columns_have : (job : Parts) (firsts : List (Option ℕ)) (wanted : FurtherColumns)
     (columns : List FurtherColumn) → AreFurtherColumns job firsts wanted columns
     → HaveCells (length (faults job.list.model job.circuit)) columns
 columns_have job firsts wanted columns (reasons, counts, classes, r, n, k, is) =
-    let count = length (faults job.list.model job.circuit) in
-    have_same count columns (reasons ++ (counts ++ classes)) is
-    (All-append (λ column. length column.cells ≡ count) reasons (counts ++ classes)
+    let P = λ (column : FurtherColumn).
+    length column.cells ≡ length (faults job.list.model job.circuit) in
+    rw (is) (All-append P reasons (counts ++ classes)
     (reasons_have job firsts wanted.reasons reasons r)
-    (All-append (λ column. length column.cells ≡ count) counts classes
-    (counts_have job wanted.detections counts n)
+    (All-append P counts classes (counts_have job wanted.detections counts n)
     (classes_have job wanted.classes classes k)))
 
 -- the classes of a job with the same faults and circuit
