@@ -91,6 +91,7 @@ fn read_summed<R: Threads + Wait, F: Read + Send, T: FileText + Send>(
 where
     F: Drop,
     requires text { T.text ≡ F.remaining file }
+    requires summed { T.summed ≡ is_summed }
     ensures circuit { IfSome result (λ read. IsAccepted bench.now read.0.circuit) }
     ensures model { IfSome result (λ read. read.0.list.model ≡ model) }
     ensures tests { IfSome result (λ read. IfSome (F.remaining file) (λ text.

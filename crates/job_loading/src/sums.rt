@@ -26,17 +26,23 @@ pub fn sum_of(alloc: Global, text: &[u8]) -> Result<String, AllocError>
     encode(alloc, Sha256::digest(text))
 }
 
-/// The bytes of a file, as far as they are known.
+/// What is known of a file that is read.
 pub(crate) trait FileText {
-    ghost use Rattle.std.specs.Prelude.{ℕ, List, Option};
+    ghost use Rattle.std.specs.Prelude.{ℕ, Bool, List, Option};
 
+    /// The bytes of the file, if they are known.
     ghost text: { Option (List ℕ) };
+
+    /// Whether the bytes are summed.
+    ghost summed: { Bool };
 }
 
 impl FileText for Brand {
-    ghost use Rattle.std.specs.Prelude.{None};
+    ghost use Rattle.std.specs.Prelude.{None, false};
 
     ghost text = { None };
+
+    ghost summed = { false };
 }
 
 /// A reader of a file that sums the bytes that it reads, if that is requested.
@@ -46,14 +52,15 @@ pub(crate) struct SummedFile<F: Read, T: FileText> {
     hasher: Option<Sha256>,
     of: PhantomData<T>,
     ghost known: { IsSummed T.text (F.remaining file) hasher },
+    ghost summed: { is_some hasher ≡ T.summed },
 }
 
 impl<F: Read + Drop, T: FileText> SummedFile<F, T> {
     /// Begins to read a file.
     pub(crate) fn new(file: F, is_summed: bool) -> SummedFile<F, T>
-        requires { T.text ≡ F.remaining file }
-        ensures file { F.remaining result.file ≡ F.remaining file }
-        ensures summed { is_some result.hasher ≡ is_summed }
+        requires text { T.text ≡ F.remaining file }
+        requires summed { T.summed ≡ is_summed }
+        ensures { F.remaining result.file ≡ F.remaining file }
     {
         let hasher = if is_summed { Some(Sha256::new()) } else { None };
         SummedFile {
@@ -68,7 +75,7 @@ impl<F: Read + Drop, T: FileText> SummedFile<F, T> {
         requires { IsEnded T.text (F.remaining self.file) }
         ensures sum { IfOk result (λ sum. IfSome sum (λ words. (text : List ℕ)
             → T.text ≡ Some text → string_bytes words ≡ sum_text text)) }
-        ensures summed { IfOk result (λ sum. is_some sum ≡ is_some self.hasher) }
+        ensures summed { IfOk result (λ sum. is_some sum ≡ T.summed) }
     {
         let SummedFile {
             file: _file,
