@@ -1,6 +1,5 @@
-use Rattle.std.proofs.Common.{IfErr, IfOk, length, subst}
+use Rattle.std.proofs.Common.{length, subst}
 use Rattle.std.proofs.lemmas.Option.{IfSome_then}
-use Rattle.std.proofs.lemmas.Result.{IfErr-weaker, IfOk-weaker}
 use Rattle.bench_net.specs.Scan.{sources}
 use Rattle.patterns.specs.Tests.{HasTests}
 use Rattle.block_sim.specs.JobParts.{IsJobUnder}
@@ -9,40 +8,34 @@ use Rattle.job_loading.specs.Splits.{IsSplitFault, IsSplitFaultFor}
 use Rattle.job_loading.proofs.JobsOfTexts.{job_of_texts, split_fault}
 use Rattle.job_loading.proofs.split.split_run_in_pieces.Goals as goal
 
-pub returns-clause-job : goal.returns-clause-job
-returns-clause-job g c =
+pub returns-in-Ok-clause-job : goal.returns-in-Ok-clause-job
+returns-in-Ok-clause-job g c =
     let known = g.F.Read.remaining c.args.tests in
     let model = c.args.model in
     let bench = c.args.bench.now in
     let job = c.in_ok-job.job in
     let tests = c.in_ok-job.tests in
-    let made = c.split_run_with.result in
+    let run = c.in-Ok.run.parts in
+    let of = rw (c.in-Ok.is) at c.split_run_with.ensures.job in
     IfSome_then known {P = λ text. HasTests text (length (sources job.circuit)) tests}
-    {Q = λ text. IfOk made (λ run. IsJobOf model bench text run.0.parts)}
+    {Q = λ text. IsJobOf model bench text run}
     c.in_ok-job.ensures.tests
-    (λ text has. IfOk-weaker made
-    (λ run. IsJobUnder job.list.model job.circuit tests run.0.parts)
-    (λ run. IsJobOf model bench text run.0.parts)
-    (λ run is. job_of_texts model bench text job.circuit tests run.0.parts
-    c.in_ok-job.ensures.circuit has
-    (subst (λ m. IsJobUnder m job.circuit tests run.0.parts) c.in_ok-job.ensures.model is))
-    c.split_run_with.ensures.job)
+    (λ text has. job_of_texts model bench text job.circuit tests run c.in_ok-job.ensures.circuit
+    has (subst (λ m. IsJobUnder m job.circuit tests run) c.in_ok-job.ensures.model of))
 
-pub returns-clause-refused : goal.returns-clause-refused
-returns-clause-refused g c =
+pub returns-in-Err-clause-refused : goal.returns-in-Err-clause-refused
+returns-in-Err-clause-refused g c =
     let known = g.F.Read.remaining c.args.tests in
     let model = c.args.model in
     let bench = c.args.bench.now in
     let job = c.in_ok-job.job in
     let tests = c.in_ok-job.tests in
-    let made = c.split_run_with.result in
-    let refused = subst (λ m. IfErr made (IsSplitFaultFor m job.circuit tests c.args.split))
-    c.in_ok-job.ensures.model c.split_run_with.ensures.refused in
+    let fault = c.in-Err.fault in
+    let own = rw (c.in-Err.is) at c.split_run_with.ensures.refused in
+    let refused = subst (λ m. IsSplitFaultFor m job.circuit tests c.args.split fault)
+    c.in_ok-job.ensures.model own in
     IfSome_then known {P = λ text. HasTests text (length (sources job.circuit)) tests}
-    {Q = λ text. IfErr made (IsSplitFault model bench text c.args.split)}
+    {Q = λ text. IsSplitFault model bench text c.args.split fault}
     c.in_ok-job.ensures.tests
-    (λ text has. IfErr-weaker made (IsSplitFaultFor model job.circuit tests c.args.split)
-    (IsSplitFault model bench text c.args.split)
-    (split_fault model bench text job.circuit tests c.args.split
-    c.in_ok-job.ensures.circuit has)
-    refused)
+    (λ text has. split_fault model bench text job.circuit tests c.args.split
+    c.in_ok-job.ensures.circuit has fault refused)
