@@ -152,7 +152,7 @@ where
         rt, alloc, model, bench, tests, size, is_summed, workers,
     )?;
     match split_run_with(rt, alloc, job, tests, split, apart, workers) {
-        Ok((run, parts)) => Some(Ok((run, parts, sum))),
+        Ok((made, parts)) => Some(Ok((made, parts, sum))),
         Err(fault) => Some(Err(fault)),
     }
 }

@@ -1,4 +1,4 @@
-use Rattle.std.proofs.Common.{◌≡◌, ◌++◌, Some, subst, take}
+use Rattle.std.proofs.Common.{◌≡◌, ◌∙◌, ◌++◌, Some, ap, is_some, subst, sym, take}
 use Rattle.sha2.specs.Hashers.{Holds256}
 use Rattle.job_loading.proofs.SummedFiles.{HasTaken, summed_more}
 use Rattle.job_loading.proofs.sums.SummedFileRead.read.Goals as goal
@@ -18,6 +18,7 @@ invariant_of-self-in-Some g c = record {
       summed_more g.T.FileText.text (g.F.Read.remaining c.args.self.now.file)
       (g.F.Read.remaining c.read.new.self) c.args.self.now.hasher (Some c.update.new.self) bytes
       c.args.self.now.known c.in_ok-count.ensures.bytes.0 took;
+  summed = sym (ap is_some c.in-Some.is) ∙ c.args.self.now.summed;
 }
 
 pub invariant_of-self-in_default : goal.invariant_of-self-in_default
@@ -29,4 +30,5 @@ invariant_of-self-in_default g c = record {
       summed_more g.T.FileText.text (g.F.Read.remaining c.args.self.now.file)
       (g.F.Read.remaining c.read.new.self) hasher hasher bytes c.args.self.now.known
       c.in_ok-count.ensures.bytes.0 took;
+  summed = c.args.self.now.summed;
 }
