@@ -78,7 +78,7 @@ fn have_bits(tests: &Tests) -> bool {
 /// Returns whether the test file is read piece by piece.
 fn is_read_in_pieces<R: Threads + Wait>(rt: &R, alloc: Global, text: &[u8]) -> bool {
     match read_tests_in_pieces(rt, alloc, text, WIDTH, PIECE, WORKERS) {
-        Some(tests) => have_bits(&tests),
+        Some((tests, file)) => have_bits(&tests) && file.is_empty(),
         None => false,
     }
 }
