@@ -55,7 +55,7 @@ pub fn write_part_of_run<R: Threads + Wait, G: Watch + Sync, W: Out>(
     requires gate { run.old.apart ≡ true → G.passing gate.now }
     requires part { part < parts }
     ensures written { WritesOneOf (IsPartTextOfJob (head_with run.old.parts.list.model
-        sums.bench.now sums.tests.now part parts) run.old.parts) result
+        sums.entry.bench.now sums.entry.tests.now part parts) run.old.parts) result
         (W.seen out.old) (W.seen out.new) }
     ensures refused { IfErr result (IsJobReportFault workers
         (IsPartFault run.old.parts parts part workers (G.passing gate.now)
