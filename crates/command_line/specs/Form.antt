@@ -39,13 +39,16 @@ IsFormOfJob job bench tests (form.Report contents) bytes = IsReportOfJob job con
 IsFormOfJob job bench tests (form.Table lines wanted format) bytes =
     IsFirstTableOfJob job lines wanted format bytes
 IsFormOfJob job bench tests (form.Reasons classes) bytes = IsReasonReportOfJob job classes bytes
-IsFormOfJob job bench tests (form.Blocks separator) bytes = IsBlockReportOfJob job (byte_of separator) bytes
+IsFormOfJob job bench tests (form.Blocks separator) bytes =
+    IsBlockReportOfJob job (byte_of separator) bytes
 IsFormOfJob job bench tests (form.BlockTable separator format) bytes =
     IsBlockTableOfJob job (byte_of separator) format bytes
 IsFormOfJob job bench tests form.Curve bytes = IsCurveOfJob job bytes
 IsFormOfJob job bench tests (form.CurveTable format) bytes = IsCurveTableOfJob job format bytes
-IsFormOfJob job bench tests (form.Detections most list) bytes = IsDetectionReportOfJob job most list bytes
-IsFormOfJob job bench tests (form.Histogram most list) bytes = IsHistogramReportOfJob job most list bytes
+IsFormOfJob job bench tests (form.Detections most list) bytes =
+    IsDetectionReportOfJob job most list bytes
+IsFormOfJob job bench tests (form.Histogram most list) bytes =
+    IsHistogramReportOfJob job most list bytes
 IsFormOfJob job bench tests (form.HistogramTable most format) bytes =
     IsHistogramTableOfJob job most format bytes
 IsFormOfJob job bench tests (form.Kept layout) bytes = IsKeptOfJob job layout bytes
