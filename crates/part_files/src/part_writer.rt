@@ -28,12 +28,12 @@ use std::thread::Threads;
 const RULE: &str = "region";
 
 /// Runs one part of the fault classes of a job, and writes its part file. The part counts from 0,
-/// of this number of parts. The file has the part and its run, with the sums of the two files, and a
-/// line for each fault of the list. The line has the first detecting test, `none`, or `-` if the
+/// of this number of parts. The file has the part and its run, with the sums of the two files, and
+/// a line for each fault of the list. The line has the first detecting test, `none`, or `-` if the
 /// fault is in another part. Last comes how many faults of the part are detected.
 ///
-/// It calls the gate when the run of the part begins and when it ends, and asks it before each piece
-/// of work. The gate decides whether there is a part file, but not its bytes.
+/// It calls the gate when the run of the part begins and when it ends, and asks it before each
+/// piece of work. The gate decides whether there is a part file, but not its bytes.
 ///
 /// # Errors
 ///
