@@ -7,6 +7,7 @@ ghost use Rattle.part_files.specs.PartText.{IsPartTextOfJob, head_with};
 ghost use Rattle.command_line.specs.Form.{IsFormOfJob, IsKeptOfJob, NeedsSums};
 ghost use Rattle.command_line.specs.Form.{bench_sum, test_sum};
 
+use crate::part::Part;
 use crate::tally::Tally;
 use analysis_reports::{
     KeptLayout, write_blocks_of_run, write_detections_of_run, write_histogram_of_run,
@@ -66,16 +67,6 @@ pub(crate) enum Form {
     Kept(KeptLayout),
     /// The file of one part of the classes.
     Part(Part),
-}
-
-/// A part of the classes.
-#[derive(Clone, Copy)]
-pub(crate) struct Part {
-    /// The part, counted from 0.
-    pub(crate) part: u32,
-    /// The number of parts.
-    pub(crate) parts: u32,
-    pub(crate) ghost within: { part < parts },
 }
 
 /// Returns whether an output has the sums of the two files.

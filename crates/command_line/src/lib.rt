@@ -19,6 +19,7 @@ mod form_run;
 mod format;
 mod merge;
 mod options;
+mod part;
 mod pieces;
 mod progress;
 mod responses;
