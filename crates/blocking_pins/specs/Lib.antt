@@ -1,0 +1,4 @@
+pub mod Blocking
+pub mod Effects
+pub mod Counting
+pub mod Sorted
