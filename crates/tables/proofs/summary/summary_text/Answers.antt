@@ -7,10 +7,6 @@ returns c =
       c.new-text.ensures.items,
       c.truth_text.ensures,
       c.model_name.ensures,
-      c.as_str.ensures.value,
-      c.in_ok-bench.ensures,
-      c.as_str-2.ensures.value,
-      c.in_ok-tests.ensures,
       c.format.ensures.text,
     ) at c.in_ok-add_inputs.ensures in
     four_parts _ _ _ _ _ _ _ _ begun c.in_ok-add_counts.ensures c.in_ok-add_reasons.ensures
