@@ -1,6 +1,6 @@
 -- The outputs of runs, from the files to the bytes.
-use Rattle.std.proofs.Common.{◌≡◌, ◌⊎◌, List, ℕ, Option, Some, None, inl, inr, subst, sym}
-use Rattle.std.specs.Prelude.{IfErr, IfOk, IfSome, Result, Ok, Err}
+use Rattle.std.proofs.Common.{◌≡◌, ◌∙◌, ◌⊎◌, List, ℕ, Option, Some, None, inl, inr, subst, sym}
+use Rattle.std.specs.Prelude.{IfErr, IfOk, IfSome, IsSome, Result, Ok, Err}
 use Rattle.byte_output.specs.Output.{Output}
 use Rattle.bench_net.specs.Refusal.{IsAccepted}
 use Rattle.fault_model.specs.declared.Model.{Model}
@@ -15,6 +15,7 @@ use Rattle.analysis_reports.specs.declared.compacted.KeptCount.{KeptCount}
 use Rattle.analysis_reports.specs.declared.compacted.KeptLayout.{KeptLayout}
 use Rattle.analysis_reports.specs.Compacted.{GivesOneOf, IsKeptTextOfJob}
 use Rattle.command_line.specs.declared.form.Form.{Form}
+use Rattle.command_line.specs.declared.form_run.Sums.{Sums}
 use Rattle.command_line.specs.declared.form.Form.TheVariants as form
 use Rattle.command_line.specs.Form.{IsFormOf, IsFormOfJob, IsKeptOfJob, NeedsSums}
 
@@ -36,6 +37,13 @@ same_form job b t bench tests (form.Kept layout) bytes one other is = is
 same_form job b t bench tests (form.Part part) bytes one other is =
     subst (λ x. IsFormOfJob job x tests (form.Part part) bytes) (one tt)
     (subst (λ x. IsFormOfJob job b x (form.Part part) bytes) (other tt) is)
+
+-- the sum of the test file, to an output that has it
+pub needed_tests : (text : Option (List ℕ)) (form : Form) (sums : Option Sums) (t own : List ℕ)
+    → IfSome text (λ x. IsSome sums → own ≡ sum_text x) → t ≡ own
+    → (NeedsSums form → IsSome sums) → IfSome text (λ x. NeedsSums form → t ≡ sum_text x)
+needed_tests None form sums t own is same some = tt
+needed_tests (Some x) form sums t own is same some = λ needs. same ∙ is (some needs)
 
 -- the output for a job of files is the output for the files
 pub written_form : (m : Model) (bench b t : List ℕ) (text : Option (List ℕ)) (form : Form)

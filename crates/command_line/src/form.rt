@@ -93,7 +93,7 @@ pub(crate) fn write_form_of_run<R: Threads + Wait, G: Watch + Sync, W: Out>(
     requires job { BelongTogether run.old.parts }
     requires passing { G.passing gate.now }
     requires parts { 0 < parts }
-    requires sums { NeedsSums form → IsSome sums.entry }
+    requires sums { NeedsSums form → IsSome sums }
     ensures { WritesOneOf (IsFormOfJob run.old.parts (bench_sum sums.entry)
         (test_sum sums.entry) form) result (W.seen out.old) (W.seen out.new) }
 {
@@ -172,7 +172,7 @@ fn write_part<R: Threads + Wait, G: Watch + Sync, W: Out>(
 ) -> Result<(), SimFault>
     requires job { BelongTogether run.old.parts }
     requires passing { G.passing gate.now }
-    requires sums { IsSome sums.entry }
+    requires sums { IsSome sums }
     ensures { WritesOneOf (IsPartTextOfJob (head_with run.old.parts.list.model
         (bench_sum sums.entry) (test_sum sums.entry) part.part part.parts) run.old.parts) result
         (W.seen out.old) (W.seen out.new) }
