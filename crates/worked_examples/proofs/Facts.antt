@@ -16,7 +16,8 @@ use Rattle.fault_model.specs.declared.Model.TheVariants.{StuckAt}
 use Rattle.fault_model.specs.declared.Line.TheVariants as line
 use Rattle.fault_model.specs.Solution.{Solves, Detects}
 use Rattle.fault_model.specs.Collapse.{Represents}
-use Rattle.fault_model.proofs.Public.{bit_within, rep_represents, solves, detects}
+use Rattle.worked_examples.proofs.Chains.{represents}
+use Rattle.fault_model.proofs.Public.{bit_within, solves, detects}
 use Rattle.worked_examples.proofs.Bench.{c17_text, inverter_loop_text, scan_cell_text, self_cell}
 use Rattle.worked_examples.proofs.Bench.{odd_spelling}
 use Rattle.worked_examples.proofs.Circuits.{c17, inverter_loop, buffer, output_and_inverter}
@@ -156,5 +157,5 @@ scan_cell_sinks = refl
 -- the chain of `stem G6 sa0` in c17 ends at `stem G11 sa1`
 c17_chain : Represents c17 (record { model = StuckAt; line = line.Stem 3; stuck = false })
     (record { model = StuckAt; line = line.Stem 6; stuck = true })
-c17_chain = rep_represents 13 c17 (record { model = StuckAt; line = line.Stem 3; stuck = false })
+c17_chain = represents 13 c17 (record { model = StuckAt; line = line.Stem 3; stuck = false })
     refl

@@ -1,5 +1,7 @@
 pub mod Circuits
 pub mod Bench
+pub mod Chains
+pub mod GivenBits
 pub mod Facts
 pub mod Laws
 pub mod Values

@@ -11,7 +11,8 @@ use Rattle.fault_model.specs.Fault.{faults}
 use Rattle.fault_model.specs.Solution.{Test}
 use Rattle.fault_model.specs.Collapse.{representatives}
 use Rattle.fault_model.specs.Detection.{DetectsAt, IsSecondOfPair}
-use Rattle.fault_model.proofs.Public.{class_of, first_within, slow_in_pairs_at}
+use Rattle.fault_model.proofs.Public.{class_of, detects, first_within}
+use Rattle.worked_examples.proofs.GivenBits.{has_bit}
 use Rattle.report.specs.Report.{report}
 use Rattle.report.specs.declared.contents.Lines.TheVariants.{Omitted}
 use Rattle.worked_examples.proofs.Circuits.{c17, buffer, output_and_inverter}
@@ -70,8 +71,20 @@ c17_class_count = refl
 -- a pin, slow to rise, at the relation: test 1 after test 0
 pin_slow : DetectsAt output_and_inverter ((false ∷ []) ∷ (true ∷ []) ∷ [])
     (record { model = TransitionPairs; line = line.Pin 1 0; stuck = false }) 1
-pin_slow = slow_in_pairs_at 4 output_and_inverter ((false ∷ []) ∷ (true ∷ []) ∷ [])
-    (line.Pin 1 0) false 0 (false ∷ []) (true ∷ []) (0, refl) refl refl refl refl refl refl refl
+pin_slow = (
+  true ∷ [],
+  refl,
+  detects 4 output_and_inverter (true ∷ [])
+      (record { model = TransitionPairs; line = line.Pin 1 0; stuck = false }) refl refl refl,
+  (
+    (0, refl),
+    (
+      false ∷ [],
+      refl,
+      has_bit 4 output_and_inverter (false ∷ []) (line.Pin 1 0) false (codes "a") refl refl refl,
+    ),
+  ),
+)
 
 -- the first of a pair detects nothing
 none_at_first_of_pair : (ts : List Test)

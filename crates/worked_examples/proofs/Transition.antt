@@ -9,7 +9,8 @@ use Rattle.fault_model.specs.Fault.{faults}
 use Rattle.fault_model.specs.Solution.{Test}
 use Rattle.fault_model.specs.Collapse.{representatives}
 use Rattle.fault_model.specs.Detection.{DetectsAt, name_on}
-use Rattle.fault_model.proofs.Public.{class_of, first_within, slow_at}
+use Rattle.fault_model.proofs.Public.{class_of, detects, first_within}
+use Rattle.worked_examples.proofs.GivenBits.{has_bit}
 use Rattle.worked_examples.proofs.Circuits.{c17, and_of_two, buffer, output_and_inverter, scan_cell}
 
 abbrev rows : List (List ℕ) → List Test
@@ -75,8 +76,17 @@ carried_out = refl
 -- a pin, slow to rise, at the relation: test 1 after test 0
 pin_slow : DetectsAt output_and_inverter ((false ∷ []) ∷ (true ∷ []) ∷ [])
     (record { model = Transition; line = line.Pin 1 0; stuck = false }) 1
-pin_slow = slow_at 4 output_and_inverter ((false ∷ []) ∷ (true ∷ []) ∷ []) (line.Pin 1 0) false 0
-    (false ∷ []) (true ∷ []) refl refl refl refl refl refl refl
+pin_slow = (
+  true ∷ [],
+  refl,
+  detects 4 output_and_inverter (true ∷ [])
+      (record { model = Transition; line = line.Pin 1 0; stuck = false }) refl refl refl,
+  (
+    false ∷ [],
+    refl,
+    has_bit 4 output_and_inverter (false ∷ []) (line.Pin 1 0) false (codes "a") refl refl refl,
+  ),
+)
 
 -- the first test detects none
 none_at_first : (tests : List Test)

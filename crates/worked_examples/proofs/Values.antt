@@ -11,7 +11,7 @@ use Rattle.fault_model.specs.declared.Model.TheVariants.{StuckAt}
 use Rattle.fault_model.specs.declared.Line.TheVariants as line
 use Rattle.fault_model.specs.Fault.{Fault, faults}
 use Rattle.fault_model.specs.Collapse.{IsClassOf, AreClassesOf, Represents, representatives}
-use Rattle.fault_model.proofs.Public.{rep_represents}
+use Rattle.worked_examples.proofs.Chains.{represents}
 use Rattle.patterns.specs.Tests.{bit, as_number}
 use Rattle.patterns.specs.Least.{below}
 use Rattle.std.specs.Int.{bit_at}
@@ -40,15 +40,15 @@ buffer_classes = record { count = refl; class = each; representative = refl }
     each : (i : ℕ) (f : Fault) (k : ℕ) → slice_get (faults StuckAt buffer) i ≡ Some f
         → slice_get (0 ∷ 1 ∷ 0 ∷ 1 ∷ []) i ≡ Some k → IsClassOf StuckAt buffer f k
     each zero f k e h = as_is (stem 0 false) f 0 k e h
-        (at (stem 0 false) 0 (inl refl) refl (rep_represents 3 buffer (stem 0 false) refl))
+        (at (stem 0 false) 0 (inl refl) refl (represents 3 buffer (stem 0 false) refl))
     each (suc zero) f k e h = as_is (stem 0 true) f 1 k e h
-        (at (stem 0 true) 1 (inr (inl refl)) refl (rep_represents 3 buffer (stem 0 true) refl))
+        (at (stem 0 true) 1 (inr (inl refl)) refl (represents 3 buffer (stem 0 true) refl))
     each (suc (suc zero)) f k e h =
         as_is (stem 1 false) f 0 k e h (at (stem 1 false) 0 (inr (inr (inl refl))) refl
-        (rep_represents 3 buffer (stem 1 false) refl))
+        (represents 3 buffer (stem 1 false) refl))
     each (suc (suc (suc zero))) f k e h =
         as_is (stem 1 true) f 1 k e h (at (stem 1 true) 1 (inr (inr (inr (inl refl)))) refl
-        (rep_represents 3 buffer (stem 1 true) refl))
+        (represents 3 buffer (stem 1 true) refl))
     each (suc (suc (suc (suc i)))) f k e h = let bad : None ≡ Some f = e in cc
 
 -- the word of three tests 1, 0, 1 is 5: bit 0 and bit 2, and 0 past the last test
