@@ -5,4 +5,5 @@ mod ReasonTexts
 mod CountedTexts
 mod HistogramTexts
 mod BlockTexts
+mod BlockingTexts
 pub mod Public

@@ -1,4 +1,5 @@
 pub mod Blocks
+pub mod BlockingReports
 pub mod Histogram
 pub mod Detected
 pub mod Compacted

@@ -8,7 +8,7 @@ ghost use Rattle.fault_model.specs.Fault.{faults};
 ghost use Rattle.block_coverage.specs.Blocks.{byte_of};
 ghost use Rattle.block_sim.specs.Parts.{BelongTogether};
 ghost use Rattle.byte_output.specs.Output.{Writes};
-ghost use Rattle.region_runs.specs.Refused.{ArePartsWithin, IsPartsFault};
+ghost use Rattle.region_runs.specs.Refused.{IsPartsFault};
 ghost use Rattle.report.specs.EndToEnd.{IsJobTextFault, IsListFault, WritesOneOf};
 ghost use Rattle.analysis_reports.specs.Blocks.{IsBlockReport, IsBlockReportOfJob, flagged};
 ghost use Rattle.analysis_reports.specs.Blocks.{row_line};
@@ -58,7 +58,6 @@ pub fn write_blocks_of_run<R: Threads + Wait, G: Watch + Sync, W: Out>(
     ensures refused { IfErr result (IsJobTextFault workers
         (IsPartsFault run.old.parts parts workers (G.passing gate.now) (G.stops gate.now))) }
     ensures workers { OnOk result ((0 < workers) × (workers ≤ 64)) }
-    ensures within { OnOk result (ArePartsWithin run.old.parts parts) }
     ensures kept { run.new ≡ run.old }
 {
     let verdicts = run.run(rt, alloc, parts, workers, gate)?;

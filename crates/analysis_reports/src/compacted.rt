@@ -8,7 +8,7 @@ ghost use Rattle.analysis_reports.specs.Compacted.{GivesOneOf};
 ghost use Rattle.analysis_reports.specs.Compacted.{IsKeptTextOfJob};
 ghost use Rattle.analysis_reports.specs.Compacted.{kept_text, number_line};
 ghost use Rattle.report.specs.EndToEnd.{IsJobTextFault, IsListFault, WritesOneOf};
-ghost use Rattle.region_runs.specs.Refused.{ArePartsWithin, IsPartsFault};
+ghost use Rattle.region_runs.specs.Refused.{IsOpenFault};
 ghost use Rattle.test_columns.specs.Files.{file_text};
 
 use crate::whole::put_text;
@@ -83,10 +83,8 @@ pub fn write_kept_of_run<R: Threads + Wait, G: Watch + Sync, W: Out>(
     requires parts { 0 < parts }
     ensures written { GivesOneOf (IsKeptTextOfJob run.old.parts layout) result (W.seen out.old)
         (W.seen out.new) }
-    ensures refused { IfErr result (IsJobTextFault workers
-        (IsPartsFault run.old.parts parts workers (G.passing gate.now) (G.stops gate.now))) }
+    ensures refused { IfErr result (IsJobTextFault workers (IsOpenFault workers)) }
     ensures workers { OnOk result ((0 < workers) × (workers ≤ 64)) }
-    ensures within { OnOk result (ArePartsWithin run.old.parts parts) }
 {
     let all = run.tests().count();
     let kept = compact(rt, alloc, run, layout.order, parts, workers, gate)?;

@@ -5,10 +5,12 @@
 //! detects a fault. [`compact_text_watched`] writes fewer tests that detect the same faults,
 //! [`responses_text_in`] the responses of the circuit without faults, and [`pairs_text_in`] the
 //! pairs of launch-on-capture tests. [`write_blocks_of_run`] writes the coverage of each block of a
-//! design. They are called as the functions of the crate `report` are,
-//! which writes their lines of faults and of coverage, and their contracts define the bytes.
+//! design, and [`write_blocking_of_run`] the pins that block the effects of undetected faults. They
+//! are called as the functions of the crate `report` are, which writes their lines of faults and of
+//! coverage, and their contracts define the bytes.
 #![tactic(auto)]
 
+mod blocking;
 mod blocks;
 mod compacted;
 mod detected;
@@ -19,6 +21,7 @@ mod reasoned;
 mod responses;
 mod whole;
 
+pub use blocking::{NamedPin, named_pin, write_blocking, write_blocking_of_run};
 pub use blocks::{count_flags, detected_flags, write_blocks, write_blocks_of_run};
 pub use compacted::{KeptCount, KeptForm, KeptLayout, write_kept_of_run};
 pub use compaction::TestOrder;

@@ -6,7 +6,7 @@ ghost use Rattle.std.specs.List.{flat_map};
 ghost use Rattle.fault_model.specs.Fault.{faults};
 ghost use Rattle.block_sim.specs.Parts.{BelongTogether};
 ghost use Rattle.byte_output.specs.Output.{Writes};
-ghost use Rattle.region_runs.specs.Refused.{ArePartsWithin, IsPartsFault};
+ghost use Rattle.region_runs.specs.Refused.{IsPartsFault};
 ghost use Rattle.analysis_reports.specs.Reasons.{reason_counts_of};
 ghost use Rattle.report.specs.EndToEnd.{IsJobTextFault, WritesOneOf};
 ghost use Rattle.analysis_reports.specs.Reasons.{IsReasonReportOfJob, has_reason};
@@ -64,7 +64,6 @@ pub fn write_reasons_of_run<R: Threads + Wait, G: Watch + Sync, W: Out>(
     ensures refused { IfErr result (IsJobTextFault workers
         (IsPartsFault run.old.parts parts workers (G.passing gate.now) (G.stops gate.now))) }
     ensures workers { OnOk result ((0 < workers) × (workers ≤ 64)) }
-    ensures within { OnOk result (ArePartsWithin run.old.parts parts) }
     ensures kept { run.new ≡ run.old }
 {
     let verdicts = run.run(rt, alloc, parts, workers, gate)?;

@@ -28,6 +28,8 @@ same_form job b t bench tests (form.Table lines wanted format) bytes one other i
 same_form job b t bench tests (form.Reasons classes) bytes one other is = is
 same_form job b t bench tests (form.Blocks separator) bytes one other is = is
 same_form job b t bench tests (form.BlockTable separator format) bytes one other is = is
+same_form job b t bench tests form.Blocking bytes one other is = is
+same_form job b t bench tests (form.BlockingTable format) bytes one other is = is
 same_form job b t bench tests form.Curve bytes one other is = is
 same_form job b t bench tests (form.CurveTable format) bytes one other is = is
 same_form job b t bench tests (form.Detections most list) bytes one other is = is

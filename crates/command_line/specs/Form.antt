@@ -14,12 +14,14 @@ use Rattle.report.specs.Curve.{IsCurveOfJob}
 use Rattle.report.specs.EndToEnd.{IsReportOfJob}
 use Rattle.analysis_reports.specs.declared.compacted.KeptCount.{KeptCount}
 use Rattle.analysis_reports.specs.declared.compacted.KeptLayout.{KeptLayout}
+use Rattle.analysis_reports.specs.BlockingReports.{IsBlockingReportOfJob}
 use Rattle.analysis_reports.specs.Blocks.{IsBlockReportOfJob}
 use Rattle.analysis_reports.specs.Compacted.{IsKeptTextOfJob}
 use Rattle.analysis_reports.specs.Detected.{IsDetectionReportOfJob}
 use Rattle.analysis_reports.specs.Histogram.{IsHistogramReportOfJob}
 use Rattle.analysis_reports.specs.Reasons.{IsReasonReportOfJob}
 use Rattle.tables.specs.BlockTables.{IsBlockTableOfJob}
+use Rattle.tables.specs.BlockingTables.{IsBlockingTableOfJob}
 use Rattle.tables.specs.CurveTables.{IsCurveTableOfJob}
 use Rattle.tables.specs.HistogramTables.{IsHistogramTableOfJob}
 use Rattle.tables.specs.Tables.{IsFirstTableOfJob}
@@ -43,6 +45,9 @@ IsFormOfJob job bench tests (form.Blocks separator) bytes =
     IsBlockReportOfJob job (byte_of separator) bytes
 IsFormOfJob job bench tests (form.BlockTable separator format) bytes =
     IsBlockTableOfJob job (byte_of separator) format bytes
+IsFormOfJob job bench tests form.Blocking bytes = IsBlockingReportOfJob job bytes
+IsFormOfJob job bench tests (form.BlockingTable format) bytes =
+    IsBlockingTableOfJob job format bytes
 IsFormOfJob job bench tests form.Curve bytes = IsCurveOfJob job bytes
 IsFormOfJob job bench tests (form.CurveTable format) bytes = IsCurveTableOfJob job format bytes
 IsFormOfJob job bench tests (form.Detections most list) bytes =

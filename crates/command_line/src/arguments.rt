@@ -25,24 +25,26 @@ pub fn run_arguments<
 {
     match read_arguments(rt) {
         Ok(arguments) => run_on_files(rt, &arguments, input, out, err),
-        Err(fault) => answer_fault(&fault, err),
+        Err(fault) => answer_fault(&fault, None, err),
     }
 }
 
 /// Returns the arguments of the process.
-fn read_arguments<R: Env + AllocGlobal>(rt: &R) -> Result<Vec<String>, CommandError<'static>> {
+fn read_arguments<R: Env + AllocGlobal>(rt: &R) -> Result<Vec<String>, CommandError> {
     let arguments = match env::args(rt) {
         Ok(arguments) => arguments,
         Err(error) if error.kind() == ErrorKind::OutOfMemory => return Err(NO_MEMORY),
         Err(_) => return Err(CommandError::NoText),
     };
-    match arguments.collect(rt.alloc()) {
-        Ok(arguments) => Ok(arguments),
-        Err(AllocError) => Err(NO_MEMORY),
-    }
+    Ok(arguments.collect(rt.alloc())?)
 }
 
-/// Runs arguments on the files of the system.
+/// Returns the words of arguments.
+fn words_of(alloc: Global, arguments: &[String]) -> Result<Vec<&str>, AllocError> {
+    arguments.iter().map(|word| word.as_str()).collect(alloc)
+}
+
+/// Runs arguments on the files of the system, with a buffer before the output.
 fn run_on_files<
     R: HasFiles<File = File> + Clock + AllocGlobal + Threads + Wait,
     W: Write + Drop,
@@ -50,35 +52,18 @@ fn run_on_files<
 >(rt: &R, arguments: &[String], input: Stdin, out: W, err: &mut E) -> u8
     ensures { result ≤ 4 }
 {
-    match words_of(rt.alloc(), arguments) {
-        Ok(words) => run_with_buffer(rt, &words, input, out, err),
-        Err(AllocError) => answer_fault(&NO_MEMORY, err),
-    }
-}
-
-/// Returns the words of arguments.
-fn words_of<'a>(alloc: Global, arguments: &'a [String]) -> Result<Vec<&'a str>, AllocError> {
-    arguments.iter().map(|word| word.as_str()).collect(alloc)
-}
-
-/// Runs words on the files of the system, with a buffer before the output.
-fn run_with_buffer<
-    'a,
-    R: HasFiles<File = File> + Clock + AllocGlobal + Threads + Wait,
-    W: Write + Drop,
-    E: Out + Send,
->(rt: &R, words: &'a [&'a str], input: Stdin, out: W, err: &mut E) -> u8
-    ensures { result ≤ 4 }
-{
+    let Ok(words) = words_of(rt.alloc(), arguments) else {
+        return answer_fault(&NO_MEMORY, None, err);
+    };
     let Ok(buffered) = BufWriter::new(rt.alloc(), out) else {
-        return answer_fault(&NO_MEMORY, err);
+        return answer_fault(&NO_MEMORY, None, err);
     };
     let mut out = Plain::new(buffered);
     let mut files = Files::new(rt, input);
-    let status = run_words(rt, rt.alloc(), words, &mut files, &mut out, err);
+    let status = run_words(rt, rt.alloc(), &words, &mut files, &mut out, err);
     let flushed = out.into_writer().flush();
     if matches!(status, DONE | MISSED | REFUSED) && flushed.is_err() {
-        return answer_fault(&UNWRITTEN, err);
+        return answer_fault(&UNWRITTEN, None, err);
     }
     status
 }

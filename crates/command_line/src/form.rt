@@ -10,8 +10,8 @@ ghost use Rattle.command_line.specs.Form.{bench_sum, test_sum};
 use crate::part::Part;
 use crate::tally::Tally;
 use analysis_reports::{
-    KeptLayout, write_blocks_of_run, write_detections_of_run, write_histogram_of_run,
-    write_kept_of_run, write_reasons_of_run,
+    KeptLayout, write_blocking_of_run, write_blocks_of_run, write_detections_of_run,
+    write_histogram_of_run, write_kept_of_run, write_reasons_of_run,
 };
 use block_coverage::Separator;
 use job_loading::{FileSums, RunJob};
@@ -21,8 +21,8 @@ use std::alloc::Global;
 use std::sync::Wait;
 use std::thread::Threads;
 use tables::{
-    Format, FurtherColumns, write_block_table_of_run, write_curve_table_of_run,
-    write_histogram_table_of_run, write_table_of_run,
+    Format, FurtherColumns, write_block_table_of_run, write_blocking_table_of_run,
+    write_curve_table_of_run, write_histogram_table_of_run, write_table_of_run,
 };
 
 /// The output of a run, of all classes or of a part.
@@ -44,6 +44,10 @@ pub(crate) enum Form {
     Blocks(Separator),
     /// The table of the coverage of each block.
     BlockTable(Separator, Format),
+    /// The pins that block the effects of undetected faults.
+    Blocking,
+    /// The table of these pins.
+    BlockingTable(Format),
     /// The curve.
     Curve,
     /// The table of the curve.
@@ -116,6 +120,10 @@ pub(crate) fn write_form_of_run<R: Threads + Wait, G: Watch + Sync, W: Out>(
         }
         Form::BlockTable(separator, format) => {
             write_block_table_of_run(rt, alloc, run, parts, workers, separator, format, gate, out)
+        }
+        Form::Blocking => write_blocking_of_run(rt, alloc, run, parts, workers, gate, out),
+        Form::BlockingTable(format) => {
+            write_blocking_table_of_run(rt, alloc, run, parts, workers, format, gate, out)
         }
         Form::Curve => write_curve_of_run(rt, alloc, run, parts, workers, gate, out),
         Form::CurveTable(format) => {

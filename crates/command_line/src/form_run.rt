@@ -5,7 +5,7 @@ ghost use Rattle.std.specs.Prelude.{is_some, string_bytes, true};
 ghost use Rattle.bench_net.specs.Refusal.{IsAccepted};
 ghost use Rattle.block_sim.specs.Parts.{BelongTogether};
 ghost use Rattle.job_loading.specs.Jobs.{IsJobOf};
-ghost use Rattle.job_loading.specs.Splits.{HasSomePart, IsSplitOf};
+ghost use Rattle.job_loading.specs.Limits.{IsWithinLimit};
 ghost use Rattle.job_loading.specs.Sums.{sum_text};
 ghost use Rattle.report.specs.EndToEnd.{WritesOneOf};
 ghost use Rattle.command_line.specs.Form.{AreBytes, IsBeforeOutput, IsFormForSome, IsFormOf};
@@ -13,19 +13,19 @@ ghost use Rattle.command_line.specs.Form.{NeedsSums, bench_of, bench_sum, test_s
 ghost use Rattle.command_line.specs.Form.{text_of};
 ghost use Rattle.command_line.specs.Options.{NamesModel};
 
-use crate::columns::{check_names, check_opened};
-use crate::command::{read_model, read_option, read_workers};
-use crate::crew::read_crew;
 use crate::form::{Form, needs_sums, write_form_of_run};
-use crate::pieces::{is_excess, run_fault};
+use crate::inputs::{InputFile, check_names, check_opened};
 use crate::progress::Progress;
 use crate::status::CommandError;
-use crate::tally::{Found, Quiet, Tally};
+use crate::tally::{Found, Tally};
+use crate::values::{Split, read_crew, read_model, read_workers};
+use block_sim::JobFault;
 use clap::ArgMatches;
 use command_basics::Source;
 use fault_model::Model;
-use job_loading::{FileSums, LONG_TESTS, RunJob, split_run_in_pieces, split_run_of, sum_of};
-use report::{Out, SimFault, Split, Watch};
+use input_check::{Answer, check_texts};
+use job_loading::{FileSums, LONG_TESTS, Limit, RunJob, read_run, read_run_in_pieces, sum_of};
+use report::{Out, SimFault, Watch};
 use std::alloc::{AllocError, Global};
 use std::fs::File;
 use std::io::Read;
@@ -42,6 +42,16 @@ pub(crate) enum TestFile<'b, F: Drop> {
     Pieces { file: F, size: u64 },
 }
 
+impl<'b, F: Drop> TestFile<'b, F> {
+    /// Returns all its bytes, if they are given.
+    fn bytes(&self) -> Option<&'b [u8]> {
+        match self {
+            TestFile::Bytes(bytes) => Some(bytes),
+            TestFile::Pieces { .. } => None,
+        }
+    }
+}
+
 /// The inputs of a run.
 #[derive(Drop)]
 pub(crate) struct Inputs<'b, F: Drop> {
@@ -52,15 +62,6 @@ pub(crate) struct Inputs<'b, F: Drop> {
     /// Whether the sums of both files are wanted.
     pub(crate) is_summed: bool,
     pub(crate) workers: u32,
-}
-
-/// What the command line requests of a run.
-#[derive(Clone, Copy)]
-pub(crate) struct Wanted {
-    pub(crate) form: Form,
-    pub(crate) split: Split,
-    /// Whether the sums of both files are wanted, too.
-    pub(crate) is_summed: bool,
 }
 
 /// The sums of the two files of a run.
@@ -94,45 +95,50 @@ pub(crate) struct Outcome {
 
 /// Runs the command line, and writes the output. It reads a long test file piece by piece, and any
 /// other one whole. It reads both files before it checks either.
-pub(crate) fn write_form<'a, R: Threads + Wait, S: Source, W: Out, E: Out + Send>(
+pub(crate) fn write_form<R: Threads + Wait, S: Source, W: Out, E: Out + Send>(
     rt: &R,
     alloc: Global,
-    matches: &ArgMatches<'a>,
-    wanted: Wanted,
+    matches: &ArgMatches<'_>,
+    form: Form,
+    split: Split,
+    is_summed: bool,
     files: &mut S,
     out: &mut W,
     err: &mut E,
-) -> Result<Outcome, CommandError<'a>>
-    requires { HasSomePart wanted.split }
-{
-    let bench = read_option(alloc, matches, "bench", files)?;
-    if let Some(inputs) = open_inputs(alloc, matches, &bench, wanted, files)? {
-        let left = write_of_pieces(rt, alloc, matches, inputs, wanted.form, files, out, err)?;
-        if let Some(outcome) = left {
+) -> Result<Outcome, CommandError> {
+    let bench = InputFile::Bench.read(alloc, matches, files)?;
+    if let Some(inputs) = open_inputs(alloc, matches, &bench, split, is_summed, files)? {
+        let done = write_inputs(rt, alloc, matches, inputs, form, files, out, err)?;
+        if let Some(outcome) = done {
             return Ok(outcome);
         }
     }
-    let tests = read_option(alloc, matches, "tests", files)?;
-    write_of_bytes(rt, alloc, matches, &bench, &tests, wanted, out, err)
+    let tests = InputFile::Tests.read(alloc, matches, files)?;
+    let inputs = whole_inputs(alloc, matches, &bench, &tests, split, is_summed)?;
+    match write_inputs(rt, alloc, matches, inputs, form, files, out, err)? {
+        Some(outcome) => Ok(outcome),
+        None => unreachable!(),
+    }
 }
 
 /// Opens the test file that the command line names, if it is long, and checks the names of its
 /// columns. Returns none if its front can't be read.
-fn open_inputs<'a, 'b, S: Source>(
+fn open_inputs<'b, S: Source>(
     alloc: Global,
-    matches: &ArgMatches<'a>,
+    matches: &ArgMatches<'_>,
     bench: &'b [u8],
-    wanted: Wanted,
+    split: Split,
+    is_summed: bool,
     files: &S,
-) -> Result<Option<Inputs<'b, File>>, CommandError<'a>>
+) -> Result<Option<Inputs<'b, File>>, CommandError>
     ensures model { IfOk result (λ found.
         IfSome found (λ inputs. NamesModel matches.now inputs.model)) }
     ensures split { IfOk result (λ found.
-        IfSome found (λ inputs. inputs.split ≡ wanted.split)) }
+        IfSome found (λ inputs. inputs.split ≡ split)) }
 {
     let model = read_model(matches)?;
     let workers = read_workers(matches)?;
-    let Some(path) = matches.get_str("tests") else {
+    let Some(path) = InputFile::Tests.path(matches) else {
         return Ok(None);
     };
     let Some((file, size)) = files.open(path) else {
@@ -141,7 +147,7 @@ fn open_inputs<'a, 'b, S: Source>(
     if size < LONG_TESTS {
         return Ok(None);
     }
-    match check_opened(alloc, matches, bench, files) {
+    match check_opened(alloc, path, bench, files) {
         Some(checked) => checked?,
         None => return Ok(None),
     }
@@ -149,28 +155,56 @@ fn open_inputs<'a, 'b, S: Source>(
         model,
         bench,
         tests: TestFile::Pieces { file, size },
-        split: wanted.split,
-        is_summed: wanted.is_summed,
+        split,
+        is_summed,
         workers,
     }))
 }
 
-/// Runs with the test file read piece by piece. Returns what the run leaves, or `None`, with
-/// nothing written, if it can't be read so, because of an error in a file, or rows that are not
-/// alike.
-fn write_of_pieces<'a, R: Threads + Wait, S: Source, W: Out, E: Out + Send>(
+/// Returns the inputs of a run with all bytes of both files, and checks the names of the columns of
+/// the test file.
+fn whole_inputs<'b>(
+    alloc: Global,
+    matches: &ArgMatches<'_>,
+    bench: &'b [u8],
+    tests: &'b [u8],
+    split: Split,
+    is_summed: bool,
+) -> Result<Inputs<'b, File>, CommandError>
+    ensures whole { IfOk result (λ inputs. AreBytes inputs.tests) }
+    ensures model { IfOk result (λ inputs. NamesModel matches.now inputs.model) }
+    ensures split { IfOk result (λ inputs. inputs.split ≡ split) }
+{
+    check_names(alloc, bench, tests)?;
+    let model = read_model(matches)?;
+    let workers = read_crew(matches, bench, tests)?;
+    Ok(Inputs {
+        model,
+        bench,
+        tests: TestFile::Bytes(tests),
+        split,
+        is_summed,
+        workers,
+    })
+}
+
+/// Runs with these inputs, and writes the output. Returns what the run leaves, or `None`, with
+/// nothing written, if the test file can't be read piece by piece, because of an error in a file,
+/// or rows that are not alike.
+fn write_inputs<R: Threads + Wait, S: Source, W: Out, E: Out + Send>(
     rt: &R,
     alloc: Global,
-    matches: &ArgMatches<'a>,
+    matches: &ArgMatches<'_>,
     inputs: Inputs<'_, File>,
     form: Form,
     files: &mut S,
     out: &mut W,
     err: &mut E,
-) -> Result<Option<Outcome>, CommandError<'a>>
-    requires { HasSomePart inputs.split }
+) -> Result<Option<Outcome>, CommandError>
+    ensures { AreBytes inputs.entry.tests → IfOk result IsSome }
 {
     let (model, bench, workers) = (inputs.model, inputs.bench, inputs.workers);
+    let known = inputs.tests.bytes();
     let draws = matches.get_flag("progress");
     let tally = Tally::new();
     let mut sums = None;
@@ -181,60 +215,33 @@ fn write_of_pieces<'a, R: Threads + Wait, S: Source, W: Out, E: Out + Send>(
             sums,
             workers,
         })),
-        Some(Err(fault)) if has_hint(form, &fault) => {
-            let tests = read_option(alloc, matches, "tests", files)?;
-            Err(run_fault(alloc, fault, model, bench, &tests))
-        }
+        Some(Err(fault)) if is_excess(&fault) => match known {
+            Some(tests) => Err(excess_fault(alloc, fault, model, bench, tests)),
+            None => {
+                let tests = InputFile::Tests.read(alloc, matches, files)?;
+                Err(excess_fault(alloc, fault, model, bench, &tests))
+            }
+        },
         Some(Err(fault)) => Err(CommandError::Sim(fault)),
     }
 }
 
-/// Returns whether the error of a run has a hint at the number of parts in which it fits: with
-/// `--part` that number is given.
-fn has_hint(form: Form, fault: &SimFault) -> bool {
-    is_excess(fault) && !matches!(form, Form::Part(_))
+/// Returns whether the error of a run is that of its number of pieces.
+fn is_excess(fault: &SimFault) -> bool {
+    matches!(fault, SimFault::Job(JobFault::TooManyPieces))
 }
 
-/// Runs with all bytes of both files, and writes the output. It checks the names of the columns of
-/// the test file first.
-fn write_of_bytes<'a, R: Threads + Wait, W: Out, E: Out + Send>(
-    rt: &R,
+/// Returns the error of a run that has too many pieces, with the excess.
+fn excess_fault(
     alloc: Global,
-    matches: &ArgMatches<'a>,
+    fault: SimFault,
+    model: Model,
     bench: &[u8],
     tests: &[u8],
-    wanted: Wanted,
-    out: &mut W,
-    err: &mut E,
-) -> Result<Outcome, CommandError<'a>>
-    requires { HasSomePart wanted.split }
-{
-    check_names(alloc, matches, bench, tests)?;
-    let model = read_model(matches)?;
-    let workers = read_crew(matches, bench, tests)?;
-    let form = wanted.form;
-    let inputs: Inputs<'_, File> = Inputs {
-        model,
-        bench,
-        tests: TestFile::Bytes(tests),
-        split: wanted.split,
-        is_summed: wanted.is_summed,
-        workers,
-    };
-    let draws = matches.get_flag("progress");
-    let tally = Tally::new();
-    let mut sums = None;
-    match write_drawn(rt, alloc, inputs, form, draws, &tally, &mut sums, out, err) {
-        Some(Ok(())) => Ok(Outcome {
-            found: tally.found(),
-            sums,
-            workers,
-        }),
-        Some(Err(fault)) if has_hint(form, &fault) => {
-            Err(run_fault(alloc, fault, model, bench, tests))
-        }
-        Some(Err(fault)) => Err(CommandError::Sim(fault)),
-        None => unreachable!(),
+) -> CommandError {
+    match check_texts(alloc, model, bench, Some(tests)) {
+        Ok(Answer::TooManyPieces(excess)) => CommandError::TooManyPieces(fault, excess),
+        _ => CommandError::Sim(fault),
     }
 }
 
@@ -251,7 +258,6 @@ fn write_drawn<R: Threads + Wait, F: Read + Send + Drop, W: Out, E: Out + Send>(
     out: &mut W,
     err: &mut E,
 ) -> Option<Result<(), SimFault>>
-    requires { HasSomePart inputs.split }
     ensures some { AreBytes inputs.entry.tests → IsSome result }
     ensures none { IfNone result (W.seen out.new ≡ W.seen out.old) }
     ensures written { IfSome result (λ done. WritesOneOf
@@ -263,16 +269,7 @@ fn write_drawn<R: Threads + Wait, F: Read + Send + Drop, W: Out, E: Out + Send>(
         (W.seen out.old) (W.seen out.new))) }
 {
     if !draws {
-        return write_run(
-            rt,
-            alloc,
-            inputs,
-            form,
-            &Quiet::new(tally),
-            tally,
-            sums,
-            out,
-        );
+        return write_run(rt, alloc, inputs, form, tally, tally, sums, out);
     }
     let Ok(progress) = Progress::new(alloc, tally, err) else {
         return Some(Err(SimFault::Memory));
@@ -295,7 +292,6 @@ fn write_run<R: Threads + Wait, F: Read + Send + Drop, G: Watch + Sync, W: Out>(
     sums: &mut Option<Sums>,
     out: &mut W,
 ) -> Option<Result<(), SimFault>>
-    requires split { HasSomePart inputs.split }
     requires passing { G.passing gate.now }
     ensures some { AreBytes inputs.entry.tests → IsSome result }
     ensures none { IfNone result (W.seen out.new ≡ W.seen out.old) }
@@ -308,9 +304,11 @@ fn write_run<R: Threads + Wait, F: Read + Send + Drop, G: Watch + Sync, W: Out>(
         (W.seen out.old) (W.seen out.new))) }
 {
     let workers = inputs.workers;
+    let stretches = inputs.split.stretches;
     match run_of(rt, alloc, inputs, form)? {
-        Ok((made, parts, summed)) => {
+        Ok((made, summed)) => {
             let mut run = made;
+            let parts = run.stretches(stretches, workers);
             let words = words_of(&summed);
             let done = write_form_of_run(
                 rt, alloc, &mut run, parts, workers, form, words, gate, tally, out,
@@ -334,16 +332,15 @@ fn words_of(sums: &Option<Sums>) -> Option<FileSums<'_>>
     }
 }
 
-/// Reads the files, and makes the run of their job, whose tests may stand apart. Returns it with
-/// the number of parts, and with the sums of both files if they are wanted or the output has them.
-/// Returns `None` if the tests can't be read piece by piece.
+/// Reads the files, and makes the run of their job, whose tests may stand apart. Returns it with the
+/// sums of both files if they are wanted or the output has them. Returns `None` if the tests can't be
+/// read piece by piece.
 fn run_of<R: Threads + Wait, F: Read + Send + Drop>(
     rt: &R,
     alloc: Global,
     inputs: Inputs<'_, F>,
     form: Form,
-) -> Option<Result<(RunJob, u32, Option<Sums>), SimFault>>
-    requires { HasSomePart inputs.split }
+) -> Option<Result<(RunJob, Option<Sums>), SimFault>>
     ensures some { AreBytes inputs.entry.tests → IsSome result }
     ensures job { IfSome (text_of F.remaining inputs.entry.tests) (λ text. IfSome result (λ read.
         IfOk read (λ made.
@@ -353,14 +350,14 @@ fn run_of<R: Threads + Wait, F: Read + Send + Drop>(
     ensures model { IfSome result (λ read. IfOk read (λ made.
         made.0.parts.list.model ≡ inputs.entry.model)) }
     ensures together { IfSome result (λ read. IfOk read (λ made. BelongTogether made.0.parts)) }
-    ensures parts { IfSome result (λ read. IfOk read (λ made.
-        IsSplitOf made.0.parts inputs.entry.split inputs.entry.workers made.1)) }
+    ensures within { IfSome result (λ read. IfOk read (λ made.
+        IsWithinLimit inputs.entry.split.limit made.0.parts)) }
     ensures tests { IfSome (text_of F.remaining inputs.entry.tests) (λ text. IfSome result (λ read.
-        IfOk read (λ made. IsSome made.2 → tests_of made.2 ≡ sum_text text))) }
+        IfOk read (λ made. IsSome made.1 → tests_of made.1 ≡ sum_text text))) }
     ensures bench { IfSome result (λ read. IfOk read (λ made.
-        IsSome made.2 → bench_of made.2 ≡ sum_text inputs.entry.bench.now)) }
+        IsSome made.1 → bench_of made.1 ≡ sum_text inputs.entry.bench.now)) }
     ensures needed { IfSome result (λ read. IfOk read (λ made.
-        NeedsSums form → IsSome made.2)) }
+        NeedsSums form → IsSome made.1)) }
     ensures refused { IfSome result (λ read. IfErr read IsBeforeOutput) }
 {
     let Inputs {
@@ -371,13 +368,14 @@ fn run_of<R: Threads + Wait, F: Read + Send + Drop>(
         is_summed,
         workers,
     } = inputs;
+    let limit = split.limit;
     let wants = is_summed || needs_sums(form);
     match tests {
         TestFile::Bytes(tests) => {
-            Some(run_of_bytes(rt, alloc, model, bench, tests, wants, split, workers))
+            Some(run_of_bytes(rt, alloc, model, bench, tests, wants, limit, workers))
         }
         TestFile::Pieces { file, size } => {
-            run_of_pieces(rt, alloc, model, bench, file, size, wants, split, workers)
+            run_of_pieces(rt, alloc, model, bench, file, size, wants, limit, workers)
         }
     }
 }
@@ -390,21 +388,20 @@ fn run_of_bytes<R: Threads + Wait>(
     bench: &[u8],
     tests: &[u8],
     is_summed: bool,
-    split: Split,
+    limit: Limit,
     workers: u32,
-) -> Result<(RunJob, u32, Option<Sums>), SimFault>
-    requires { HasSomePart split }
+) -> Result<(RunJob, Option<Sums>), SimFault>
     ensures job { IfOk result (λ made. IsJobOf model bench.now tests.now made.0.parts) }
-    ensures parts { IfOk result (λ made. IsSplitOf made.0.parts split workers made.1) }
-    ensures tests { IfOk result (λ made. IsSome made.2 → tests_of made.2 ≡ sum_text tests.now) }
-    ensures bench { IfOk result (λ made. IsSome made.2 → bench_of made.2 ≡ sum_text bench.now) }
-    ensures summed { IfOk result (λ made. is_some made.2 ≡ is_summed) }
+    ensures within { IfOk result (λ made. IsWithinLimit limit made.0.parts) }
+    ensures tests { IfOk result (λ made. IsSome made.1 → tests_of made.1 ≡ sum_text tests.now) }
+    ensures bench { IfOk result (λ made. IsSome made.1 → bench_of made.1 ≡ sum_text bench.now) }
+    ensures summed { IfOk result (λ made. is_some made.1 ≡ is_summed) }
     ensures refused { IfErr result IsBeforeOutput }
 {
     let bench_sum = sum_if(alloc, bench, is_summed)?;
     let test_sum = sum_if(alloc, tests, is_summed)?;
-    let (run, parts) = split_run_of(rt, alloc, model, bench, tests, split, true, workers)?;
-    Ok((run, parts, both_sums(bench_sum, test_sum)))
+    let run = read_run(rt, alloc, model, bench, tests, limit, true, workers)?;
+    Ok((run, both_sums(bench_sum, test_sum)))
 }
 
 /// Makes the run of a bench file and of a test file that is read piece by piece, as [`run_of`]
@@ -417,10 +414,9 @@ fn run_of_pieces<R: Threads + Wait, F: Read + Send + Drop>(
     file: F,
     size: u64,
     is_summed: bool,
-    split: Split,
+    limit: Limit,
     workers: u32,
-) -> Option<Result<(RunJob, u32, Option<Sums>), SimFault>>
-    requires { HasSomePart split }
+) -> Option<Result<(RunJob, Option<Sums>), SimFault>>
     ensures job { IfSome (F.remaining file) (λ text. IfSome result (λ read.
         IfOk read (λ made. IsJobOf model bench.now text made.0.parts))) }
     ensures circuit { IfSome result (λ read. IfOk read (λ made.
@@ -428,21 +424,21 @@ fn run_of_pieces<R: Threads + Wait, F: Read + Send + Drop>(
     ensures model { IfSome result (λ read. IfOk read (λ made.
         made.0.parts.list.model ≡ model)) }
     ensures together { IfSome result (λ read. IfOk read (λ made. BelongTogether made.0.parts)) }
-    ensures parts { IfSome result (λ read. IfOk read (λ made.
-        IsSplitOf made.0.parts split workers made.1)) }
+    ensures within { IfSome result (λ read. IfOk read (λ made.
+        IsWithinLimit limit made.0.parts)) }
     ensures tests { IfSome (F.remaining file) (λ text. IfSome result (λ read.
-        IfOk read (λ made. IsSome made.2 → tests_of made.2 ≡ sum_text text))) }
+        IfOk read (λ made. IsSome made.1 → tests_of made.1 ≡ sum_text text))) }
     ensures bench { IfSome result (λ read. IfOk read (λ made.
-        IsSome made.2 → bench_of made.2 ≡ sum_text bench.now)) }
-    ensures summed { IfSome result (λ read. IfOk read (λ made. is_some made.2 ≡ is_summed)) }
+        IsSome made.1 → bench_of made.1 ≡ sum_text bench.now)) }
+    ensures summed { IfSome result (λ read. IfOk read (λ made. is_some made.1 ≡ is_summed)) }
     ensures refused { IfSome result (λ read. IfErr read IsBeforeOutput) }
 {
     let bench_sum = sum_if(alloc, bench, is_summed).ok()?;
-    let made = split_run_in_pieces(
-        rt, alloc, model, bench, file, size, is_summed, split, true, workers,
+    let made = read_run_in_pieces(
+        rt, alloc, model, bench, file, size, is_summed, limit, true, workers,
     );
     match made? {
-        Ok((run, parts, sum)) => Some(Ok((run, parts, both_sums(bench_sum, sum)))),
+        Ok((run, sum)) => Some(Ok((run, both_sums(bench_sum, sum)))),
         Err(fault) => Some(Err(fault)),
     }
 }

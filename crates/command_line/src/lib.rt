@@ -5,30 +5,25 @@
 #![tactic(auto)]
 
 mod arguments;
-mod blocks;
 mod check;
-mod choices;
-mod columns;
 mod command;
-mod compact;
-mod crew;
-mod curve;
-mod detected;
 mod form;
 mod form_run;
-mod format;
+mod help;
+mod inputs;
 mod merge;
+mod misuse;
 mod options;
 mod part;
-mod pieces;
 mod progress;
-mod responses;
 mod run;
-mod split;
 mod status;
 mod summary;
 mod tally;
+mod tasks;
 mod threshold;
+mod values;
+mod wanted;
 
 pub use arguments::run_arguments;
 pub use command::run_words;

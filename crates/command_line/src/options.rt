@@ -1,508 +1,416 @@
-//! The command line: subcommands and their help.
+//! The options of the subcommands, as rows of tables.
 
-use crate::choices::{Choice, Setting, option};
-use clap::Command;
-use command_basics::VERSION;
+use crate::help::ABOUT_MODELS;
+use clap::{Arg, ArgAction, value_parser};
+use command_basics::MODELS;
+use report::MAX_WORKERS;
 use std::alloc::{AllocError, Global};
 
-/// A task of the program.
+/// The greatest number of parts of a run, which the helps of `--parts` and `--part` name.
+pub(crate) const MAX_PARTS: u32 = 65_536;
+
+/// The greatest number up to which the detections of a fault are counted, which its help names.
+const MAX_DETECTIONS: u32 = 65_536;
+
+// The help of `--workers` names this number.
+const _: () = prove!(MAX_WORKERS == 64);
+
+/// The word for as many stretches as suit the workers.
+pub(crate) const AUTO: &str = "auto";
+
+/// The choices of `--parts` if its value is a word.
+static PARTS_CHOICES: [&str; 2] = ["1..=65536", AUTO];
+
+/// The value of `--order` for tests that detect the most first.
+pub(crate) const STEEPEST: &str = "steepest";
+
+/// The name of the files `FILE..` of `merge`.
+pub(crate) const PART_FILES: &str = "part texts";
+
+/// What an option takes.
 #[derive(Clone, Copy)]
-pub(crate) enum Task {
-    Check,
-    Run,
-    Curve,
-    Compact,
-    Responses,
-    Faults,
-    Merge,
-    Schedule,
+pub(crate) enum Takes {
+    /// Nothing: it is a flag.
+    Nothing,
+    /// Any text.
+    Text,
+    /// The path of a file to read.
+    File,
+    /// The paths of one file or more to read, without the name of the option.
+    Files,
+    /// A number from 1 to this one.
+    Number(u32),
+    /// A number of parts, or a word in place of it.
+    Parts,
+    /// One of these words.
+    Word(&'static [&'static str]),
+    /// The name of a fault model.
+    Model,
 }
 
-/// All tasks, in the order of the help, which is the order of use.
-static TASKS: [Task; 8] = [
-    Task::Check,
-    Task::Run,
-    Task::Curve,
-    Task::Compact,
-    Task::Responses,
-    Task::Faults,
-    Task::Merge,
-    Task::Schedule,
+/// An option of a subcommand.
+#[derive(Clone, Copy)]
+pub(crate) struct OptionRow {
+    /// Its name, after `--`.
+    pub(crate) name: &'static str,
+    short: Option<char>,
+    pub(crate) takes: Takes,
+    /// The name of its value in the help.
+    value: Option<&'static str>,
+    default: Option<&'static str>,
+    is_required: bool,
+    help: &'static str,
+    /// The options that can't stand beside it.
+    conflicts: &'static [&'static str],
+    /// The option that has to stand beside it.
+    needs: Option<&'static str>,
+}
+
+/// A flag, of which each row has what differs.
+const FLAG: OptionRow = OptionRow {
+    name: "",
+    short: None,
+    takes: Takes::Nothing,
+    value: None,
+    default: None,
+    is_required: false,
+    help: "",
+    conflicts: &[],
+    needs: None,
+};
+
+const BENCH: OptionRow = OptionRow {
+    name: "bench",
+    short: Some('b'),
+    takes: Takes::File,
+    value: Some("FILE"),
+    is_required: true,
+    help: "The circuit, a bench file",
+    ..FLAG
+};
+
+const TESTS: OptionRow = OptionRow {
+    name: "tests",
+    short: Some('t'),
+    help: "The tests, one a line: a bit for each input, then for each flip-flop",
+    ..BENCH
+};
+
+const MODEL: OptionRow = OptionRow {
+    name: "model",
+    short: Some('m'),
+    takes: Takes::Model,
+    value: Some("MODEL"),
+    default: Some("stuck"),
+    help: "Which faults: stuck-at, or slow to rise and slow to fall",
+    ..FLAG
+};
+
+const WORKERS: OptionRow = OptionRow {
+    name: "workers",
+    short: Some('w'),
+    takes: Takes::Number(MAX_WORKERS),
+    value: Some("N"),
+    default: Some("4"),
+    help: "The number of workers that share the run, 1 to 64",
+    ..FLAG
+};
+
+const PARTS: OptionRow = OptionRow {
+    name: "parts",
+    takes: Takes::Parts,
+    value: Some("N"),
+    help: "Run in N stretches of the fault classes, or auto, without a limit on pieces",
+    ..FLAG
+};
+
+const LIST: OptionRow = OptionRow {
+    name: "list",
+    short: Some('l'),
+    help: "Print the first test of each fault, too, or none if no test detects it",
+    ..FLAG
+};
+
+const UNDETECTED: OptionRow = OptionRow {
+    name: "undetected",
+    help: "Print the undetected faults, too",
+    conflicts: &["list"],
+    ..FLAG
+};
+
+const CLASSES: OptionRow = OptionRow {
+    name: "classes",
+    help: "Print the coverage of the fault classes, too",
+    ..FLAG
+};
+
+const BLOCKS: OptionRow = OptionRow {
+    name: "blocks",
+    takes: Takes::Text,
+    value: Some("S"),
+    help: "Print the coverage of each block, too; S ends a block in a name, such as .",
+    conflicts: &["list", "undetected", "classes"],
+    ..FLAG
+};
+
+const BLOCKING: OptionRow = OptionRow {
+    name: "blocking",
+    help: "Print the pins that block the effects of undetected faults, too",
+    conflicts: &[
+        "list",
+        "undetected",
+        "why",
+        "classes",
+        "blocks",
+        "part",
+        "detections",
+        "histogram",
+    ],
+    ..FLAG
+};
+
+const FORMAT: OptionRow = OptionRow {
+    name: "format",
+    takes: Takes::Word(&["text", "csv", "json"]),
+    value: Some("FORMAT"),
+    default: Some("text"),
+    help: "The format of the list of faults",
+    ..FLAG
+};
+
+/// The help of `--format` of `run` and `merge`.
+const RUN_FORMAT_HELP: &str =
+    "The format of the list; csv and json list all faults, or only undetected ones";
+
+const FAIL_UNDER: OptionRow = OptionRow {
+    name: "fail-under",
+    takes: Takes::Text,
+    value: Some("P"),
+    help: "End with status 4 if the coverage of the faults is below P percent",
+    ..FLAG
+};
+
+const PROGRESS: OptionRow = OptionRow {
+    name: "progress",
+    help: "Draw the progress of the run on standard error",
+    ..FLAG
+};
+
+/// The options of `check`, in the order of the help, as in each of these tables.
+pub(crate) static CHECK_OPTIONS: [OptionRow; 4] = [
+    BENCH,
+    OptionRow {
+        is_required: false,
+        ..TESTS
+    },
+    MODEL,
+    OptionRow {
+        takes: Takes::Word(&["text", "json"]),
+        help: "The format of the result; json also has the errors",
+        ..FORMAT
+    },
 ];
 
-// The texts have any lifetime, because a command has one lifetime for all its texts.
-impl Task {
-    /// Returns the name of the subcommand.
-    pub(crate) fn name<'a>(self) -> &'a str {
-        match self {
-            Task::Check => "check",
-            Task::Run => "run",
-            Task::Curve => "curve",
-            Task::Compact => "compact",
-            Task::Responses => "responses",
-            Task::Schedule => "schedule",
-            Task::Faults => "faults",
-            Task::Merge => "merge",
-        }
-    }
+pub(crate) static RUN_OPTIONS: [OptionRow; 18] = [
+    BENCH,
+    TESTS,
+    MODEL,
+    WORKERS,
+    PARTS,
+    OptionRow {
+        name: "part",
+        takes: Takes::Text,
+        value: Some("I/N"),
+        help: "Run only part I of N, from 1, and write its part file",
+        ..FLAG
+    },
+    OptionRow {
+        name: "detections",
+        takes: Takes::Number(MAX_DETECTIONS),
+        value: Some("N"),
+        help: "Count up to N tests that detect each fault, 1 to 65536",
+        conflicts: &["part"],
+        ..FLAG
+    },
+    OptionRow {
+        name: "histogram",
+        help: "With --detections, also write how many faults have each count",
+        conflicts: &["undetected", "classes"],
+        needs: Some("detections"),
+        ..FLAG
+    },
+    LIST,
+    UNDETECTED,
+    OptionRow {
+        name: "why",
+        help: "With --undetected or --format, print the reason for each undetected fault",
+        conflicts: &["list", "part", "histogram"],
+        ..FLAG
+    },
+    OptionRow {
+        help: "Print the coverage of the fault classes, too, or with --format the class of each fault",
+        ..CLASSES
+    },
+    OptionRow {
+        conflicts: &["list", "undetected", "classes", "why", "part", "detections"],
+        ..BLOCKS
+    },
+    BLOCKING,
+    OptionRow {
+        help: RUN_FORMAT_HELP,
+        conflicts: &["part"],
+        ..FORMAT
+    },
+    OptionRow {
+        conflicts: &["part", "histogram"],
+        ..FAIL_UNDER
+    },
+    OptionRow {
+        name: "summary",
+        takes: Takes::Text,
+        value: Some("FILE"),
+        help: "Write a summary of the run to FILE, as JSON",
+        conflicts: &["part", "histogram"],
+        ..FLAG
+    },
+    PROGRESS,
+];
 
-    /// Returns the description of the subcommand.
-    fn about<'a>(self) -> &'a str {
-        match self {
-            Task::Check =>
-                "Checks a circuit and its tests: sizes, limits and warnings, or the errors",
-            Task::Run => "Simulates all faults of a model and prints the fault coverage",
-            Task::Curve => "Prints the coverage after each test that detects new faults",
-            Task::Compact => "Writes fewer tests, which detect the same faults",
-            Task::Responses => "Writes the fault-free response to each test",
-            Task::Schedule => ABOUT_THE_ORDER,
-            Task::Faults => "Lists all faults of a model with their classes",
-            Task::Merge => "Makes the report of a run from its part files",
-        }
-    }
+pub(crate) static CURVE_OPTIONS: [OptionRow; 7] = [
+    BENCH,
+    TESTS,
+    MODEL,
+    WORKERS,
+    PARTS,
+    OptionRow {
+        help: "The format of the curve",
+        ..FORMAT
+    },
+    PROGRESS,
+];
 
-    /// Returns the end of its long help.
-    fn example<'a>(self) -> &'a str {
-        match self {
-            Task::Check => ABOUT_CHECK,
-            Task::Run => ABOUT_RUN,
-            Task::Curve => ABOUT_CURVE,
-            Task::Compact => ABOUT_COMPACT,
-            Task::Responses => ABOUT_RESPONSES,
-            Task::Schedule => ABOUT_SCHEDULE,
-            Task::Faults => ABOUT_FAULTS,
-            Task::Merge => ABOUT_MERGE,
-        }
-    }
+pub(crate) static COMPACT_OPTIONS: [OptionRow; 8] = [
+    BENCH,
+    TESTS,
+    MODEL,
+    WORKERS,
+    PARTS,
+    OptionRow {
+        name: "numbers",
+        help: "Write the numbers of the kept tests instead of the tests",
+        ..FLAG
+    },
+    OptionRow {
+        name: "order",
+        takes: Takes::Word(&["list", STEEPEST]),
+        value: Some("ORDER"),
+        default: Some("list"),
+        help: "The order of the kept tests",
+        ..FLAG
+    },
+    PROGRESS,
+];
 
-    /// Returns its options, in the order of its help.
-    fn choices(self) -> &'static [Choice] {
-        match self {
-            Task::Check => &CHECK_CHOICES,
-            Task::Run => &RUN_CHOICES,
-            Task::Curve => &CURVE_CHOICES,
-            Task::Compact => &COMPACT_CHOICES,
-            Task::Responses => &RESPONSES_CHOICES,
-            Task::Schedule => &SCHEDULE_CHOICES,
-            Task::Faults => &FAULTS_CHOICES,
-            Task::Merge => &MERGE_CHOICES,
-        }
-    }
+pub(crate) static RESPONSES_OPTIONS: [OptionRow; 3] = [
+    BENCH,
+    TESTS,
+    OptionRow {
+        name: "pairs",
+        help: "Write each test and its capture test: launch-on-capture pairs",
+        ..FLAG
+    },
+];
 
-    /// Returns the task of a subcommand.
-    pub(crate) fn named(name: &str) -> Option<Task> {
-        TASKS.iter().copied().find(|task| task.name() == name)
+pub(crate) static SCHEDULE_OPTIONS: [OptionRow; 8] = [
+    BENCH,
+    TESTS,
+    OptionRow {
+        name: "order",
+        short: Some('o'),
+        help: "The moves: on each line the number of a worker, from 0",
+        ..BENCH
+    },
+    MODEL,
+    WORKERS,
+    LIST,
+    UNDETECTED,
+    CLASSES,
+];
+
+pub(crate) static FAULTS_OPTIONS: [OptionRow; 3] = [BENCH, MODEL, FORMAT];
+
+pub(crate) static MERGE_OPTIONS: [OptionRow; 8] = [
+    LIST,
+    UNDETECTED,
+    OptionRow {
+        needs: Some("bench"),
+        ..CLASSES
+    },
+    OptionRow {
+        needs: Some("bench"),
+        ..BLOCKS
+    },
+    OptionRow {
+        help: RUN_FORMAT_HELP,
+        conflicts: &["classes"],
+        ..FORMAT
+    },
+    OptionRow {
+        is_required: false,
+        help: "The circuit of the run, for --classes, --blocks and --format",
+        ..BENCH
+    },
+    FAIL_UNDER,
+    OptionRow {
+        name: PART_FILES,
+        takes: Takes::Files,
+        value: Some("FILE"),
+        is_required: true,
+        help: "The part files of one run, in any order",
+        ..FLAG
+    },
+];
+
+impl OptionRow {
+    /// Returns the option of the parser. If `has_word` is set, the number of parts may be a word:
+    /// the parser of a number takes none.
+    pub(crate) fn arg<'a>(&self, alloc: Global, has_word: bool) -> Result<Arg<'a>, AllocError> {
+        let mut arg = Arg::new(alloc, self.name)
+            .required(self.is_required)
+            .help(self.help);
+        if let Some(letter) = self.short {
+            arg = arg.short(letter);
+        }
+        if let Some(value) = self.value {
+            arg = arg.value_name(value);
+        }
+        if let Some(default) = self.default {
+            arg = arg.default_value(default);
+        }
+        if let Some(other) = self.needs {
+            arg = arg.requires_arg(other)?;
+        }
+        for other in self.conflicts {
+            arg = arg.conflicts_with(other)?;
+        }
+        if matches!(self.takes, Takes::Files) {
+            return Ok(arg.action(ArgAction::Append).num_args(1..));
+        }
+        Ok(with_parser(arg.long(self.name), self.takes, has_word))
     }
 }
 
-/// The options of `check`.
-static CHECK_CHOICES: [Choice; 4] = [
-    Choice::Bench,
-    Choice::TestsIfAny,
-    Choice::Model,
-    Choice::CheckFormat,
-];
-
-/// The options of `run`.
-static RUN_CHOICES: [Choice; 17] = [
-    Choice::Bench,
-    Choice::Tests,
-    Choice::Model,
-    Choice::Workers,
-    Choice::Parts,
-    Choice::Part,
-    Choice::Detections,
-    Choice::Histogram,
-    Choice::List,
-    Choice::Undetected,
-    Choice::Why,
-    Choice::RunClasses,
-    Choice::Blocks,
-    Choice::RunFormat,
-    Choice::RunFailUnder,
-    Choice::Summary,
-    Choice::Progress,
-];
-
-/// The options of `curve`.
-static CURVE_CHOICES: [Choice; 7] = [
-    Choice::Bench,
-    Choice::Tests,
-    Choice::Model,
-    Choice::Workers,
-    Choice::Parts,
-    Choice::CurveFormat,
-    Choice::Progress,
-];
-
-/// The options of `compact`.
-static COMPACT_CHOICES: [Choice; 8] = [
-    Choice::Bench,
-    Choice::Tests,
-    Choice::Model,
-    Choice::Workers,
-    Choice::Parts,
-    Choice::Numbers,
-    Choice::TestOrder,
-    Choice::Progress,
-];
-
-/// The options of `responses`.
-static RESPONSES_CHOICES: [Choice; 3] = [Choice::Bench, Choice::Tests, Choice::Pairs];
-
-/// The options of `schedule`.
-static SCHEDULE_CHOICES: [Choice; 8] = [
-    Choice::Bench,
-    Choice::Tests,
-    Choice::Order,
-    Choice::Model,
-    Choice::Workers,
-    Choice::List,
-    Choice::Undetected,
-    Choice::Classes,
-];
-
-/// The options of `faults`.
-static FAULTS_CHOICES: [Choice; 3] = [Choice::Bench, Choice::Model, Choice::Format];
-
-/// The options of `merge`.
-static MERGE_CHOICES: [Choice; 8] = [
-    Choice::List,
-    Choice::Undetected,
-    Choice::MergeClasses,
-    Choice::MergeBlocks,
-    Choice::MergeFormat,
-    Choice::MergeBench,
-    Choice::FailUnder,
-    Choice::PartTexts,
-];
-
-/// The description of `schedule`.
-const ABOUT_THE_ORDER: &str =
-    "Simulates as run does, in a given order of moves, for tests of the simulator itself";
-
-/// The note on files after the options.
-const FILES: &str = "One FILE can be -, the standard input.";
-
-/// The end of the long help of the program.
-const ABOUT_TEXTS: &str = "\
-Example, a circuit and tests for it, one a line:
-
-    a.bench          a.tests
-    INPUT(a)         00
-    INPUT(b)         01
-    OUTPUT(z)        10
-    z = AND(a, b)    11
-
-    faultsim run --bench a.bench --tests a.tests
-
-prints that the tests detect all faults:
-
-    6 of 6 (100.00%)
-
-The exit status is 0 for success, 1 for an error in a file, 2 for an error in the
-command line, 3 if a file, the output, memory or a thread fails, and 4 if the
-coverage is below --fail-under.";
-
-/// The end of the long help of `check`.
-const ABOUT_CHECK: &str = "\
-Example, a circuit with two errors:
-
-    INPUT(a)
-    OUTPUT(z)
-    n1 = INV(a)
-    z = NOT(n2)
-
-    faultsim check --bench a.bench
-
-reports the errors of the file on standard error, up to 20 of them, each with its
-line, a mark and a suggestion, and then the error that run prints:
-
-    a.bench:3: syntax
-        n1 = INV(a)
-             ^^^
-        unknown gate INV; did you mean NOT?
-    a.bench:4: name not defined
-        z = NOT(n2)
-                ^^
-        n2 is not defined; is n1 meant?
-    faultsim: bench line 3: syntax
-
-If the files have no error, it prints their sizes, the most tests of one run, and
-warnings.
-
---format json writes one JSON object on standard output, with errors or without:
-
-    faultsim check --bench a.bench --format json | jq .errors
-
-Each FILE is read whole. One FILE can be -, the standard input.";
-
-/// The end of the long help of `run`.
-const ABOUT_RUN: &str = "\
-Example, a circuit and tests for it, one a line:
-
-    a.bench          a.tests
-    INPUT(a)         00
-    INPUT(b)         01
-    OUTPUT(z)        10
-    z = AND(a, b)    11
-
-    faultsim run --bench a.bench --tests a.tests --list
-
-prints for each fault the first test that detects it, counted from 0, and then
-the coverage:
-
-    stem a sa0 3
-    stem a sa1 1
-    stem b sa0 3
-    stem b sa1 2
-    stem z sa0 3
-    stem z sa1 0
-    6 of 6 (100.00%)
-
-An undetected fault has none instead of a number. The list is the uncollapsed
-one, and the percentage is cut off after two decimals. --undetected prints only
-the lines of the undetected faults. --classes prints after the coverage how many
-of the fault classes are detected:
-4 of 4 classes (100.00%).
-
---undetected --why prints the reason for each undetected fault, and last the
-number of faults for each reason. Without test 11 these are:
-
-    stem a sa0 none not observed
-    stem b sa0 none not observed
-    stem z sa0 none not activated
-    3 of 6 (50.00%)
-    0 no path, 1 not activated, 2 not observed
-
-no path        no OUTPUT line and no flip-flop is reached from the line
-not activated  no test sets the other bit, or no pair launches the transition
-not observed   a test activates the fault, and none detects it
-
---format csv and json list all faults, or only the undetected ones. --why,
---detections N and --classes add columns. --why --detections 4 --classes
---format csv prints for the three tests:
-
-    kind,name,pin,defect,first,net,reason,detections,class
-    stem,a,,sa0,,a,not observed,0,2
-    stem,a,,sa1,1,a,,1,0
-
-and so on.
-
---blocks . prints after the coverage that of each block, the most undetected
-first. Each . in a name ends a block: the faults at u.v.z are in u and in u.v. A
-pin is in the block of its gate, a data pin in that of its flip-flop.
-
-    block u 3 of 6 (50.00%)
-    block u.v 1 of 2 (50.00%)
-
-A test file of 4 MiB or more is read piece by piece, each other FILE whole. One
-FILE can be -, the standard input.";
-
-/// The end of the long help of `curve`.
-const ABOUT_CURVE: &str = "\
-Example, a circuit and tests for it, one a line:
-
-    a.bench          a.tests
-    INPUT(a)         00
-    INPUT(b)         01
-    OUTPUT(z)        01
-    z = AND(a, b)    11
-
-    faultsim curve --bench a.bench --tests a.tests
-
-prints for each test that detects new faults, counted from 0, how many faults
-this test and those before it detect, also in percent, and then the coverage.
-Test 2 detects nothing new:
-
-    0 1 16.66
-    1 2 33.33
-    3 5 83.33
-    5 of 6 (83.33%)
-
-With --format csv or json each row also has how many faults the test is the first
-to detect.
-
-A test file of 4 MiB or more is read piece by piece, each other FILE whole. One
-FILE can be -, the standard input.";
-
-/// The end of the long help of `compact`.
-const ABOUT_COMPACT: &str = "\
-Example, a circuit and tests for it, one a line:
-
-    a.bench          a.tests
-    INPUT(a)         00
-    INPUT(b)         01
-    OUTPUT(z)        10
-    z = AND(a, b)    11
-
-    faultsim compact --bench a.bench --tests a.tests > b.tests
-
-writes some of the tests, in order, which detect the same faults as all. The file
-begins with the line that names its columns. Test 00 detects only z stuck at 1,
-which the next two detect, too:
-
-    # columns: a b
-    01
-    10
-    11
-
-First it keeps the tests that are the first to detect some fault. Of these, from
-the last to the first, it keeps each one that detects a fault which no later one
-detects. Under transition faults each test that a step keeps also keeps the test
-before it.
-
-The number of kept tests goes to standard error:
-
-    3 of 4 tests kept
-
-With --numbers it writes the numbers of the kept tests, from 0, instead of the
-tests:
-
-    1
-    2
-    3
-
-With --order steepest the kept tests have another order: first the one that
-detects the most fault classes, then the one that detects the most of the other
-classes, and so on, until no kept test detects a class anew. (A test that is not
-kept may detect more than the first.) Under transition-pairs the pairs are in
-this order; transition has only the order of the list.
-
-Each FILE is read whole. One FILE can be -, the standard input.";
-
-/// The end of the long help of `responses`.
-const ABOUT_RESPONSES: &str = "\
-Example, a circuit with a flip-flop and tests for it, a bit for a and one for q:
-
-    a.bench          a.tests
-    INPUT(a)         01
-    OUTPUT(z)        11
-    q = DFF(d)
-    d = XOR(a, q)
-    z = NOT(q)
-
-    faultsim responses --bench a.bench --tests a.tests
-
-writes a row for each test: a bit for each OUTPUT line, and then the bit that
-each flip-flop captures:
-
-    01
-    00
-
-With --pairs it writes the launch-on-capture pairs of the tests: each test, and
-then its capture test, in which the primary inputs are held and each flip-flop
-has the captured bit.
-
-    01
-    01
-    11
-    10
-
-They are a list of tests for run --model transition-pairs.
-
-Each FILE is read whole. One FILE can be -, the standard input.";
-
-/// The end of the long help of `schedule`.
-const ABOUT_SCHEDULE: &str = "\
-Example, a circuit, tests for it and an order of moves, one a line:
-
-    a.bench          a.tests    a.order
-    INPUT(a)         00         1
-    INPUT(b)         01         0
-    OUTPUT(z)        10         1
-    z = AND(a, b)    11
-
-    faultsim schedule -b a.bench -t a.tests --order a.order --workers 2
-
-lets worker 1 move, then worker 0, then worker 1, and then all in turn:
-
-    6 of 6 (100.00%)
-
-Each FILE is read whole. One FILE can be -, the standard input.";
-
-/// The end of the long help of `faults`.
-const ABOUT_FAULTS: &str = "\
-Example, a circuit:
-
-    INPUT(a)
-    OUTPUT(z)
-    z = NOT(a)
-
-    faultsim faults --bench a.bench
-
-prints the class of each fault, counted from 0; the same tests detect all faults
-of a class:
-
-    stem a sa0 class 1
-    stem a sa1 class 0
-    stem z sa0 class 0
-    stem z sa1 class 1
-    4 faults in 2 classes
-
-Each FILE is read whole. One FILE can be -, the standard input.";
-
-/// The end of the long help of `merge`.
-const ABOUT_MERGE: &str = "\
-Example, a circuit and tests for it, one a line:
-
-    a.bench          a.tests
-    INPUT(a)         00
-    INPUT(b)         01
-    OUTPUT(z)        10
-    z = AND(a, b)    11
-
-    faultsim run --bench a.bench --tests a.tests --part 1/2 > part.1
-    faultsim run --bench a.bench --tests a.tests --part 2/2 > part.2
-    faultsim merge part.1 part.2
-
-prints the same report as one run:
-
-    6 of 6 (100.00%)
-
-The order of the files doesn't matter. All parts of one run must be there, each
-once.
-
-Each FILE is read whole. One FILE can be -, the standard input.";
-
-/// Returns a command with options.
-fn with_options<'a>(
-    alloc: Global,
-    mut command: Command<'a>,
-    choices: &[Choice],
-    setting: Setting<'a>,
-) -> Result<Command<'a>, AllocError> {
-    for choice in choices {
-        command = command.arg(option(alloc, *choice, setting)?)?;
+/// Returns an option with the parser of what it takes.
+fn with_parser<'a>(arg: Arg<'a>, takes: Takes, has_word: bool) -> Arg<'a> {
+    match takes {
+        Takes::Nothing => arg.action(ArgAction::SetTrue),
+        Takes::Text | Takes::File | Takes::Files => arg,
+        Takes::Number(most) => arg.value_parser(value_parser!(u32).range(1..=i64::from(most))),
+        Takes::Parts if has_word => arg
+            .hide_possible_values(true)
+            .value_parser(PARTS_CHOICES.as_slice()),
+        Takes::Parts => arg.value_parser(value_parser!(u32).range(1..=i64::from(MAX_PARTS))),
+        Takes::Word(words) => arg.value_parser(words),
+        Takes::Model => arg.value_parser(MODELS.as_slice()).long_help(ABOUT_MODELS),
     }
-    Ok(command)
-}
-
-/// Returns the subcommand of a task.
-fn subcommand<'a>(
-    alloc: Global,
-    task: Task,
-    setting: Setting<'a>,
-) -> Result<Command<'a>, AllocError> {
-    let command = Command::new(alloc, task.name())
-        .about(task.about())
-        .after_help(FILES)
-        .after_long_help(task.example());
-    with_options(alloc, command, task.choices(), setting)
-}
-
-/// Returns the command line of the program.
-pub(crate) fn command_line<'a>(
-    alloc: Global,
-    setting: Setting<'a>,
-) -> Result<Command<'a>, AllocError> {
-    let mut command = Command::new(alloc, "faultsim")
-        .version(VERSION)
-        .about("Parallel fault simulation of bench circuits")
-        .after_long_help(ABOUT_TEXTS)
-        .subcommand_required(true);
-    for task in &TASKS {
-        command = command.subcommand(subcommand(alloc, *task, setting)?)?;
-    }
-    Ok(command)
 }

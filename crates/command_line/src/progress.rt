@@ -17,6 +17,16 @@ const EVERY: u32 = 64;
 /// stand for 3,200,000 pieces, which take 0.1 s if each takes little work.
 const BETWEEN: u64 = 50_000;
 
+/// Returns a number.
+fn get(number: &AtomicU64) -> u64 {
+    number.load(Ordering::SeqCst)
+}
+
+/// Changes a number.
+fn set(number: &AtomicU64, value: u64) {
+    number.store(value, Ordering::SeqCst);
+}
+
 /// The progress of a worker, from its watched pieces. Only the worker writes here, and there is
 /// room after it, so no two workers write to one cache line.
 #[derive(Drop)]
@@ -48,50 +58,38 @@ impl Place {
     }
 
     /// Notes a piece on a block, of this number of blocks. A worker visits the classes of a part
-    /// block after block, so a block before the last one is in a new part.
+    /// block after block, so a block before the last one is in a new part, and all pieces of the
+    /// part before are settled.
     fn note(&self, block: u64, blocks: &AtomicU64) {
-        let before = self.block.load(Ordering::SeqCst);
+        let before = get(&self.block);
         if block > 0 && block == before {
             return;
         }
         if block < before {
-            self.end_part(blocks.load(Ordering::SeqCst));
+            let part = get(&self.classes).saturating_mul(get(blocks));
+            set(&self.done, get(&self.done).saturating_add(part));
+            set(&self.classes, 0);
         }
         if block == 0 {
-            self.classes.fetch_add(1, Ordering::SeqCst);
+            set(&self.classes, get(&self.classes).saturating_add(1));
         }
-        self.block.store(block, Ordering::SeqCst);
-        let part = self
-            .classes
-            .load(Ordering::SeqCst)
-            .saturating_mul(block.max(1));
-        let done = self.done.load(Ordering::SeqCst);
-        self.settled
-            .store(done.saturating_add(part), Ordering::SeqCst);
-    }
-
-    /// Counts all pieces of the part as settled.
-    fn end_part(&self, blocks: u64) {
-        let part = self
-            .classes
-            .swap(0, Ordering::SeqCst)
-            .saturating_mul(blocks);
-        let done = self.done.load(Ordering::SeqCst);
-        self.done.store(done.saturating_add(part), Ordering::SeqCst);
+        set(&self.block, block);
+        let part = get(&self.classes).saturating_mul(block.max(1));
+        set(&self.settled, get(&self.done).saturating_add(part));
     }
 
     /// Forgets all, for the parts of the next window.
     fn begin(&self) {
-        self.settled.store(0, Ordering::SeqCst);
-        self.done.store(0, Ordering::SeqCst);
-        self.classes.store(0, Ordering::SeqCst);
-        self.block.store(0, Ordering::SeqCst);
+        for number in [&self.settled, &self.done, &self.classes, &self.block] {
+            set(number, 0);
+        }
     }
 
     /// Returns whether the worker has passed enough pieces for another look at the figure.
     fn is_time(&self) -> bool {
-        let before = self.passed.fetch_add(1, Ordering::SeqCst);
-        before % BETWEEN == BETWEEN - 1
+        let passed = get(&self.passed);
+        set(&self.passed, passed.wrapping_add(1));
+        passed % BETWEEN == BETWEEN - 1
     }
 }
 
@@ -107,33 +105,13 @@ struct Pen<'a, E> {
 }
 
 impl<'a, E: Out> Pen<'a, E> {
-    fn new(alloc: Global, err: &'a mut E) -> Pen<'a, E> {
-        Pen {
-            err,
-            alloc,
-            percent: 0,
-            open: false,
-        }
-    }
-
-    /// Draws that no piece is settled.
-    fn draw_first(&mut self, pieces: u64) {
-        self.put(0, pieces, 0, "");
-    }
-
     /// Draws how many of the pieces are settled, if the figure has changed.
     fn draw(&mut self, settled: u64, pieces: u64) {
-        let percent = percent_of(settled, pieces);
+        let percent = settled.saturating_mul(100) / pieces.max(1);
         if percent != self.percent {
             self.percent = percent;
             self.put(settled, pieces, percent, "");
         }
-    }
-
-    /// Draws that all pieces are settled, and ends the line.
-    fn draw_last(&mut self, pieces: u64) {
-        self.put(pieces, pieces, 100, "\n");
-        self.open = false;
     }
 
     /// Writes the line. It leaves out a line that fails.
@@ -169,11 +147,6 @@ fn line_of(
     format!(in alloc; "\r{settled} of {pieces} pieces, {percent}%{end}")
 }
 
-/// Returns the settled pieces as a percentage of all.
-fn percent_of(settled: u64, pieces: u64) -> u64 {
-    settled.saturating_mul(100) / pieces.max(1)
-}
-
 /// A gate that lets every piece pass, and draws how many are settled, from the watched ones. Each
 /// worker counts in a place of its own, and worker 0 draws.
 #[derive(Drop)]
@@ -206,7 +179,12 @@ impl<'a, E: Out> Progress<'a, E> {
             pieces: AtomicU64::new(0),
             first: AtomicU64::new(0),
             blocks: AtomicU64::new(0),
-            pen: Mutex::new(Pen::new(alloc, err)),
+            pen: Mutex::new(Pen {
+                err,
+                alloc,
+                percent: 0,
+                open: false,
+            }),
             tally,
         })
     }
@@ -230,21 +208,29 @@ impl<'a, E: Out> Progress<'a, E> {
     fn settled(&self, pieces: u64) -> u64 {
         let mut watched = 0u64;
         for place in &self.places {
-            watched = watched.saturating_add(place.settled.load(Ordering::SeqCst));
+            watched = watched.saturating_add(get(&place.settled));
         }
-        let classes = self.classes.load(Ordering::SeqCst);
-        let before = classes.saturating_mul(self.first.load(Ordering::SeqCst));
-        let most = classes.saturating_mul(self.blocks.load(Ordering::SeqCst));
+        let classes = get(&self.classes);
+        let before = classes.saturating_mul(get(&self.first));
+        let most = classes.saturating_mul(get(&self.blocks));
         let here = watched.saturating_mul(u64::from(EVERY)).min(most);
         before.saturating_add(here).min(pieces)
+    }
+
+    /// Begins a window of these blocks.
+    fn begin(&self, first: u64, blocks: u64) {
+        for place in &self.places {
+            place.begin();
+        }
+        set(&self.first, first);
+        set(&self.blocks, blocks);
     }
 
     /// Notes a watched piece. This is a function of its own, so that each other piece only costs a
     /// comparison.
     #[inline(never)]
     fn note(&self, worker: u32, block: u32) {
-        let first = self.first.load(Ordering::SeqCst);
-        let Some(block) = u64::from(block).checked_sub(first) else {
+        let Some(block) = u64::from(block).checked_sub(get(&self.first)) else {
             return;
         };
         if let Some(place) = self.places.get(worker as usize) {
@@ -257,7 +243,7 @@ impl<'a, E: Out> Progress<'a, E> {
 
     /// Draws the progress of the run.
     fn look(&self) {
-        let pieces = self.pieces.load(Ordering::SeqCst);
+        let pieces = get(&self.pieces);
         let settled = self.settled(pieces);
         if let Some(mut pen) = self.pen.try_lock() {
             pen.draw(settled, pieces);
@@ -283,12 +269,7 @@ impl<E: Out> Gate for Progress<'_, E> {
     }
 
     fn opens(&self, first: u32, end: u32) {
-        for place in &self.places {
-            place.begin();
-        }
-        self.first.store(u64::from(first), Ordering::SeqCst);
-        let blocks = u64::from(end).saturating_sub(u64::from(first));
-        self.blocks.store(blocks, Ordering::SeqCst);
+        self.begin(u64::from(first), u64::from(end.saturating_sub(first)));
         self.look();
     }
 }
@@ -296,29 +277,27 @@ impl<E: Out> Gate for Progress<'_, E> {
 impl<E: Out> Watch for Progress<'_, E> {
     fn starts(&self, classes: u32, blocks: u32) {
         let pieces = u64::from(classes) * u64::from(blocks);
-        for place in &self.places {
-            place.begin();
-        }
-        self.first.store(0, Ordering::SeqCst);
-        self.classes.store(u64::from(classes), Ordering::SeqCst);
-        self.pieces.store(pieces, Ordering::SeqCst);
-        self.blocks.store(u64::from(blocks), Ordering::SeqCst);
+        self.begin(0, u64::from(blocks));
+        set(&self.classes, u64::from(classes));
+        set(&self.pieces, pieces);
         if let Some(mut pen) = self.pen.try_lock() {
-            pen.draw_first(pieces);
+            pen.put(0, pieces, 0, "");
         }
     }
 
     fn ends(&self) {
         if let Some(mut pen) = self.pen.try_lock() {
-            pen.draw_last(self.pieces.load(Ordering::SeqCst));
+            let pieces = get(&self.pieces);
+            pen.put(pieces, pieces, 100, "\n");
+            pen.open = false;
         }
     }
 
     fn finds(&self, job: &Job, tests: &Tests, verdicts: &Verdicts) {
-        self.tally.note(job, tests, verdicts);
+        self.tally.finds(job, tests, verdicts);
     }
 
     fn explains(&self, counts: ReasonCounts) {
-        self.tally.note_reasons(counts);
+        self.tally.explains(counts);
     }
 }

@@ -2,58 +2,97 @@
 
 ghost use Rattle.std.specs.Prelude.{◌<◌, ◌≤◌};
 
+use crate::inputs::InputFile;
+use crate::misuse::Misuse;
 use bench_net::BenchFault;
+use clap::ArgMatches;
 use command_basics::{FAILED, MISUSED, REFUSED, SourceFault, status_of};
 use input_check::Excess;
 use part_files::{MergeFault, PartFault};
 use patterns::TestFault;
-use report::{Formatted, Out, ReportFault, SimFault};
+use report::{Formatted, Out, OutFailed, ReportFault, SimFault};
+use std::alloc::AllocError;
 use std::fmt::Write;
 use test_columns::Mismatch;
 
 /// The status of a coverage that is below the threshold.
 pub(crate) const MISSED: u8 = 4;
 
-/// The error of a command that failed, or the shortfall of a command that succeeded.
+/// The error of a command that failed, or the shortfall of a command that succeeded. It holds no
+/// words of the command line: [`answer_fault`] looks them up.
 #[derive(Drop)]
-pub(crate) enum CommandError<'a> {
+pub(crate) enum CommandError {
     /// An argument of the process is no text.
     NoText,
-    /// The command line lacks an option, or has a value that the option doesn't take.
-    Misused(&'a str),
-    /// The command line has a value that an option doesn't take, for this reason.
-    Unfit(&'a str, &'static str),
-    /// The file at a path cannot be read, for this reason.
-    Unreadable(&'a str, SourceFault),
-    /// The file at a path cannot be written.
-    Unwritten(&'a str),
+    /// The command line cannot be used.
+    Misused(Misuse),
+    /// A file cannot be read, for this reason.
+    Unreadable(InputFile, SourceFault),
+    /// The file of the summary cannot be written.
+    Unwritten,
     /// A file has an error, or the work on it or the output failed.
     Sim(SimFault),
-    /// The test file at a path names its columns otherwise than the circuit.
-    Columns(&'a str, Mismatch),
+    /// The test file names its columns otherwise than the circuit.
+    Columns(Mismatch),
     /// A run has too many pieces, by this excess.
     TooManyPieces(SimFault, Excess),
-    /// The part file at a path has an error.
-    Part(&'a str, MergeFault),
-    /// Part files don't go together.
-    Merge(MergeFault),
+    /// A file can't be merged, or the part files can't be merged with one another.
+    Merge(Option<InputFile>, MergeFault),
     /// All was written, and the results of the run are not known.
     Lost,
-    /// All was written, and the coverage is below this percentage.
-    Missed(&'a str),
+    /// All was written, and the coverage is below that of `--fail-under`.
+    Missed,
 }
 
-/// A file with an error in one of its lines.
-#[derive(Clone, Copy)]
-pub(crate) enum WrongFile {
-    Bench,
-    Tests,
+impl From<Misuse> for CommandError {
+    fn from(misuse: Misuse) -> CommandError {
+        CommandError::Misused(misuse)
+    }
 }
 
-impl CommandError<'_> {
+impl From<SimFault> for CommandError {
+    fn from(fault: SimFault) -> CommandError {
+        CommandError::Sim(fault)
+    }
+}
+
+impl From<AllocError> for CommandError {
+    fn from(_: AllocError) -> CommandError {
+        NO_MEMORY
+    }
+}
+
+impl From<OutFailed> for CommandError {
+    fn from(_: OutFailed) -> CommandError {
+        UNWRITTEN
+    }
+}
+
+impl From<ReportFault> for CommandError {
+    fn from(fault: ReportFault) -> CommandError {
+        CommandError::Sim(SimFault::Report(fault))
+    }
+}
+
+/// The output fails.
+pub(crate) const UNWRITTEN: CommandError = CommandError::Sim(SimFault::Report(ReportFault::Write));
+
+/// Memory is refused.
+pub(crate) const NO_MEMORY: CommandError = CommandError::Sim(SimFault::Memory);
+
+impl CommandError {
+    /// Returns the error of a merge, of one file or of all. A refused allocation is no error of the
+    /// files.
+    pub(crate) fn of_merge(file: Option<InputFile>, fault: MergeFault) -> CommandError {
+        match fault {
+            MergeFault::Memory | MergeFault::Part(PartFault::Memory) => NO_MEMORY,
+            _ => CommandError::Merge(file, fault),
+        }
+    }
+
     /// Returns which of the bench file and the test file has an error in one of its lines, if one
     /// has.
-    pub(crate) fn wrong_file(&self) -> Option<WrongFile> {
+    pub(crate) fn wrong_file(&self) -> Option<InputFile> {
         match self {
             CommandError::Sim(
                 SimFault::Bench(
@@ -62,71 +101,90 @@ impl CommandError<'_> {
                     | BenchFault::Undefined(_)
                     | BenchFault::Cycle(_),
                 ),
-            ) => Some(WrongFile::Bench),
+            ) => Some(InputFile::Bench),
             CommandError::Sim(SimFault::Tests(TestFault::BadByte(_) | TestFault::BadWidth(_))) => {
-                Some(WrongFile::Tests)
+                Some(InputFile::Tests)
             }
             _ => None,
         }
     }
-}
 
-/// The output fails.
-pub(crate) const UNWRITTEN: CommandError<'static> = CommandError::Sim(SimFault::Report(
-    ReportFault::Write,
-));
-
-/// Memory is refused.
-pub(crate) const NO_MEMORY: CommandError<'static> = CommandError::Sim(SimFault::Memory);
-
-/// Returns the error of the part file at a path. A refused allocation is no error of the file.
-pub(crate) fn part_fault(path: &str, fault: MergeFault) -> CommandError<'_> {
-    match fault {
-        MergeFault::Memory | MergeFault::Part(PartFault::Memory) => NO_MEMORY,
-        _ => CommandError::Part(path, fault),
+    /// Returns the status of the error.
+    fn status(&self) -> u8
+        ensures failed { 0 < result }
+        ensures few { result ≤ 4 }
+    {
+        match self {
+            CommandError::NoText | CommandError::Misused(_) => MISUSED,
+            CommandError::Unreadable(..) | CommandError::Unwritten | CommandError::Lost => FAILED,
+            CommandError::Sim(fault) | CommandError::TooManyPieces(fault, _) => status_of(fault),
+            CommandError::Merge(..) | CommandError::Columns(_) => REFUSED,
+            CommandError::Missed => MISSED,
+        }
     }
 }
 
-/// Returns the error of part files that are merged. A refused allocation is no error of the files.
-pub(crate) fn merge_fault(fault: MergeFault) -> CommandError<'static> {
-    match fault {
-        MergeFault::Memory | MergeFault::Part(PartFault::Memory) => NO_MEMORY,
-        _ => CommandError::Merge(fault),
+/// Returns the value of an option.
+fn word_of<'a>(matches: Option<&ArgMatches<'a>>, option: &str) -> &'a str {
+    match matches {
+        Some(matches) => matches.get_str(option).unwrap_or(""),
+        None => "",
+    }
+}
+
+/// Returns the path of a file.
+fn path_of<'a>(matches: Option<&ArgMatches<'a>>, file: InputFile) -> &'a str {
+    match matches {
+        Some(matches) => file.path(matches).unwrap_or(""),
+        None => "",
     }
 }
 
 /// Writes an error on one line, and its details on a second line. Returns its status, also if the
-/// lines cannot be written.
-pub(crate) fn answer_fault<E: Out>(fault: &CommandError<'_>, err: &mut E) -> u8
+/// lines cannot be written. The paths are those of the command line, if it could be parsed.
+pub(crate) fn answer_fault<E: Out>(
+    fault: &CommandError,
+    matches: Option<&ArgMatches<'_>>,
+    err: &mut E,
+) -> u8
     ensures failed { 0 < result }
     ensures few { result ≤ 4 }
 {
     let mut text = Formatted(err);
     let _ = match fault {
         CommandError::NoText => writeln!(text, "faultsim: an argument is no text"),
-        CommandError::Misused(option) => writeln!(text, "faultsim: cannot use {option}"),
-        CommandError::Unfit(option, reason) => {
-            writeln!(text, "faultsim: cannot use {option}\n    {reason}")
+        CommandError::Misused(misuse) => {
+            writeln!(text, "faultsim: cannot use {}", misuse.words())
         }
-        CommandError::Unreadable(path, fault) => {
-            writeln!(text, "faultsim: cannot read {path}{fault}")
+        CommandError::Unreadable(file, fault) => {
+            writeln!(
+                text,
+                "faultsim: cannot read {}{fault}",
+                path_of(matches, *file)
+            )
         }
-        CommandError::Unwritten(path) => writeln!(text, "faultsim: cannot write {path}"),
+        CommandError::Unwritten => writeln!(
+            text,
+            "faultsim: cannot write {}",
+            word_of(matches, "summary")
+        ),
         CommandError::Sim(fault) => writeln!(text, "faultsim: {fault}"),
-        CommandError::Columns(path, mismatch) => writeln!(text, "faultsim: {path}: {mismatch}"),
+        CommandError::Columns(mismatch) => {
+            writeln!(text, "faultsim: {}: {mismatch}", word_of(matches, "tests"))
+        }
         CommandError::TooManyPieces(fault, excess) => {
             writeln!(text, "faultsim: {fault}\n    {excess}")
         }
-        CommandError::Part(path, fault) => writeln!(text, "faultsim: {path}: {fault}"),
-        CommandError::Merge(fault) => writeln!(text, "faultsim: {fault}"),
+        CommandError::Merge(Some(file), fault) => {
+            writeln!(text, "faultsim: {}: {fault}", path_of(matches, *file))
+        }
+        CommandError::Merge(None, fault) => writeln!(text, "faultsim: {fault}"),
         CommandError::Lost => writeln!(text, "faultsim: results lost"),
-        CommandError::Missed(least) => writeln!(text, "faultsim: coverage below {least}%"),
+        CommandError::Missed => writeln!(
+            text,
+            "faultsim: coverage below {}%",
+            word_of(matches, "fail-under")
+        ),
     };
-    match fault {
-        CommandError::NoText | CommandError::Misused(_) | CommandError::Unfit(..) => MISUSED,
-        CommandError::Unreadable(..) | CommandError::Unwritten(_) | CommandError::Lost => FAILED,
-        CommandError::Sim(fault) | CommandError::TooManyPieces(fault, _) => status_of(fault),
-        CommandError::Part(..) | CommandError::Merge(_) | CommandError::Columns(..) => REFUSED,
-        CommandError::Missed(_) => MISSED,
-    }
+    fault.status()
 }

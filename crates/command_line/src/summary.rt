@@ -1,38 +1,33 @@
 //! The option `--summary FILE`: the results of a run in numbers, for scripts.
 
-use crate::status::{CommandError, NO_MEMORY};
+use crate::form_run::Outcome;
+use crate::misuse::Misuse;
+use crate::status::CommandError;
+use crate::values::read_model;
 use clap::ArgMatches;
 use command_basics::{Source, VERSION, WriteFault, is_standard_input};
-use std::alloc::{AllocError, Global};
+use std::alloc::Global;
 use tables::{Summary, summary_text};
 
 /// The end of the version if the program is not proved.
 const UNPROVED: &str = " (unproved)";
 
-/// The reason why the summary cannot go to a path.
-const NO_FILE: &str = "give a file that is no input and not the output";
-
-/// A summary that the command line requests.
+/// The time at which a command began, in milliseconds, if there is a clock.
 #[derive(Clone, Copy)]
-pub(crate) struct Request<'a> {
-    path: &'a str,
-    /// The time at which the command began, in milliseconds, if there is a clock.
-    began: Option<u64>,
-}
+pub(crate) struct Began(Option<u64>);
 
-/// Returns the summary that the command line requests, if it requests one.
-pub(crate) fn read_request<'a, S: Source>(
-    matches: &ArgMatches<'a>,
+/// Returns when the command began, if the command line requests a summary.
+pub(crate) fn read_request<S: Source>(
+    matches: &ArgMatches<'_>,
     files: &S,
-) -> Result<Option<Request<'a>>, CommandError<'a>> {
+) -> Result<Option<Began>, Misuse> {
     let Some(path) = matches.get_str("summary") else {
         return Ok(None);
     };
     if is_standard_input(path) || is_used(matches, files, path) {
-        return Err(CommandError::Unfit("--summary", NO_FILE));
+        return Err(Misuse::Summary);
     }
-    let began = files.milliseconds();
-    Ok(Some(Request { path, began }))
+    Ok(Some(Began(files.milliseconds())))
 }
 
 /// Returns whether the file at this path is an input of the command line, by whatever path, or the
@@ -53,35 +48,41 @@ fn is_used<S: Source>(matches: &ArgMatches<'_>, files: &S, path: &str) -> bool {
     false
 }
 
-/// Returns the version of the program, and whether it is proved.
-pub(crate) fn version_and_proof() -> (&'static str, bool) {
-    match VERSION.strip_suffix(UNPROVED) {
-        Some(version) => (version, false),
-        None => (VERSION, true),
-    }
+/// Returns the milliseconds since a command began, if there is a clock.
+fn milliseconds_since<S: Source>(began: Began, files: &S) -> Option<u64> {
+    let now = files.milliseconds()?;
+    Some(now.saturating_sub(began.0?))
 }
 
-impl<'a> Request<'a> {
-    /// Returns the milliseconds since the command began, if there is a clock.
-    pub(crate) fn milliseconds<S: Source>(self, files: &S) -> Option<u64> {
-        let began = self.began?;
-        Some(files.milliseconds()?.saturating_sub(began))
-    }
-
-    /// Writes the summary to the file.
-    pub(crate) fn write<S: Source>(
-        self,
-        alloc: Global,
-        summary: &Summary<'_>,
-        files: &mut S,
-    ) -> Result<(), CommandError<'a>> {
-        let text = match summary_text(alloc, summary) {
-            Ok(text) => text,
-            Err(AllocError) => return Err(NO_MEMORY),
-        };
-        match files.write(self.path, &text) {
-            Ok(()) => Ok(()),
-            Err(WriteFault) => Err(CommandError::Unwritten(self.path)),
-        }
+/// Writes the summary of a run, which has the sums of the bytes of both files, to the file that the
+/// command line names.
+pub(crate) fn write_summary<S: Source>(
+    alloc: Global,
+    matches: &ArgMatches<'_>,
+    began: Began,
+    outcome: &Outcome,
+    files: &mut S,
+) -> Result<(), CommandError> {
+    let (Some(counts), Some(sums)) = (outcome.found.counts, &outcome.sums) else {
+        return Err(CommandError::Lost);
+    };
+    let (version, proved) = match VERSION.strip_suffix(UNPROVED) {
+        Some(version) => (version, false),
+        None => (VERSION, true),
+    };
+    let summary = Summary {
+        version,
+        proved,
+        model: read_model(matches)?,
+        sums: sums.words(),
+        counts,
+        reasons: outcome.found.reasons,
+        workers: outcome.workers,
+        milliseconds: milliseconds_since(began, files),
+    };
+    let text = summary_text(alloc, &summary)?;
+    match files.write(matches.get_str("summary").unwrap_or(""), &text) {
+        Ok(()) => Ok(()),
+        Err(WriteFault) => Err(CommandError::Unwritten),
     }
 }

@@ -1,7 +1,5 @@
 //! The results of a run, as its gate sees them.
 
-ghost use Rattle.workers.specs.Verdict.{AreFirsts};
-
 use analysis_reports::KeptCount;
 use block_sim::Job;
 use patterns::Tests;
@@ -16,7 +14,8 @@ pub(crate) struct Found {
     pub(crate) kept: Option<KeptCount>,
 }
 
-/// The results of a run, once they are known.
+/// The results of a run, once they are known. It is a gate that lets every piece pass, and notes the
+/// results of the run.
 #[derive(Drop)]
 pub(crate) struct Tally {
     found: Mutex<Found>,
@@ -30,24 +29,6 @@ impl Tally {
                 reasons: None,
                 kept: None,
             }),
-        }
-    }
-
-    /// Notes the verdicts on a job under these tests.
-    pub(crate) fn note(&self, job: &Job, tests: &Tests, verdicts: &Verdicts)
-        requires { AreFirsts job.now.list.model job.now.circuit tests.now.tests
-            verdicts.now.firsts }
-    {
-        let counts = count_run(job, tests, verdicts);
-        if let Some(mut found) = self.found.try_lock() {
-            found.counts = Some(counts);
-        }
-    }
-
-    /// Notes the number of faults for each reason.
-    pub(crate) fn note_reasons(&self, reasons: ReasonCounts) {
-        if let Some(mut found) = self.found.try_lock() {
-            found.reasons = Some(reasons);
         }
     }
 
@@ -65,19 +46,7 @@ impl Tally {
     }
 }
 
-/// A gate that lets every piece pass, and notes the results of the run.
-#[derive(Clone, Copy)]
-pub(crate) struct Quiet<'t> {
-    tally: &'t Tally,
-}
-
-impl<'t> Quiet<'t> {
-    pub(crate) fn new(tally: &'t Tally) -> Quiet<'t> {
-        Quiet { tally }
-    }
-}
-
-impl Gate for Quiet<'_> {
+impl Gate for Tally {
     ghost passing = { λ _. Unit {0} };
 
     ghost stops = { λ _. record { may = λ _ _ _. ⊥; must = λ _ _ _. ⊥ } };
@@ -91,16 +60,21 @@ impl Gate for Quiet<'_> {
     }
 }
 
-impl Watch for Quiet<'_> {
+impl Watch for Tally {
     fn starts(&self, _classes: u32, _blocks: u32) {}
 
     fn ends(&self) {}
 
     fn finds(&self, job: &Job, tests: &Tests, verdicts: &Verdicts) {
-        self.tally.note(job, tests, verdicts);
+        let counts = count_run(job, tests, verdicts);
+        if let Some(mut found) = self.found.try_lock() {
+            found.counts = Some(counts);
+        }
     }
 
     fn explains(&self, counts: ReasonCounts) {
-        self.tally.note_reasons(counts);
+        if let Some(mut found) = self.found.try_lock() {
+            found.reasons = Some(counts);
+        }
     }
 }

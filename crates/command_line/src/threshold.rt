@@ -2,6 +2,7 @@
 
 ghost use Rattle.std.specs.Prelude.{◌*◌, ◌<◌, ◌≤◌, ◌↔◌, IsTrue};
 
+use crate::misuse::Misuse;
 use crate::status::CommandError;
 use clap::ArgMatches;
 
@@ -11,48 +12,41 @@ const DECIMALS: usize = 6;
 /// A hundred percent, in millionths of a percent.
 const HUNDRED: u64 = 100_000_000;
 
-/// The reason why a text is no percentage.
-const NO_PERCENTAGE: &str = "give a percentage from 0 to 100, with at most 6 decimals";
-
-/// The least coverage of a successful run, in millionths of a percent, and in the words of the
-/// command line.
+/// The least coverage of a successful run, in millionths of a percent.
 #[derive(Clone, Copy)]
-pub(crate) struct Threshold<'a> {
-    pub(crate) text: &'a str,
+pub(crate) struct Threshold {
     pub(crate) millionths: u64,
     ghost few: { millionths ≤ 100000000 },
 }
 
-impl<'a> Threshold<'a> {
+impl Threshold {
     /// Returns whether `detected` of `faults` are too few.
     pub(crate) fn is_missed(self, detected: u32, faults: u32) -> bool
-        ensures { IsTrue result ↔ (100000000 * detected < self.entry.millionths * faults) }
+        ensures { IsTrue result ↔ (100000000 * detected < self.millionths * faults) }
     {
         HUNDRED * u64::from(detected) < self.millionths * u64::from(faults)
     }
 }
 
 /// Returns the threshold that the command line names, if it names one.
-pub(crate) fn read_threshold<'a>(
-    matches: &ArgMatches<'a>,
-) -> Result<Option<Threshold<'a>>, CommandError<'a>> {
+pub(crate) fn read_threshold(matches: &ArgMatches<'_>) -> Result<Option<Threshold>, Misuse> {
     let Some(text) = matches.get_str("fail-under") else {
         return Ok(None);
     };
     match millionths_of(text) {
-        Some(millionths) if millionths <= HUNDRED => Ok(Some(Threshold { text, millionths })),
-        _ => Err(CommandError::Unfit("--fail-under", NO_PERCENTAGE)),
+        Some(millionths) if millionths <= HUNDRED => Ok(Some(Threshold { millionths })),
+        _ => Err(Misuse::FailUnder),
     }
 }
 
 /// Fails if `detected` of `faults` faults miss the threshold.
-pub(crate) fn check_threshold<'a>(
-    threshold: Option<Threshold<'a>>,
+pub(crate) fn check_threshold(
+    threshold: Option<Threshold>,
     detected: u32,
     faults: u32,
-) -> Result<(), CommandError<'a>> {
+) -> Result<(), CommandError> {
     match threshold {
-        Some(least) if least.is_missed(detected, faults) => Err(CommandError::Missed(least.text)),
+        Some(least) if least.is_missed(detected, faults) => Err(CommandError::Missed),
         _ => Ok(()),
     }
 }

@@ -4,7 +4,7 @@ ghost use Rattle.workers.specs.Stops.{any_stop};
 
 use crate::checks::check;
 use fault_model::Model;
-use report::{Contents, Lines, Plain, SimFault, Split, Watch, simulate_text_watched};
+use report::{Contents, Limit, Lines, Plain, SimFault, Watch, simulate_text_watched};
 use std::alloc::Global;
 use std::sync::Wait;
 use std::sync::atomic::{AtomicU64, Ordering};
@@ -64,9 +64,9 @@ fn is_met<R: Threads + Wait + Clock + Sync>(rt: &R, alloc: Global) -> Result<boo
     let mut out = Plain::new(Vec::new(alloc));
     let bench = C17_TEXT.as_bytes();
     let model = Model::StuckAt;
-    let split = Split::Whole;
+    let limit = Limit::Pieces;
     simulate_text_watched(
-        rt, alloc, model, bench, b"11111\n", split, 4, contents, &gate, &mut out,
+        rt, alloc, model, bench, b"11111\n", limit, None, 4, contents, &gate, &mut out,
     )?;
     Ok(out.into_writer().as_slice() == b"14 of 34 (41.17%)\n".as_slice())
 }

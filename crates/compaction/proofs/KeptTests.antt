@@ -7,7 +7,6 @@ use Rattle.std.specs.Prelude.{slice_get}
 use Rattle.std.specs.List.{ReversedBelow}
 use Rattle.std.proofs.lemmas.Bool.{cases_lt, eqb-true, eq-eqb}
 use Rattle.std.proofs.lemmas.List.{get_or_past}
-use Rattle.std.proofs.lemmas.Nat.{mul-le}
 use Rattle.std.proofs.lemmas.List.Folds.{list_any_more}
 use Rattle.std.proofs.lemmas.Option.{get_or_from_slice_get, slice_get-get_or, slice_get_within}
 use Rattle.bench_net.specs.Statement.{Statement}
@@ -24,12 +23,7 @@ use Rattle.patterns.specs.Least.{below}
 use Rattle.patterns.specs.Tests.{TestList, blocks}
 use Rattle.block_sim.specs.First.{IsFirst}
 use Rattle.block_sim.specs.Parts.{Parts, with_tests}
-use Rattle.workers.specs.declared.RunFault.{RunFault}
-use Rattle.workers.specs.declared.RunFault.TheVariants as run_fault
-use Rattle.workers.specs.Stops.{Stops}
 use Rattle.workers.specs.Verdict.{AreFirsts}
-use Rattle.region_runs.specs.Part.{stretch_size}
-use Rattle.region_runs.specs.Refused.{IsPartsFault}
 use Rattle.compaction.specs.Compaction.{AreEarly, Covers, IsFirstForSome, IsFirstOrBefore}
 use Rattle.compaction.specs.Compaction.{IsLastForSome, IsLastOrBefore, IsNeeded, IsNumbered}
 use Rattle.compaction.specs.Compaction.{PassesTwice, at_marks, finds, is_first, row_of}
@@ -637,29 +631,3 @@ pub ok_as : {T E : Type 0} (A B : T → Type 0) (r : Result T E) → ((x : T) �
     → IfOk r B
 ok_as A B (Ok x) into h = into x h
 ok_as A B (Err e) into h = h
-
--- ---- errors
-
--- fewer tests don't make more pieces
-pub fewer_pieces : (classes few many : ℕ) → few ≤ many
-    → classes * blocks few ≤ classes * blocks many
-fewer_pieces classes few many le =
-    mul-le classes (blocks few) classes (blocks many) (omega arith) (omega (arith, le))
-
--- the errors of a run in parts under tests that are no more are errors of a run under the job's own
--- tests
-pub refused_alike : (job : Parts) (tests : TestList) (parts workers : ℕ) (passing : Type 0)
-    (stops : Stops) (f : RunFault) → passing → length tests.tests ≤ length job.tests.tests
-    → IsPartsFault (with_tests job tests) parts workers passing stops f
-    → IsPartsFault job parts workers passing stops f
-refused_alike job tests parts workers passing stops run_fault.NoWorkers lets le h = h
-refused_alike job tests parts workers passing stops run_fault.TooManyWorkers lets le h = h
-refused_alike job tests parts workers passing stops (run_fault.NoSuchMove index) lets le h = h
-refused_alike job tests parts workers passing stops run_fault.TooManyPieces lets le h =
-    let fewer = fewer_pieces (stretch_size (length job.classes.representative) parts)
-    (length tests.tests) (length job.tests.tests) le in
-    (h.0, h.1, omega (arith, h.2, fewer))
-refused_alike job tests parts workers passing stops run_fault.Memory lets le h = h
-refused_alike job tests parts workers passing stops run_fault.Threads lets le h = h
-refused_alike job tests parts workers passing stops (run_fault.Unfinished class block) lets le h =
-    absurd (h.4 lets)

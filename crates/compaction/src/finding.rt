@@ -4,7 +4,7 @@ ghost use Rattle.std.specs.Prelude.{◌≡◌, ℕ, ◌+◌, ◌<◌, ◌≤◌,
 ghost use Rattle.std.specs.Prelude.{length, slice_index_or};
 ghost use Rattle.compaction.specs.Compaction.{finds, is_first};
 ghost use Rattle.compaction.specs.Marks.{AreFinding};
-ghost use Rattle.region_runs.specs.Refused.{ArePartsWithin, IsPartsFault};
+ghost use Rattle.region_runs.specs.Refused.{IsOpenFault};
 
 use region_runs::{RunJob, Watch};
 use std::alloc::{AllocError, Global};
@@ -27,9 +27,7 @@ pub fn finding_tests<G: Watch + Sync, R: Threads + Wait>(
     ensures marks { IfOk result (λ marks. AreFinding run.old.parts.list.model
         run.old.parts.circuit run.old.parts.tests.tests marks.items) }
     ensures workers { OnOk result ((0 < workers) × (workers ≤ 64)) }
-    ensures within { OnOk result (ArePartsWithin run.old.parts parts) }
-    ensures refused { IfErr result (IsPartsFault run.old.parts parts workers (G.passing gate.now)
-        (G.stops gate.now)) }
+    ensures refused { IfErr result (IsOpenFault workers) }
     ensures same { run.new ≡ run.old }
 {
     let verdicts = run.run(rt, alloc, parts, workers, gate)?;

@@ -7,7 +7,7 @@ ghost use Rattle.compaction.specs.Steepest.{IsOrdered, IsSteepestCompaction, at_
 ghost use Rattle.compaction.specs.Steepest.{with_launches};
 ghost use Rattle.fault_model.specs.declared.Model.TheVariants as model;
 ghost use Rattle.patterns.specs.Tests.{IsTestList};
-ghost use Rattle.region_runs.specs.Refused.{ArePartsWithin, IsPartsFault};
+ghost use Rattle.region_runs.specs.Refused.{IsOpenFault};
 
 use crate::detections::Detections;
 use crate::passes::compact_as_listed;
@@ -58,9 +58,7 @@ pub fn compact<G: Watch + Sync, R: Threads + Wait>(
     ensures width { IfOk result (λ kept. kept.tests.width ≡ run.old.parts.tests.width) }
     ensures job { run.new.parts ≡ with_tests run.old.parts run.new.parts.tests }
     ensures workers { OnOk result ((0 < workers) × (workers ≤ 64)) }
-    ensures within { OnOk result (ArePartsWithin run.old.parts parts) }
-    ensures refused { IfErr result (IsPartsFault run.old.parts parts workers
-        (G.passing gate.now) (G.stops gate.now)) }
+    ensures refused { IfErr result (IsOpenFault workers) }
 {
     let _tests = run.tests();
     match order {
@@ -93,9 +91,7 @@ fn compact_steepest<G: Watch + Sync, R: Threads + Wait>(
     ensures width { IfOk result (λ kept. kept.tests.width ≡ run.old.parts.tests.width) }
     ensures job { run.new.parts ≡ with_tests run.old.parts run.new.parts.tests }
     ensures workers { OnOk result ((0 < workers) × (workers ≤ 64)) }
-    ensures within { OnOk result (ArePartsWithin run.old.parts parts) }
-    ensures refused { IfErr result (IsPartsFault run.old.parts parts workers
-        (G.passing gate.now) (G.stops gate.now)) }
+    ensures refused { IfErr result (IsOpenFault workers) }
 {
     let Kept { tests, numbers } = compact_as_listed(rt, alloc, run, parts, workers, gate)?;
     run.set_own_tests(rt, alloc, tests, workers)?;

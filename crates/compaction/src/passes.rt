@@ -6,7 +6,7 @@ ghost use Rattle.compaction.specs.Compaction.{IsNumbered};
 ghost use Rattle.compaction.specs.Marks.{AreLastOf, AreLastPairsOf};
 ghost use Rattle.patterns.specs.Tests.{IsTestList};
 ghost use Rattle.fault_model.specs.declared.Model.TheVariants as model;
-ghost use Rattle.region_runs.specs.Refused.{ArePartsWithin, IsOpenFault, IsPartsFault};
+ghost use Rattle.region_runs.specs.Refused.{IsOpenFault};
 
 use crate::Kept;
 use crate::finding::{finding_tests, mark_before};
@@ -46,9 +46,7 @@ pub(crate) fn compact_as_listed<G: Watch + Sync, R: Threads + Wait>(
     ensures width { IfOk result (λ kept. kept.tests.width ≡ run.old.parts.tests.width) }
     ensures job { run.new.parts ≡ with_tests run.old.parts run.new.parts.tests }
     ensures workers { OnOk result ((0 < workers) × (workers ≤ 64)) }
-    ensures within { OnOk result (ArePartsWithin run.old.parts parts) }
-    ensures refused { IfErr result (IsPartsFault run.old.parts parts workers
-        (G.passing gate.now) (G.stops gate.now)) }
+    ensures refused { IfErr result (IsOpenFault workers) }
 {
     let mut found = finding_tests(rt, alloc, run, parts, workers, gate)?;
     let numbers = all_numbers(alloc, run.tests().count())?;
@@ -89,8 +87,7 @@ fn last_tests<G: Watch + Sync, R: Threads + Wait>(
     ensures list { IfOk result (λ kept. IsTestList kept.tests) }
     ensures width { IfOk result (λ kept. kept.tests.width ≡ run.old.parts.tests.width) }
     ensures job { run.new.parts ≡ with_tests run.old.parts run.new.parts.tests }
-    ensures refused { IfErr result (IsPartsFault run.old.parts parts workers
-        (G.passing gate.now) (G.stops gate.now)) }
+    ensures refused { IfErr result (IsOpenFault workers) }
 {
     let reversed = reversed_tests(alloc, &given.tests)?;
     run.set_tests(rt, alloc, reversed, workers)?;

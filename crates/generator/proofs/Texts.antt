@@ -24,8 +24,7 @@ use Rattle.job_loading.specs.declared.fault.SimFault.{SimFault}
 use Rattle.job_loading.specs.declared.fault.SimFault.TheVariants as fault
 use Rattle.job_loading.specs.Jobs.{IsJobOf}
 use Rattle.report.specs.EndToEnd.{IsReportFault}
-use Rattle.region_runs.proofs.Public.{parts_fault}
-use Rattle.region_runs.specs.Refused.{IsOpenFault, IsPartsFault}
+use Rattle.region_runs.specs.Refused.{IsOpenFault}
 use Rattle.test_columns.specs.Columns.{columns_line}
 use Rattle.test_columns.specs.Files.{file_text}
 use Rattle.generator.specs.declared.GeneratorFault.{GeneratorFault}
@@ -77,16 +76,6 @@ run_refused job workers run_fault.TooManyPieces few is = absurd (omega (arith, f
 run_refused job workers run_fault.Memory few is = is
 run_refused job workers run_fault.Threads few is = is
 run_refused job workers (run_fault.Unfinished class block) few is = absurd (is.4 tt)
-
--- an error of a compaction of tests of a job within this limit is one, too
-pub kept_refused : (run job : Parts) (tests : TestList) (parts workers : ℕ) (f : RunFault)
-    → run ≡ with_tests job tests
-    → AreFewPieces (length job.classes.representative) (length tests.tests)
-    → IsPartsFault run parts workers ⊤ no_stop f → IsOpenFault workers f
-kept_refused run job tests parts workers f same few is =
-    run_refused run workers f
-    (subst (λ (p : Parts). piece_count p ≤ max_pieces) (sym same) few)
-    (parts_fault run parts workers f is)
 
 -- errors of files that have a job within the limit of pieces are errors of the search
 pub report_refused : OneCircuit → NotBoth → (m : Model) (bench text : List ℕ) (workers : ℕ)

@@ -30,6 +30,7 @@ pub use command::run_words;
 use fault_model::Model;
 pub use held::{Held, HeldFault, HeldReason};
 use patterns::laws::one_answer_of_tests;
+use region_runs::RunJob;
 use report::{Contents, Lines, SimFault, job_of, report_bytes};
 use std::alloc::{AllocError, Global};
 use std::sync::Wait;
@@ -158,8 +159,9 @@ fn test_rows<R: Threads + Wait>(
     let line = columns_line(alloc, job.circuit())?;
     let bits = held_bits(alloc, job.circuit(), held)?;
     let found = search(rt, alloc, &mut job, &bits, settings)?;
-    let best = best_tests(rt, alloc, &mut job, found, settings)?;
-    let needed = needed_of_best(rt, alloc, job, best, settings.workers)?;
+    let mut run = RunJob::whole(job);
+    let best = best_tests(rt, alloc, &mut run, found, settings)?;
+    let needed = needed_of_best(rt, alloc, run, best, settings.workers)?;
     let _width = needed.width();
     Ok(test_file(alloc, line, &needed)?)
 }

@@ -1,5 +1,4 @@
 mod Eight
 mod GatesAmong
 mod JobsOfAnswers
-mod LeastParts
 mod Parts

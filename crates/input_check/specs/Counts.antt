@@ -2,7 +2,6 @@
 use Rattle.std.specs.Prelude.{◌≡◌, ◌<◌, ◌≤◌, ◌*◌, ◌/◌, ◌==◌, ℕ, max, min, Bool, false}
 use Rattle.std.specs.Prelude.{⊤, List, [], filter, length, slice_index, Option, Some, None}
 use Rattle.std.specs.List.{flat_map}
-use Rattle.std.specs.Int.{div_ceil}
 use Rattle.bench_net.specs.declared.Kind.{Kind}
 use Rattle.bench_net.specs.declared.Kind.TheVariants.{And, Nand, Or, Nor, Xor, Xnor, Not, Buff}
 use Rattle.bench_net.specs.Circuit.{sink_count}
@@ -14,11 +13,9 @@ use Rattle.fault_model.specs.Collapse.{Collapsed, AreClassesOf}
 use Rattle.fault_model.specs.Fault.{faults}
 use Rattle.patterns.specs.Tests.{TestList, blocks, max_pieces, max_tests}
 use Rattle.block_sim.specs.Parts.{Parts, piece_count}
-use Rattle.region_runs.specs.Refused.{ArePartsWithin, HasLargePart}
 use Rattle.input_check.specs.declared.sizes.Sizes.{Sizes}
 use Rattle.input_check.specs.declared.summary.Counts.{Counts}
 use Rattle.input_check.specs.declared.summary.Excess.{Excess}
-use Rattle.input_check.specs.declared.summary.Limits.{Limits}
 use Rattle.input_check.specs.declared.summary.TestCounts.{TestCounts}
 
 -- the place of a kind in a list of the numbers of gates
@@ -76,21 +73,10 @@ pub record AreTestCountsOf (classes : ℕ) (list : TestList) (taken : TestCounts
   pub blocks : taken.blocks ≡ blocks (length list.tests)
   pub pieces : taken.pieces ≡ classes * taken.blocks
 
--- the least number of parts of one size, each with at most `max_pieces` pieces, for a number of
--- classes on a number of blocks
-abbrev pub AreLeastParts : ℕ → ℕ → ℕ → Type 0
-AreLeastParts classes blocks parts = (div_ceil classes parts * blocks ≤ max_pieces)
-    × ((fewer : ℕ) → 0 < fewer → fewer < parts → max_pieces < div_ceil classes fewer * blocks)
-
 -- the most tests of one run: 64 for each block of which all pieces are within the limit, and at
 -- most as many as a test file may have
 abbrev pub tests_a_run : ℕ → ℕ
 tests_a_run classes = min (64 * (max_pieces / max classes 1)) max_tests
-
--- a run takes so many tests, and the most tests of a file need so many parts
-pub record AreLimitsOf (classes : ℕ) (limits : Limits) : Type 0 where
-  pub tests : limits.tests ≡ tests_a_run classes
-  pub parts : AreLeastParts classes (blocks max_tests) limits.parts
 
 -- the size of a run of the tests, if there are any
 abbrev pub IsRunOf : ℕ → Option TestList → Option TestCounts → Type 0
@@ -102,15 +88,12 @@ IsRunOf classes _ _ = ⊥
 pub record AreSizesOf (m : Model) (c : List Statement) (list : Option TestList) (sizes : Sizes)
     : Type 0 where
   pub counts : AreCountsOf m c sizes.counts
-  pub limits : AreLimitsOf sizes.counts.classes sizes.limits
+  pub most : sizes.tests_a_run ≡ tests_a_run sizes.counts.classes
   pub tests : IsRunOf sizes.counts.classes list sizes.tests
 
--- The pieces of a job are past the limit, and this many. A run needs this number of parts, and no
--- fewer do.
+-- The pieces of a job are past the limit, and this many.
 pub record IsExcessOf (job : Parts) (excess : Excess) : Type 0 where
   pub past : max_pieces < piece_count job
   pub classes : excess.classes ≡ length job.classes.representative
   pub blocks : excess.blocks ≡ blocks (length job.tests.tests)
   pub pieces : excess.pieces ≡ piece_count job
-  pub parts : ArePartsWithin job excess.parts
-  pub least : (fewer : ℕ) → 0 < fewer → fewer < excess.parts → HasLargePart job fewer

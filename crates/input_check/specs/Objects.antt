@@ -15,7 +15,6 @@ use Rattle.input_check.specs.declared.errors.ErrorRow.{ErrorRow}
 use Rattle.input_check.specs.declared.sizes.Sizes.{Sizes}
 use Rattle.input_check.specs.declared.summary.Counts.{Counts}
 use Rattle.input_check.specs.declared.summary.Excess.{Excess}
-use Rattle.input_check.specs.declared.summary.Limits.{Limits}
 use Rattle.input_check.specs.declared.summary.TestCounts.{TestCounts}
 
 -- ---- numbers, strings and members
@@ -81,13 +80,9 @@ ports_text counts = lines_text (
 abbrev pub circuit_text : Counts → List ℕ
 circuit_text counts = ports_text counts ++ (gates_text counts ++ signals_text counts)
 
--- what one run takes
-abbrev pub limits_text : Limits → List ℕ
-limits_text limits = lines_text (
-    (codes "tests_a_run", Some limits.tests)
-    ∷ (codes "parts", Some limits.parts)
-    ∷ (codes "parts_memory_mb", Some (megabytes limits.bytes))
-    ∷ [])
+-- the most tests of a run
+abbrev pub limit_text : ℕ → List ℕ
+limit_text tests = lines_text ((codes "tests_a_run", Some tests) ∷ [])
 
 -- the size of a run of tests, if there is a test file
 abbrev pub run_text : Option TestCounts → List ℕ
@@ -114,7 +109,7 @@ head_text model = codes "{\n\"errors\":[],\n\"more_errors\":0,\n\"model\":\""
 -- the object of accepted files
 abbrev pub sizes_object : Sizes → List ℕ
 sizes_object sizes = head_text sizes.counts.model ++ (circuit_text sizes.counts
-    ++ (limits_text sizes.limits ++ (run_text sizes.tests
+    ++ (limit_text sizes.tests_a_run ++ (run_text sizes.tests
     ++ (warnings_text (map string_bytes sizes.warnings.items) ++ codes "\n}\n"))))
 
 -- ---- the errors of a file
@@ -168,8 +163,7 @@ kept findings = findings.first ∷ findings.others.items
 abbrev pub excess_words : Excess → List ℕ
 excess_words excess = codes "found " ++ (decimal excess.pieces ++ (codes " pieces: "
     ++ (decimal excess.classes ++ (codes " classes on " ++ (decimal excess.blocks
-    ++ (codes " blocks of 64 tests; try --parts auto, or --parts " ++ (decimal excess.parts
-    ++ codes " or more")))))))
+    ++ codes " blocks of 64 tests; try --parts auto")))))
 
 abbrev pub excess_cells : List ℕ → Excess → ErrorCells
 excess_cells file excess = record {

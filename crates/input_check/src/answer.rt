@@ -8,7 +8,7 @@ ghost use Rattle.input_check.specs.Checks.{IsTextAnswer};
 
 use crate::bench::{BenchCheck, check_bench};
 use crate::sizes::Sizes;
-use crate::summary::{Excess, count_circuit, count_tests, excess_of, limits_of};
+use crate::summary::{Excess, count_circuit, count_tests, excess_of};
 use crate::tests::{TestCheck, check_tests};
 use bench_net::Circuit;
 use fault_model::Model;
@@ -65,7 +65,7 @@ fn answer_for<'a>(
             add_words(&mut warnings, alloc, &circuit_warnings(alloc, circuit)?)?;
             Ok(Answer::Accepted(Sizes {
                 counts,
-                limits: limits_of(&counts),
+                tests_a_run: counts.tests_a_run(),
                 tests: None,
                 warnings,
             }))
@@ -106,7 +106,7 @@ fn answer_for_tests<'a>(
         None => {
             Ok(Answer::Accepted(Sizes {
                 counts,
-                limits: limits_of(&counts),
+                tests_a_run: counts.tests_a_run(),
                 tests: Some(taken),
                 warnings: warnings_of(alloc, model, circuit, tests)?,
             }))

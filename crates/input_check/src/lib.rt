@@ -23,5 +23,5 @@ pub use errors::{ErrorRow, errors_object};
 pub use input_errors::{Finding, Findings, InputError, Located, Note, Place, Token};
 pub use object::answer_object;
 pub use sizes::Sizes;
-pub use summary::{Counts, Excess, Limits, TestCounts, count_circuit, count_tests, limits_of};
+pub use summary::{Counts, Excess, TestCounts, count_circuit, count_tests};
 pub use tests::{TestCheck, check_tests};

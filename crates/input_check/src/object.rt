@@ -3,7 +3,7 @@
 ghost use Rattle.std.specs.Prelude.{◌≡◌, ◌++◌, IfOk, OnOk, Some, None, map, string_bytes};
 ghost use Rattle.std.specs.List.{flat_map};
 ghost use Rattle.input_check.specs.Objects.{IsObjectOf, circuit_text, gates_text, head_text};
-ghost use Rattle.input_check.specs.Objects.{kinds_text, limits_text, ports_text, run_text};
+ghost use Rattle.input_check.specs.Objects.{kinds_text, limit_text, ports_text, run_text};
 ghost use Rattle.input_check.specs.Objects.{signals_text, sizes_object, warning_text};
 ghost use Rattle.input_check.specs.Objects.{warnings_text};
 
@@ -11,7 +11,7 @@ use crate::answer::Answer;
 use crate::errors::{error_rows, errors_object, excess_row};
 use crate::json_text::{add_members, add_pieces, missing, numbered, quoted, without_first};
 use crate::sizes::{Sizes, megabytes, model_word};
-use crate::summary::{Counts, Limits, TestCounts};
+use crate::summary::{Counts, TestCounts};
 use fault_model::Model;
 use itoa::Buffer;
 use std::alloc::{AllocError, Global};
@@ -64,7 +64,7 @@ fn sizes_object(alloc: Global, sizes: &Sizes) -> Result<Vec<u8>, AllocError>
     let mut text = Vec::new(alloc);
     add_head(&mut text, sizes.counts.model)?;
     add_circuit(&mut text, &sizes.counts)?;
-    add_limits(&mut text, &sizes.limits)?;
+    add_limit(&mut text, sizes.tests_a_run)?;
     add_run(&mut text, &sizes.tests)?;
     add_warnings(&mut text, alloc, &sizes.warnings)?;
     add_pieces(&mut text, &["\n}\n"])?;
@@ -147,15 +147,11 @@ fn add_signals(text: &mut Vec<u8>, counts: &Counts) -> Result<(), AllocError>
     add_members(text, NEXT_LINE, &members)
 }
 
-/// Adds the limits of one run.
-fn add_limits(text: &mut Vec<u8>, limits: &Limits) -> Result<(), AllocError>
-    ensures { OnOk result (text.new.items ≡ text.old.items ++ limits_text limits.now) }
+/// Adds the most tests of a run.
+fn add_limit(text: &mut Vec<u8>, tests: u32) -> Result<(), AllocError>
+    ensures { OnOk result (text.new.items ≡ text.old.items ++ limit_text tests) }
 {
-    let members = [
-        numbered("tests_a_run", u64::from(limits.tests)),
-        numbered("parts", u64::from(limits.parts)),
-        numbered("parts_memory_mb", megabytes(limits.bytes)),
-    ];
+    let members = [numbered("tests_a_run", u64::from(tests))];
     add_members(text, NEXT_LINE, &members)
 }
 

@@ -4,7 +4,7 @@ ghost use Rattle.std.specs.Prelude.{◌≡◌, ◌+◌, ◌/◌};
 ghost use Rattle.input_check.specs.Objects.{megabytes, model_word};
 
 use crate::gates::KIND_NAMES;
-use crate::summary::{Counts, Limits, TestCounts, USUAL_WORKERS};
+use crate::summary::{Counts, TestCounts, USUAL_WORKERS};
 use fault_model::Model;
 use patterns::MAX_TESTS;
 use std::fmt::{self, Display, Formatter};
@@ -14,8 +14,8 @@ use std::fmt::{self, Display, Formatter};
 pub struct Sizes {
     /// The sizes of the circuit.
     pub counts: Counts,
-    /// What one run of it takes.
-    pub limits: Limits,
+    /// The most tests of a run without `--parts`.
+    pub tests_a_run: u32,
     /// The size of a run of the tests, if there is a test file.
     pub tests: Option<TestCounts>,
     /// The words of each warning.
@@ -25,7 +25,7 @@ pub struct Sizes {
 impl Display for Sizes {
     fn fmt<W: fmt::Write>(&self, f: &mut Formatter<W>) -> fmt::Result {
         fmt_counts(&self.counts, f)?;
-        fmt_limits(&self.limits, f)?;
+        fmt_limit(self.tests_a_run, f)?;
         if let Some(tests) = &self.tests {
             fmt_tests(tests, f)?;
         }
@@ -85,22 +85,13 @@ fn fmt_counts<W: fmt::Write>(counts: &Counts, f: &mut Formatter<W>) -> fmt::Resu
     fmt_row("classes", u64::from(counts.classes), f)
 }
 
-/// Writes the most tests of one run. If a test file may have more, it also writes the number of
-/// parts for 65,536 tests, and the memory of a run in these parts.
-fn fmt_limits<W: fmt::Write>(limits: &Limits, f: &mut Formatter<W>) -> fmt::Result {
-    let most = limits.tests;
-    writeln!(f, "tests a run {most:>10} at most")?;
-    match limits.parts {
-        1 => Ok(()),
-        parts => {
-            writeln!(f, "parts       {parts:>10} at least, for {MAX_TESTS} tests")?;
-            let megabytes = megabytes(limits.bytes);
-            writeln!(
-                f,
-                "  memory    {megabytes:>10} MB, some, for {USUAL_WORKERS} workers"
-            )
-        }
+/// Writes the most tests of a run without `--parts`.
+fn fmt_limit<W: fmt::Write>(tests: u32, f: &mut Formatter<W>) -> fmt::Result {
+    writeln!(f, "tests a run {tests:>10} at most")?;
+    if tests < MAX_TESTS {
+        writeln!(f, "  --parts   {MAX_TESTS:>10} at most")?;
     }
+    Ok(())
 }
 
 /// Writes the rows of a run of tests.

@@ -2,8 +2,7 @@
 
 ghost use Rattle.std.specs.Prelude.{◌≡◌, ◌<◌, ◌≤◌, ◌*◌, IfNone, IfOk, IfSome, Some};
 ghost use Rattle.patterns.specs.Tests.{max_pieces};
-ghost use Rattle.input_check.specs.Counts.{AreCountsOf, AreLeastParts, AreLimitsOf};
-ghost use Rattle.input_check.specs.Counts.{AreTestCountsOf, tests_a_run};
+ghost use Rattle.input_check.specs.Counts.{AreCountsOf, AreTestCountsOf, tests_a_run};
 
 use crate::gates::{GateCounts, count_gates};
 use bench_net::Circuit;
@@ -14,9 +13,6 @@ use region_runs::{stretches_for, window_blocks};
 use std::alloc::{AllocError, Global};
 use std::fmt::{self, Display, Formatter};
 use test_threads::LARGE_PIECE;
-
-/// The blocks of the most tests that a run takes.
-const MAX_BLOCKS: u32 = MAX_TESTS / BLOCK_SIZE;
 
 /// The number of workers of `run` by default.
 pub(crate) const USUAL_WORKERS: u32 = 4;
@@ -67,22 +63,12 @@ pub fn count_circuit(alloc: Global, model: Model, circuit: &Circuit) -> Result<C
 }
 
 impl Counts {
-    /// Returns the most tests of one run: 64 times 16,777,216 div classes, and 65,536 at most.
+    /// Returns the most tests of a run without `--parts`: 64 times 16,777,216 div classes, and 65,536 at most.
     pub(crate) fn tests_a_run(&self) -> u32
         ensures { result ≡ tests_a_run self.now.classes }
     {
         let blocks = MAX_PIECES / self.classes.max(1);
         blocks.saturating_mul(BLOCK_SIZE).min(MAX_TESTS)
-    }
-
-    /// Returns the least number of parts for a run of this number of blocks.
-    pub(crate) fn parts_of(&self, blocks: u32) -> u32
-        requires some { 0 < blocks }
-        requires few { blocks ≤ 1024 }
-        ensures { AreLeastParts self.now.classes blocks result }
-    {
-        let classes_of_part = MAX_PIECES / blocks;
-        self.classes.div_ceil(classes_of_part).max(1)
     }
 
     /// Returns the bytes of a test file with this number of tests.
@@ -149,28 +135,6 @@ fn groups_of(tests: u32) -> u32 {
     tests.div_ceil(2 * BLOCK_SIZE)
 }
 
-/// What one run of a circuit takes.
-#[derive(Clone, Copy, Debug, PartialEq, Eq)]
-pub struct Limits {
-    /// The most tests of one run.
-    pub tests: u32,
-    /// The least number of parts for a run of 65,536 tests.
-    pub parts: u32,
-    /// An estimate of the bytes of a run of 65,536 tests with four workers.
-    pub bytes: u64,
-}
-
-/// Computes what one run of a circuit with these counts takes.
-pub fn limits_of(counts: &Counts) -> Limits
-    ensures { AreLimitsOf counts.now.classes result }
-{
-    Limits {
-        tests: counts.tests_a_run(),
-        parts: counts.parts_of(MAX_BLOCKS),
-        bytes: counts.memory_in_windows(MAX_TESTS, USUAL_WORKERS),
-    }
-}
-
 /// The size of a run of tests.
 #[derive(Clone, Copy, Debug, PartialEq, Eq)]
 pub struct TestCounts {
@@ -206,21 +170,16 @@ pub struct Excess {
     pub blocks: u32,
     /// Classes times blocks.
     pub pieces: u64,
-    /// The least number of parts for a run of them.
-    pub parts: u32,
 }
 
 /// Returns the excess of tests that are too many for one run.
 pub(crate) fn excess_of(counts: &Counts, taken: &TestCounts) -> Option<Excess>
-    requires blocks { taken.now.blocks ≤ 1024 }
     requires pieces { taken.now.pieces ≡ counts.now.classes * taken.now.blocks }
     ensures none { IfNone result (taken.now.pieces ≤ max_pieces) }
     ensures past { IfSome result (λ excess. max_pieces < taken.now.pieces) }
     ensures classes { IfSome result (λ excess. excess.classes ≡ counts.now.classes) }
     ensures blocks { IfSome result (λ excess. excess.blocks ≡ taken.now.blocks) }
     ensures pieces { IfSome result (λ excess. excess.pieces ≡ taken.now.pieces) }
-    ensures parts { IfSome result (λ excess.
-        AreLeastParts counts.now.classes taken.now.blocks excess.parts) }
 {
     if taken.pieces <= u64::from(MAX_PIECES) {
         return None;
@@ -229,7 +188,6 @@ pub(crate) fn excess_of(counts: &Counts, taken: &TestCounts) -> Option<Excess>
         classes: counts.classes,
         blocks: taken.blocks,
         pieces: taken.pieces,
-        parts: counts.parts_of(taken.blocks),
     })
 }
 
@@ -244,12 +202,11 @@ impl Display for Excess {
             classes,
             blocks,
             pieces,
-            parts,
         } = *self;
         write!(
             f,
             "found {pieces} pieces: {classes} classes on {blocks} blocks of 64 tests; "
         )?;
-        write!(f, "try --parts auto, or --parts {parts} or more")
+        write!(f, "try --parts auto")
     }
 }

@@ -1,5 +1,5 @@
 -- A job of the circuit and the tests of accepted files is a job of the files.
-use Rattle.std.proofs.Common.{◌≡◌, ◌⊎◌, ◌<◌, ℕ, List, length, refl, sym, ap, subst, inl, inr}
+use Rattle.std.proofs.Common.{◌≡◌, ◌⊎◌, ◌<◌, ◌≤◌, ℕ, List, length, refl, sym, ap, subst, inl, inr}
 use Rattle.std.specs.Prelude.{Result, Err, ◌↔◌}
 use Rattle.bench_net.specs.Statement.{Statement}
 use Rattle.bench_net.specs.Scan.{sources}
@@ -14,11 +14,11 @@ use Rattle.block_sim.specs.Parts.{BelongTogether, Parts, piece_count, with_tests
 use Rattle.job_loading.specs.declared.fault.SimFault.{SimFault}
 use Rattle.job_loading.specs.declared.fault.SimFault.TheVariants as fault
 use Rattle.block_sim.specs.JobParts.{IsJobUnder}
-use Rattle.job_loading.specs.declared.split.Split.{Split}
-use Rattle.job_loading.specs.declared.split.Split.TheVariants as split
+use Rattle.job_loading.specs.declared.runs.Limit.{Limit}
+use Rattle.job_loading.specs.declared.runs.Limit.TheVariants as limit
 use Rattle.job_loading.specs.Jobs.{AreTestsFor, IsJobFault, IsJobOf, IsPiecesFault}
 use Rattle.job_loading.specs.Jobs.{IsReadFault}
-use Rattle.job_loading.specs.Splits.{IsSplitFault, IsSplitFaultFor}
+use Rattle.job_loading.specs.Limits.{IsLimitFault, IsLimitFaultFor, IsWithinLimit}
 
 -- the parts that are made for a circuit and tests are a job of them
 pub job_is : (m : Model) (c : List Statement) (list : FaultList) (classes : Collapsed)
@@ -89,24 +89,31 @@ pub job_refused : (J P : Type 0) (f : JobFault)
 job_refused J P job_fault.TooManyPieces h = inr (h.0 refl)
 job_refused J P job_fault.Memory h = inl refl
 
--- ---- the errors of a run in parts
+-- ---- a job within a limit
 
-pub split_fault : (m : Model) (bench text : List ℕ) (c : List Statement) (tests : TestList)
-    (parts : Split) → IsAccepted bench c → HasTests text (length (sources c)) tests
-    → (f : SimFault) → IsSplitFaultFor m c tests parts f → IsSplitFault m bench text parts f
-split_fault m bench text c tests split.Whole accepted has f h =
+-- an error of the job of two files' circuit and tests is an error of the files
+pub limit_fault : (m : Model) (bench text : List ℕ) (c : List Statement) (tests : TestList)
+    (l : Limit) → IsAccepted bench c → HasTests text (length (sources c)) tests
+    → (f : SimFault) → IsLimitFaultFor m c tests l f → IsLimitFault m bench text l f
+limit_fault m bench text c tests limit.Pieces accepted has f h =
     pieces_fault m bench text c tests accepted has f h
-split_fault m bench text c tests (split.Parts count) accepted has f h =
-    subst (IsReadFault bench text) (sym h) tt
-split_fault m bench text c tests split.Fitting accepted has f h =
+limit_fault m bench text c tests limit.None accepted has f h =
     subst (IsReadFault bench text) (sym h) tt
 
--- too many pieces are an error of a run as a whole
-pub pieces_of_whole : (job : Parts) (tests : TestList) (parts : Split) → BelongTogether job
-    → AreTestsFor job.circuit tests → parts ≡ split.Whole
+-- too many pieces are an error if they are limited
+pub too_many : (job : Parts) (tests : TestList) (l : Limit) → BelongTogether job
+    → AreTestsFor job.circuit tests → l ≡ limit.Pieces
     → max_pieces < piece_count (with_tests job tests)
-    → IsSplitFaultFor job.list.model job.circuit tests parts (fault.Job job_fault.TooManyPieces)
-pieces_of_whole job tests parts together fit is many =
-    subst (λ p. IsSplitFaultFor job.list.model job.circuit tests p
+    → IsLimitFaultFor job.list.model job.circuit tests l (fault.Job job_fault.TooManyPieces)
+too_many job tests l together fit is many =
+    subst (λ p. IsLimitFaultFor job.list.model job.circuit tests p
     (fault.Job job_fault.TooManyPieces)) (sym is)
     (inr (with_tests job tests, job_with_tests job tests together fit, many))
+
+-- and else the job is within the limit
+pub not_too_many : (job run : Parts) (tests : TestList) (l : Limit) → run ≡ with_tests job tests
+    → (l ≡ limit.Pieces → piece_count (with_tests job tests) ≤ max_pieces)
+    → IsWithinLimit l run
+not_too_many job run tests limit.Pieces is few =
+    subst (λ p. piece_count p ≤ max_pieces) (sym is) (few refl)
+not_too_many job run tests limit.None is few = tt

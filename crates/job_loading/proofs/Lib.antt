@@ -1,4 +1,3 @@
 mod JobsOfTexts
-mod FewestParts
 mod SummedFiles
 pub mod Public

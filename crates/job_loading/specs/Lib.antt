@@ -1,3 +1,3 @@
 pub mod Jobs
-pub mod Splits
+pub mod Limits
 pub mod Sums

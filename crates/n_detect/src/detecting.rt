@@ -56,7 +56,6 @@ pub fn class_tests<G: Watch + Sync, R: Threads + Wait>(
         classes: _classes,
         positions,
         kept,
-        ledger: _ledger,
     } = done;
     Ok(ClassTests {
         positions,

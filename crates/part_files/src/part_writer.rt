@@ -37,9 +37,8 @@ const RULE: &str = "region";
 ///
 /// # Errors
 ///
-/// The errors of [`region_runs::run_part`]: with [`workers::RunFault::TooManyPieces`] it fails if
-/// the part has too many pieces, and with [`workers::RunFault::Unfinished`] if the gate stops
-/// workers and not all classes of the part are settled. And those of the output.
+/// The errors of [`region_runs::run_part`]: with [`workers::RunFault::Unfinished`] it fails if the
+/// gate stops workers and not all classes of the part are settled. And those of the output.
 pub fn write_part_of_run<R: Threads + Wait, G: Watch + Sync, W: Out>(
     rt: &R,
     alloc: Global,

@@ -1,38 +1,16 @@
--- Errors of a run in parts whose gate lets every piece pass.
-use Rattle.std.proofs.Common.{◌≡◌, ◌≤◌, ◌/◌, List, ℕ, zero, suc, arith, length, subst}
-use Rattle.std.proofs.Math.Nat.{div-add-mod, div-zero, mul-le-mul_right, suc-mul}
+-- Errors of runs in stretches.
+use Rattle.std.proofs.Common.{◌≡◌, List, ℕ, length, subst}
 use Rattle.std.specs.Prelude.{⊤, Bool}
-use Rattle.patterns.specs.Tests.{blocks}
 use Rattle.block_sim.specs.Parts.{Parts}
 use Rattle.workers.specs.declared.RunFault.{RunFault}
 use Rattle.workers.specs.declared.RunFault.TheVariants as run_fault
-use Rattle.workers.specs.Refused.{IsRunFault}
 use Rattle.workers.specs.Stops.{Stops, no_stop}
 use Rattle.region_sim.specs.ClassOrder.{AreAllByRegion}
 use Rattle.region_runs.specs.Cut.{IsCutOf}
 use Rattle.region_runs.specs.Part.{ArePartOf, stretch_size, stretches_for}
 use Rattle.region_runs.specs.Tasks.{Task, first_tests, task_of}
-use Rattle.region_runs.specs.Refused.{IsGoalFault, IsOpenFault, IsPartFault, IsPartsFault}
+use Rattle.region_runs.specs.Refused.{IsGoalFault, IsOpenFault, IsPartFault}
 use Rattle.region_runs.specs.Refused.{IsStretchesFault}
-
--- a stretch has no more classes than all
-pub ceil_le : (n parts : ℕ) → stretch_size n parts ≤ n
-ceil_le n zero = omega (arith, div-zero n, div-add-mod n 0)
-ceil_le n (suc parts) = omega (arith, div-add-mod n (suc parts), suc-mul parts (n / suc parts))
-
--- it has the errors of a run
-pub parts_fault : (job : Parts) (parts workers : ℕ) (f : RunFault)
-    → IsPartsFault job parts workers ⊤ no_stop f → IsRunFault job workers ⊤ no_stop f
-parts_fault job parts workers run_fault.NoWorkers h = h
-parts_fault job parts workers run_fault.TooManyWorkers h = h
-parts_fault job parts workers (run_fault.NoSuchMove index) h = h
-parts_fault job parts workers run_fault.TooManyPieces h =
-    let few = ceil_le (length job.classes.representative) parts in
-    let more = mul-le-mul_right (blocks (length job.tests.tests)) few in
-    (h.0, h.1, omega (arith, h.2, more))
-parts_fault job parts workers run_fault.Memory h = h
-parts_fault job parts workers run_fault.Threads h = h
-parts_fault job parts workers (run_fault.Unfinished class block) h = absurd (h.4 tt)
 
 -- stretches that an open gate watches fail for memory or a thread
 pub open_fault : {K : Type 0} (task : Task K) (size : ℕ) (classes : List ℕ) (parts workers : ℕ)
@@ -76,29 +54,30 @@ goal_fault {K} task parts workers classes P S run_fault.Threads all h = h
 goal_fault {K} task parts workers classes P S (run_fault.Unfinished class block) all h =
     (h.0, h.1, h.2, h.3, h.4, (classes, all, h.5))
 
--- the errors of a run for first tests
-pub firsts_fault : (job : Parts) (parts workers : ℕ) (P : Type 0) (S : Stops) (f : RunFault)
-    → IsGoalFault (first_tests job) parts workers P S f → IsPartsFault job parts workers P S f
-firsts_fault job parts workers P S run_fault.NoWorkers h = h
-firsts_fault job parts workers P S run_fault.TooManyWorkers h = h
-firsts_fault job parts workers P S (run_fault.NoSuchMove index) h = h
-firsts_fault job parts workers P S run_fault.TooManyPieces h = absurd h
-firsts_fault job parts workers P S run_fault.Memory h = h
-firsts_fault job parts workers P S run_fault.Threads h = h
-firsts_fault job parts workers P S (run_fault.Unfinished class block) h = h
+-- under a gate that lets every piece pass
+pub passing_fault : {K : Type 0} (task : Task K) (parts workers : ℕ) (P : Type 0) (S : Stops)
+    (f : RunFault) → P → IsGoalFault task parts workers P S f → IsOpenFault workers f
+passing_fault {K} task parts workers P S run_fault.NoWorkers lets h = h
+passing_fault {K} task parts workers P S run_fault.TooManyWorkers lets h = h
+passing_fault {K} task parts workers P S (run_fault.NoSuchMove index) lets h = h
+passing_fault {K} task parts workers P S run_fault.TooManyPieces lets h = h
+passing_fault {K} task parts workers P S run_fault.Memory lets h = h
+passing_fault {K} task parts workers P S run_fault.Threads lets h = h
+passing_fault {K} task parts workers P S (run_fault.Unfinished class block) lets h =
+    absurd (h.4 lets)
 
--- the errors of a run under an open gate are errors of a run in parts
-pub open_parts_fault : (job : Parts) (parts workers : ℕ) (f : RunFault)
-    → IsOpenFault workers f → IsPartsFault job parts workers ⊤ no_stop f
-open_parts_fault job parts workers run_fault.NoWorkers h = h
-open_parts_fault job parts workers run_fault.TooManyWorkers h = h
-open_parts_fault job parts workers (run_fault.NoSuchMove index) h = h
-open_parts_fault job parts workers run_fault.TooManyPieces h = absurd h
-open_parts_fault job parts workers run_fault.Memory h = h
-open_parts_fault job parts workers run_fault.Threads h = h
-open_parts_fault job parts workers (run_fault.Unfinished class block) h = absurd h
+-- and the errors of a run under an open gate are errors of a run for a goal
+pub open_goal_fault : {K : Type 0} (task : Task K) (parts workers : ℕ) (P : Type 0) (S : Stops)
+    (f : RunFault) → IsOpenFault workers f → IsGoalFault task parts workers P S f
+open_goal_fault {K} task parts workers P S run_fault.NoWorkers h = h
+open_goal_fault {K} task parts workers P S run_fault.TooManyWorkers h = h
+open_goal_fault {K} task parts workers P S (run_fault.NoSuchMove index) h = h
+open_goal_fault {K} task parts workers P S run_fault.TooManyPieces h = absurd h
+open_goal_fault {K} task parts workers P S run_fault.Memory h = h
+open_goal_fault {K} task parts workers P S run_fault.Threads h = h
+open_goal_fault {K} task parts workers P S (run_fault.Unfinished class block) h = absurd h
 
--- and of those of a part
+-- the errors of a part
 part_fault : (job : Parts) (parts part workers : ℕ) (classes : List ℕ) (P : Type 0) (S : Stops)
     (f : RunFault) → ArePartOf job parts part classes
     → IsStretchesFault (first_tests job)

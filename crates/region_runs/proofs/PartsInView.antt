@@ -1,21 +1,15 @@
 -- The part of a run whose tests may stand apart.
-use Rattle.std.proofs.Common.{◌≡◌, ◌<◌, ◌≤◌, ◌*◌, ◌∙◌, ◌⊎◌, ℕ, List, Option, Some, ap, inl, inr}
-use Rattle.std.proofs.Common.{length, subst, sym}
+use Rattle.std.proofs.Common.{◌≡◌, ◌∙◌, ℕ, List, Option, Some, ap, length, subst}
 use Rattle.std.specs.Prelude.{slice_get}
 use Rattle.bench_net.specs.Statement.{Statement}
 use Rattle.fault_model.specs.Collapse.{Collapsed}
 use Rattle.fault_model.specs.Fault.{FaultList}
-use Rattle.patterns.specs.Tests.{TestList, blocks, max_pieces}
+use Rattle.patterns.specs.Tests.{TestList}
 use Rattle.block_sim.specs.Parts.{Parts, with_tests}
-use Rattle.workers.specs.declared.RunFault.{RunFault}
-use Rattle.workers.specs.declared.RunFault.TheVariants as run_fault
-use Rattle.workers.specs.Stops.{Stops}
 use Rattle.region_runs.specs.declared.parts.PartVerdict.{PartVerdict}
 use Rattle.region_runs.specs.declared.parts.PartVerdict.TheVariants.{First}
-use Rattle.region_runs.specs.Part.{ArePartOf, stretch_size, stretches_for}
-use Rattle.region_runs.specs.Refused.{IsPartFault}
+use Rattle.region_runs.specs.Part.{ArePartOf, stretches_for}
 use Rattle.region_runs.specs.RunJobs.{AreKeptByLedgers, IsPartByLedgers}
-use Rattle.region_runs.specs.Stretches.{AreOfStretches}
 use Rattle.region_runs.specs.Tasks.{first_tests}
 use Rattle.region_runs.proofs.WindowSteps.{part_with}
 
@@ -42,25 +36,6 @@ part_in_view a b parts part classes c l k own =
     subst (λ j. ArePartOf j parts part classes) (in_view a b c l k)
     (part_with a b.tests parts part classes own)
 
--- the error of a part that is past the limit on pieces
-pub large_part_fault : (job : Parts) (parts part workers few n : ℕ) (classes : List ℕ)
-    (P : Type 0) (S : Stops) (f : RunFault) → 0 < workers → workers ≤ 64
-    → ArePartOf job parts part classes → few ≡ length classes
-    → n ≡ blocks (length job.tests.tests)
-    → (f ≡ run_fault.TooManyPieces) × (max_pieces < few * n)
-    → IsPartFault job parts part workers P S f
-large_part_fault job parts part workers few n classes P S f some most own count e h =
-    subst (IsPartFault job parts part workers P S) (sym h.0) (
-      some,
-      most,
-      (
-        classes,
-        own,
-        subst (λ k. max_pieces < length classes * k) e
-            (subst (λ k. max_pieces < k * n) count h.1),
-      ),
-    )
-
 -- the verdicts of a part were found by ledgers if the first tests of its classes were
 pub part_by_ledgers : (job : Parts) (parts part workers n : ℕ) (classes : List ℕ)
     (firsts : List (Option ℕ)) (verdicts : List PartVerdict) → ArePartOf job parts part classes
@@ -70,21 +45,10 @@ pub part_by_ledgers : (job : Parts) (parts part workers n : ℕ) (classes : List
     → (k : ℕ) × (slice_get classes k ≡ Some class) × (slice_get firsts k ≡ Some first))
     → AreKeptByLedgers (first_tests job) n workers classes firsts
     → IsPartByLedgers job parts part workers verdicts
-part_by_ledgers job parts part workers n classes firsts verdicts own e each (inl h) = inl (
-  h.0,
-  record {
-    classes = classes;
-    are = own;
-    firsts = firsts;
-    of = subst (λ k. AreOfStretches job (stretch_size (length classes) k) classes workers firsts
-        h.0) e h.1;
-    each = each;
-  },
-)
-part_by_ledgers job parts part workers n classes firsts verdicts own e each (inr h) = inr (record {
+part_by_ledgers job parts part workers n classes firsts verdicts own e each h = record {
   classes = classes;
   are = own;
   firsts = firsts;
-  of = h;
+  of = subst (λ k. AreKeptByLedgers (first_tests job) k workers classes firsts) e h;
   each = each;
-})
+}

@@ -1,7 +1,7 @@
 -- The results of workers at a closed ledger of stretches.
 use Rattle.std.proofs.Common.{◌≡◌, ◌≢◌, ◌<◌, ◌≤◌, ◌+◌, ◌*◌, ◌⊎◌, inl, inr, ℕ, zero, suc, List, []}
 use Rattle.std.proofs.Common.{◌∷◌, ◌++◌, length, All, Option, Some, None, refl, sym, ap, ◌∙◌, subst}
-use Rattle.std.proofs.Common.{arith, take, drop, max, append-nil}
+use Rattle.std.proofs.Common.{◌/◌, arith, take, drop, max, append-nil}
 use Rattle.std.specs.Prelude.{is_none, slice_get, Result, Ok, Err, IfOk}
 use Rattle.std.specs.Int.{div_ceil}
 use Rattle.std.specs.declared.vec.Vec.{Vec}
@@ -10,7 +10,8 @@ use Rattle.std.proofs.lemmas.Grind.{div_ceil_times}
 use Rattle.std.proofs.lemmas.List.{length-drop, length-take}
 use Rattle.std.proofs.lemmas.List.Sums.{count_by-le-length, length-filter}
 use Rattle.std.proofs.lemmas.Option.{get_or_from_slice_get, slice_get_within}
-use Rattle.std.proofs.Math.Nat.{mul-le-mul_right, mul-one, mul-zero, mul_comm, suc-mul, zero-mul}
+use Rattle.std.proofs.Math.Nat.{div-add-mod, div-zero, mul-le-mul_right, mul-one, mul-zero}
+use Rattle.std.proofs.Math.Nat.{mul_comm, suc-mul, zero-mul}
 use Rattle.patterns.specs.Tests.{max_pieces}
 use Rattle.bench_net.specs.Circuit.{max_signals, max_sinks}
 use Rattle.fault_model.specs.Collapse.{next}
@@ -48,7 +49,6 @@ use Rattle.region_runs.specs.Stretches.{EachClaim, StandsFor}
 use Rattle.region_runs.specs.Stretches.{EndsServing, HasServed, IsAmong, Stands, crew_of}
 use Rattle.region_runs.specs.Stretches.{shape_of_stretches}
 use Rattle.region_runs.proofs.StretchTables.{AreFoundByPart, AreWhole, IsWholeAt}
-use Rattle.region_runs.proofs.PartRefusals.{ceil_le}
 use Rattle.region_runs.proofs.RunsOfParts.{none_open, run_there}
 use Rattle.region_runs.proofs.StretchSeats.{accounts_on}
 use Rattle.region_runs.specs.Tasks.{AreKept, Task}
@@ -215,7 +215,12 @@ filled_few job from parts size classes cut = go (cases_lt parts (stretch_count s
         mul_comm parts size ∙ ap (λ k. k * parts) cut.size_is in
         absurd (omega (arith, some, n, m, whole, is))
 
--- nor more than the classes, of which a ledger takes as many as a job has
+-- a stretch has no more classes than all
+ceil_le : (n parts : ℕ) → stretch_size n parts ≤ n
+ceil_le n zero = omega (arith, div-zero n, div-add-mod n 0)
+ceil_le n (suc parts) = omega (arith, div-add-mod n (suc parts), suc-mul parts (n / suc parts))
+
+-- there are no more stretches than classes, of which a ledger takes as many as a job has
 pub filled_max : (job : Parts) (from parts size : ℕ) (classes : List ℕ) → BelongTogether job
     → IsCutOf job from parts size classes → stretch_count size classes ≤ max_pieces
 filled_max job from parts size classes b cut =

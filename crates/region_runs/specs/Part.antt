@@ -42,6 +42,11 @@ stretches_for classes workers =
 abbrev pub parts_for : Parts → ℕ → ℕ
 parts_for job workers = stretches_for (length job.classes.representative) workers
 
+-- the number of stretches in which workers run a job: the requested one, at least 1, if there is one
+abbrev pub stretches_of : Option ℕ → Parts → ℕ → ℕ
+stretches_of None job workers = parts_for job workers
+stretches_of (Some count) job workers = max count 1
+
 -- the classes of a stretch, counted from 0, of a list that is cut into stretches of this size
 abbrev pub stretch : ℕ → List ℕ → ℕ → List ℕ
 stretch size classes k = take size (drop (k * size) classes)

@@ -3,7 +3,6 @@ use Rattle.std.specs.Prelude.{◌≡◌, ◌⊎◌, ◌<◌, ◌*◌, ℕ, max, 
 use Rattle.std.specs.Prelude.{slice_get, take, drop, All, Option, Some, None, Result, Ok, IfOk}
 use Rattle.std.specs.declared.vec.Vec.{Vec}
 use Rattle.patterns.specs.declared.Outcome.TheVariants as outcome
-use Rattle.block_sim.specs.Parts.{Parts}
 use Rattle.fault_ledger.specs.declared.Event.{Event}
 use Rattle.fault_ledger.specs.declared.Shape.{Shape}
 use Rattle.fault_ledger.specs.declared.PieceState.TheVariants.{Clear}
@@ -14,19 +13,14 @@ use Rattle.fault_ledger.specs.History.{piece_count}
 use Rattle.fault_ledger.specs.Answer.{IsLegal}
 use Rattle.fault_ledger.specs.Settled.{finish}
 use Rattle.fault_ledger.specs.Seats.{ClosedFace, Makes, Place, Sitter, closed_face}
-use Rattle.workers.specs.Verdict.{VerdictList}
 use Rattle.workers.specs.Stops.{Stops}
 use Rattle.workers.specs.Work.{EachReport}
 use Rattle.region_runs.specs.declared.stretch_run.Waiting.{Waiting}
 use Rattle.region_runs.specs.declared.stretch_workers.Done.{Done}
 use Rattle.region_runs.specs.declared.stretch_workers.Served.{Served}
 use Rattle.region_runs.specs.StretchRuns.{AreDone}
-use Rattle.region_runs.specs.Tasks.{AreKept, Task, first_tests}
-use Rattle.region_runs.specs.declared.parts.PartVerdict.{PartVerdict}
-use Rattle.region_runs.specs.declared.parts.PartVerdict.TheVariants.{First}
-use Rattle.region_sim.specs.ClassOrder.{AreAllByRegion}
-use Rattle.region_runs.specs.Part.{ArePartOf, stretch, stretch_count, stretch_size}
-use Rattle.region_runs.specs.Part.{stretches_for}
+use Rattle.region_runs.specs.Tasks.{AreKept, Task}
+use Rattle.region_runs.specs.Part.{stretch, stretch_count}
 
 -- the shape of a ledger of a number of stretches: each is a class of the ledger, with one block
 abbrev pub shape_of_stretches : ℕ → ℕ → Shape
@@ -157,34 +151,3 @@ pub record AreByStretches {K : Type 0} (task : Task K) (size : ℕ) (classes : L
   pub finished : finish closed.shape history ≡ Finished
   pub reports : (w : ℕ)
       → EachReport (λ o h. StandsFor task size classes kept (held_by w h)) w history []
-
--- so are first tests
-abbrev pub AreOfStretches : Parts → ℕ → List ℕ → ℕ → List (Option ℕ) → ClosedFace → Type 0
-AreOfStretches job size classes workers firsts closed =
-    AreByStretches (first_tests job) size classes workers firsts closed
-
--- The verdicts were found stretch by stretch of all classes, cut into this number: the verdict on a
--- fault is one that was found of its class.
-pub record IsOfStretches (job : Parts) (parts workers : ℕ) (v : VerdictList)
-    (closed : ClosedFace) : Type 0 where
-  pub classes : List ℕ
-  pub are : AreAllByRegion job classes
-  pub firsts : List (Option ℕ)
-  pub of : AreOfStretches job (stretch_size (length classes) parts) classes workers firsts closed
-  pub each : (i class : ℕ) (first : Option ℕ) → slice_get job.classes.class_of i ≡ Some class
-      → slice_get v.firsts i ≡ Some first
-      → (k : ℕ) × (slice_get classes k ≡ Some class) × (slice_get firsts k ≡ Some first)
-
--- The verdicts of a part were found stretch by stretch of its classes, cut into a number that suits
--- the workers: the verdict on a fault of one of these is one that was found of its class.
-pub record IsPartOfStretches (job : Parts) (parts part workers : ℕ)
-    (verdicts : List PartVerdict) (closed : ClosedFace) : Type 0 where
-  pub classes : List ℕ
-  pub are : ArePartOf job parts part classes
-  pub firsts : List (Option ℕ)
-  pub of : AreOfStretches job
-      (stretch_size (length classes) (stretches_for (length classes) workers)) classes workers
-      firsts closed
-  pub each : (i class : ℕ) (first : Option ℕ) → slice_get job.classes.class_of i ≡ Some class
-      → slice_get verdicts i ≡ Some (First first)
-      → (k : ℕ) × (slice_get classes k ≡ Some class) × (slice_get firsts k ≡ Some first)

@@ -1,19 +1,14 @@
 -- The ledgers of a run window by window: each window has one, which hands out stretches of the
 -- classes that more tests can change.
-use Rattle.std.specs.Prelude.{◌≡◌, ◌*◌, ◌-◌, ℕ, Bool, List, [], Option, All, map, filter, zip}
-use Rattle.std.specs.Prelude.{Some, length, slice_get}
+use Rattle.std.specs.Prelude.{◌≡◌, ◌*◌, ◌-◌, ℕ, Bool, List, [], All, map, filter, zip, length}
 use Rattle.patterns.specs.Tests.{TestList, blocks}
-use Rattle.block_sim.specs.Parts.{Parts, with_tests}
+use Rattle.block_sim.specs.Parts.{with_tests}
 use Rattle.fault_ledger.specs.Seats.{ClosedFace}
-use Rattle.workers.specs.Verdict.{VerdictList}
-use Rattle.region_runs.specs.declared.parts.PartVerdict.{PartVerdict}
-use Rattle.region_runs.specs.declared.parts.PartVerdict.TheVariants.{First}
 use Rattle.region_runs.specs.declared.windows.Window.{Window}
-use Rattle.region_sim.specs.ClassOrder.{AreAllByRegion}
 use Rattle.region_runs.specs.Joins.{AreJoined}
-use Rattle.region_runs.specs.Part.{ArePartOf, stretch_size, stretches_for}
+use Rattle.region_runs.specs.Part.{stretch_size, stretches_for}
 use Rattle.region_runs.specs.Stretches.{AreByStretches}
-use Rattle.region_runs.specs.Tasks.{IsAtFirst, Task, first_tests}
+use Rattle.region_runs.specs.Tasks.{IsAtFirst, Task}
 use Rattle.region_runs.specs.Windows.{GoesOnFrom, IsWindowOf}
 
 -- the classes of a list of which more tests can change what is kept
@@ -64,26 +59,3 @@ pub data AreOfWindows {K : Type 0} (task : Task K) (workers : ℕ) (classes : Li
   settled : (block later : ℕ) (kept : List K)
       → AreOfWindows task workers classes block kept → open_classes task.wants classes kept ≡ []
       → AreOfWindows task workers classes later kept
-
--- The verdicts were found window by window, of all classes: the verdict on a fault is one that was
--- found of its class.
-pub record IsOfWindows (job : Parts) (workers : ℕ) (v : VerdictList) : Type 0 where
-  pub classes : List ℕ
-  pub are : AreAllByRegion job classes
-  pub firsts : List (Option ℕ)
-  pub of : AreOfWindows (first_tests job) workers classes (blocks (length job.tests.tests)) firsts
-  pub each : (i class : ℕ) (first : Option ℕ) → slice_get job.classes.class_of i ≡ Some class
-      → slice_get v.firsts i ≡ Some first
-      → (k : ℕ) × (slice_get classes k ≡ Some class) × (slice_get firsts k ≡ Some first)
-
--- The verdicts of a part were found window by window, of its classes: the verdict on a fault of one
--- of these is one that was found of its class.
-pub record IsPartOfWindows (job : Parts) (parts part workers : ℕ)
-    (verdicts : List PartVerdict) : Type 0 where
-  pub classes : List ℕ
-  pub are : ArePartOf job parts part classes
-  pub firsts : List (Option ℕ)
-  pub of : AreOfWindows (first_tests job) workers classes (blocks (length job.tests.tests)) firsts
-  pub each : (i class : ℕ) (first : Option ℕ) → slice_get job.classes.class_of i ≡ Some class
-      → slice_get verdicts i ≡ Some (First first)
-      → (k : ℕ) × (slice_get classes k ≡ Some class) × (slice_get firsts k ≡ Some first)

@@ -2,6 +2,7 @@
 
 ghost use Rattle.std.specs.Prelude.{◌≡◌, ◌<◌, ◌≤◌, IfErr, IfOk, OnOk, length};
 ghost use Rattle.counting_sort.specs.SortedPlaces.{ArePositions};
+ghost use Rattle.fault_ledger.specs.Seats.{ClosedFace};
 ghost use Rattle.region_sim.specs.ClassOrder.{AreAllByRegion};
 ghost use Rattle.region_runs.specs.Part.{stretch_size};
 ghost use Rattle.region_runs.specs.Refused.{IsGoalFault};
@@ -10,7 +11,6 @@ ghost use Rattle.region_runs.specs.Tasks.{AreKept, IsOpenAtFirst, task_of};
 
 use crate::parts::{ListRun, run_list_for};
 use block_sim::Job;
-use fault_ledger::Closed;
 use region_sim::Goal;
 use region_sim::class_order::{ClassOrder, class_order};
 use std::alloc::Global;
@@ -18,7 +18,7 @@ use std::sync::Wait;
 use std::thread::Threads;
 use workers::{Gate, RunFault, check_workers};
 
-/// What a goal keeps of all classes of a job, and the closed ledger that handed out the parts.
+/// What a goal keeps of all classes of a job.
 #[derive(Drop)]
 pub struct GoalRun<K> {
     /// The classes, region by region, in the order of the visits.
@@ -27,17 +27,27 @@ pub struct GoalRun<K> {
     pub positions: Vec<u32>,
     /// At each position, what the goal keeps of the class there, of all tests.
     pub kept: Vec<K>,
-    /// The ledger, whose classes are the parts that have a class of the job, each with one block.
-    pub ledger: Closed,
 }
 
-/// Runs all classes of a job for a goal, in parts, as [`crate::run_in_parts`] does for first tests.
-/// The classes and blocks of a job have no limit here. A class is skipped as soon as more tests
-/// can't change what the goal keeps of it.
+/// Runs all classes of a job for a goal, by workers in threads of their own, numbered from 0.
+///
+/// The classes, region by region in the order of the visits, are cut into `parts` stretches of one
+/// size, so that the data that a worker reads for one region are near to the data for the next; the
+/// last stretches have fewer classes, or none. A worker claims a stretch at a ledger that all share,
+/// which has a piece for each stretch with a class. It simulates the stretch by itself, block after
+/// block, reports it, and goes on to the next. A class is skipped as soon as more tests can't change
+/// what the goal keeps of it. What is kept is the same for every number of stretches and of workers,
+/// in whatever order the workers run. The classes and blocks have no limit here.
 ///
 /// # Errors
 ///
-/// The errors of [`crate::run_in_parts`], but [`RunFault::TooManyPieces`]. A class is settled once
+/// [`RunFault::NoWorkers`]; [`RunFault::TooManyWorkers`] above 64 workers. [`RunFault::Memory`] or
+/// [`RunFault::Threads`] if memory runs out or a thread doesn't start, after the started threads are
+/// joined.
+///
+/// A worker that the gate stops ends, and if it stops all of them, some stretches may never begin.
+/// If not all classes are settled, the error is [`RunFault::Unfinished`]. It names the lowest
+/// unsettled class, by the job's number, and the block that it waits for. A class is settled once
 /// more tests can't change what the goal keeps of it.
 pub fn run_goal<A: Goal + Sync, G: Gate + Sync, R: Threads + Wait>(
     rt: &R,
@@ -60,9 +70,10 @@ where
     ensures kept { IfOk result (λ run. AreKept (task_of job.now 0 (A.wants goal.now)
         (A.means goal.now)) run.classes.items run.kept.items) }
     ensures workers { OnOk result ((0 < workers) × (workers ≤ 64)) }
-    ensures stretches { IfOk result (λ run. AreByStretches (task_of job.now 0 (A.wants goal.now)
-        (A.means goal.now)) (stretch_size (length run.classes.items) parts) run.classes.items
-        workers run.kept.items run.ledger) }
+    ensures stretches { IfOk result (λ run. (ledger : ClosedFace) × AreByStretches
+        (task_of job.now 0 (A.wants goal.now) (A.means goal.now))
+        (stretch_size (length run.classes.items) parts) run.classes.items workers run.kept.items
+        ledger) }
     ensures refused { IfErr result (IsGoalFault (task_of job.now 0 (A.wants goal.now)
         (A.means goal.now)) parts workers (G.passing gate.now) (G.stops gate.now)) }
 {
@@ -73,12 +84,11 @@ where
     let ListRun {
         classes,
         kept,
-        ledger,
+        ledger: _ledger,
     } = done;
     Ok(GoalRun {
         classes,
         positions,
         kept,
-        ledger,
     })
 }

@@ -6,12 +6,11 @@
 //! as in a run by pieces ([`workers::run`]). They depend neither on the stretches nor on the order
 //! of the workers.
 //!
-//! [`run_in_parts`] runs all classes in some number of stretches, and [`run_open`] in a number that
-//! suits the workers. [`run_goal`] runs them for any [`region_sim::Goal`]. [`run_in_windows`] does
-//! so on some blocks at a time, and a [`RunJob`] as its tests want it, under a gate that may
-//! observe the run ([`Watch`]). [`run_part`] runs the classes of one part of a run that several
-//! machines share, and [`RunJob::read_words`] reads the fault-free words. [`run_alone`] runs a list
-//! of classes in the thread of its caller.
+//! A [`RunJob`] runs all classes for a [`WindowGoal`], all blocks at once or window by window, as
+//! its tests want it, under a gate that may observe the run ([`Watch`]). [`RunJob::run`] returns the
+//! verdicts. [`run_goal`] runs a job that has its tests for any [`region_sim::Goal`]. [`run_part`]
+//! runs the classes of one part of a run that several machines share, and [`RunJob::read_words`]
+//! reads the fault-free words. [`run_alone`] runs a list of classes in the thread of its caller.
 #![tactic(auto)]
 
 mod alone;
@@ -34,12 +33,12 @@ mod word_reader;
 pub use alone::run_alone;
 pub use goal_run::{GoalRun, run_goal};
 pub use open_classes::all_open;
-pub use open_run::{run_classes, run_open};
+pub use open_run::run_classes;
 pub use part_run::run_part;
-pub use parts::{PartVerdict, in_one_part, part_of, run_in_parts};
+pub use parts::{PartVerdict, in_one_part, part_of};
 pub use run_job::RunJob;
 pub use stretches::{parts_for, stretches_for};
 pub use watch::{ReasonCounts, Watch};
 pub use window_goal::WindowGoal;
-pub use windows::{WindowRun, run_in_windows, window_blocks};
+pub use windows::window_blocks;
 pub use word_reader::WordReader;

@@ -2,7 +2,7 @@
 
 ghost use Rattle.std.specs.Prelude.{◌≡◌, ◌<◌, ◌≤◌, IfErr, IfOk, OnOk, true};
 ghost use Rattle.region_runs.specs.Part.{ArePartVerdicts};
-ghost use Rattle.region_runs.specs.Refused.{IsPartFault, IsPartWithin};
+ghost use Rattle.region_runs.specs.Refused.{IsPartFault};
 ghost use Rattle.region_runs.specs.RunJobs.{IsPartByLedgers};
 
 use crate::class_order::{count_in, part_classes};
@@ -13,7 +13,7 @@ use region_sim::FirstTest;
 use std::alloc::Global;
 use std::sync::Wait;
 use std::thread::Threads;
-use workers::{Gate, RunFault, check_pieces_of, check_workers};
+use workers::{Gate, RunFault, check_workers};
 
 /// Runs the classes of a part, counted from 0, of this number of parts, in a number of stretches
 /// that suits the workers. Returns for each fault of the uncollapsed list the first test that
@@ -22,8 +22,8 @@ use workers::{Gate, RunFault, check_pieces_of, check_workers};
 ///
 /// # Errors
 ///
-/// The errors of [`crate::run_in_parts`], but the limit of [`patterns::MAX_PIECES`] pieces applies
-/// to the part, and not to its stretches.
+/// The errors of [`crate::run_goal`]: the class of [`RunFault::Unfinished`] is the lowest unsettled
+/// one of the part.
 pub fn run_part<G: Gate + Sync, R: Threads + Wait>(
     rt: &R,
     alloc: Global,
@@ -38,7 +38,6 @@ pub fn run_part<G: Gate + Sync, R: Threads + Wait>(
     ensures verdicts { IfOk result (λ verdicts.
         ArePartVerdicts run.old.parts parts part verdicts.items) }
     ensures workers { OnOk result ((0 < workers) × (workers ≤ 64)) }
-    ensures within { OnOk result (IsPartWithin run.old.parts parts part) }
     ensures ledgers { IfOk result (λ verdicts.
         IsPartByLedgers run.old.parts parts part workers verdicts.items) }
     ensures refused { IfErr result (IsPartFault run.old.parts parts part workers
@@ -46,9 +45,9 @@ pub fn run_part<G: Gate + Sync, R: Threads + Wait>(
     ensures kept { run.new ≡ run.old }
 {
     check_workers(workers)?;
+    let _tests = run.tests();
     let own = part_classes(alloc, run.job(), part, parts)?;
     let few = count_in(run.job(), own.as_slice());
-    check_pieces_of(few, run.tests().blocks())?;
     let stretches = stretches_for(few, workers);
     let found = run.run_list(rt, alloc, own, stretches, workers, &FirstTest, gate)?;
     let job = run.job();

@@ -5,33 +5,29 @@ ghost use Rattle.std.specs.Prelude.{OnOk, Some, length, map, slice_index_or, vec
 ghost use Rattle.patterns.specs.Tests.{blocks, max_pieces};
 ghost use Rattle.block_sim.specs.Parts.{BelongTogether, Parts};
 ghost use Rattle.fault_ledger.specs.Seats.{ClosedFace, Closes, Sitter, newcomers};
-ghost use Rattle.workers.specs.Verdict.{AreAfterHits, AreFirsts};
 ghost use Rattle.region_runs.specs.StretchRuns.{AreAllKept, AreAllLowest, AreGivenBack, ArePut};
 ghost use Rattle.region_runs.specs.StretchRuns.{IsLowest, IsLowestAt, IsLowestIn, WaitsIn, run_at};
 ghost use Rattle.region_runs.specs.StretchRuns.{runs_from};
 ghost use Rattle.region_runs.specs.Part.{AreClassVerdicts, IsInOnePart};
 ghost use Rattle.region_runs.specs.Part.{IsOfPart, stretch, stretch_count, stretch_size};
 ghost use Rattle.region_runs.specs.Cut.{IsCutOf};
-ghost use Rattle.region_runs.specs.Refused.{ArePartsWithin, IsPartsFault};
 ghost use Rattle.region_runs.specs.Refused.{IsStretchesFault};
 ghost use Rattle.region_runs.specs.Stretches.{AreApart, AreByStretches, AreShared};
-ghost use Rattle.region_runs.specs.Stretches.{IsOfStretches, crew_of};
+ghost use Rattle.region_runs.specs.Stretches.{crew_of};
 ghost use Rattle.region_runs.specs.Stretches.{shape_of_stretches};
 ghost use Rattle.region_runs.specs.Tasks.{AreKept, IsOpenAtFirst, task_of};
 
-use crate::fault_firsts::{OrderedFirsts, verdicts_in};
-use crate::goal_run::{GoalRun, run_goal};
 use crate::stretch_run::{Waiting, lower_of};
 use crate::stretch_workers::{Done, Served, empty_table, not_begun, take_parts};
 use crate::stretches::{Cut, filled};
 use block_sim::Job;
 use fault_ledger::{Closed, Finish, LedgerFault, Seat, SharedLedger};
 use patterns::BLOCK_SIZE;
-use region_sim::{FirstTest, Goal};
+use region_sim::Goal;
 use std::alloc::{AllocError, Global};
 use std::sync::Wait;
 use std::thread::Threads;
-use workers::{Gate, RunFault, Verdicts, check_pieces, check_workers};
+use workers::{Gate, RunFault};
 
 /// The verdict of a run over a part of the classes for a fault.
 #[derive(Clone, Copy, Debug, PartialEq, Eq)]
@@ -106,64 +102,6 @@ fn verdict_on(by_class: &[PartVerdict], class: u32) -> PartVerdict
         Some(verdict) => *verdict,
         None => PartVerdict::OtherPart,
     }
-}
-
-/// Runs all classes of a job in parts, by workers in threads of their own, numbered from 0, at most
-/// one for each part. A worker claims a part at a ledger that all share, which has a piece for each
-/// part with a class. It simulates the part by itself, reports it, and goes on to the next. It
-/// simulates the part's classes block after block, and skips a class that an earlier block detects.
-/// The verdicts are the first tests, for every number of parts and of workers, in whatever order
-/// the workers run. The skipped pieces are the pieces after the first hits.
-///
-/// A part is here a stretch of the list of all classes, region by region in the order of the
-/// visits. So the data that a worker reads for one region are near to the data for the next. With n
-/// classes a stretch has n divided by the number of parts, rounded up; the last ones have fewer, or
-/// none. The parts of [`crate::run_part`] instead depend on the stems, by a rule that a part file
-/// names, so that other machines make the same parts.
-///
-/// # Errors
-///
-/// [`RunFault::NoWorkers`]; [`RunFault::TooManyWorkers`] above 64 workers;
-/// [`RunFault::TooManyPieces`] if a stretch has more than [`patterns::MAX_PIECES`] pieces.
-/// [`RunFault::Memory`] or [`RunFault::Threads`] if memory runs out or a thread doesn't start,
-/// after the started threads are joined.
-///
-/// A worker that the gate stops ends, and if it stops all of them, some parts may never begin. If
-/// not all classes are settled, the error is [`RunFault::Unfinished`]. It names the lowest
-/// unsettled class, by the job's number, and the block that it waits for.
-pub fn run_in_parts<G: Gate + Sync, R: Threads + Wait>(
-    rt: &R,
-    alloc: Global,
-    job: &Job,
-    parts: u32,
-    workers: u32,
-    gate: &G,
-) -> Result<Verdicts, RunFault>
-    requires { 0 < parts }
-    ensures firsts { IfOk result (λ v.
-        AreFirsts job.now.list.model job.now.circuit job.now.tests.tests v.firsts) }
-    ensures skipped { IfOk result (λ v. AreAfterHits job.now v.skipped) }
-    ensures workers { OnOk result ((0 < workers) × (workers ≤ 64)) }
-    ensures within { OnOk result (ArePartsWithin job.now parts) }
-    ensures stretches { IfOk result (λ v. (ledger : ClosedFace)
-        × IsOfStretches job.now parts workers v ledger) }
-    ensures refused { IfErr result (IsPartsFault job.now parts workers (G.passing gate.now)
-        (G.stops gate.now)) }
-{
-    check_workers(workers)?;
-    let count = job.classes().count();
-    check_pieces(job, count.div_ceil(parts))?;
-    let done = run_goal(rt, alloc, job, parts, workers, &FirstTest, gate)?;
-    let GoalRun {
-        classes: _classes,
-        positions,
-        kept: firsts,
-        ledger: _ledger,
-    } = done;
-    let ordered = OrderedFirsts { positions, firsts };
-    let blocks = job.tests().blocks();
-    let verdicts = verdicts_in(rt, alloc, job, &ordered, blocks, workers)?;
-    Ok(verdicts)
 }
 
 /// Puts the results of a worker at the places of its parts.

@@ -8,20 +8,25 @@ ghost use Rattle.patterns.specs.Tests.{IsTestList, TestList, blocks};
 ghost use Rattle.block_sim.specs.Parts.{BelongTogether, with_tests};
 ghost use Rattle.workers.specs.Verdict.{AreAfterHits, AreFirsts};
 ghost use Rattle.region_sim.specs.ClassOrder.{AreAllByRegion};
-ghost use Rattle.region_runs.specs.Part.{stretch_size};
-ghost use Rattle.region_runs.specs.Refused.{ArePartsWithin, IsOpenFault, IsPartsFault};
+ghost use Rattle.region_runs.specs.Part.{stretch_size, stretches_of};
+ghost use Rattle.region_runs.specs.Refused.{IsGoalFault, IsOpenFault, IsPartsFault};
 ghost use Rattle.region_runs.specs.Refused.{IsStretchesFault};
 ghost use Rattle.region_runs.specs.RunJobs.{AreByLedgers, AreKeptByLedgers};
 ghost use Rattle.region_runs.specs.Tasks.{AreKept, IsOpenAtFirst, task_of};
 
+use crate::fault_firsts::{OrderedFirsts, verdicts_in};
 use crate::goal_run::{GoalRun, run_goal};
-use crate::parts::{ListRun, run_in_parts, run_list_for};
+use crate::parts::{ListRun, run_list_for};
+use crate::stretches::parts_for;
 use crate::watch::Watch;
 use crate::window_goal::WindowGoal;
-use crate::windows::{WindowRun, run_goal_in_windows, run_in_windows, run_windows, window_blocks};
+use crate::windows::{
+    Window, forget_tests, run_goal_in_windows, run_windows, take_window, window_blocks,
+};
 use crate::word_reader::{WordReader, read_in_windows};
 use block_sim::{Job, SpentTests};
-use patterns::Tests;
+use patterns::{BLOCK_SIZE, MAX_TESTS, Tests};
+use region_sim::FirstTest;
 use std::alloc::{AllocError, Global};
 use std::marker;
 use std::sync::Wait;
@@ -37,14 +42,16 @@ pub(crate) struct ListKept<K> {
     pub(crate) kept: Vec<K>,
 }
 
-/// A job to be run. If its tests have more blocks than a window ([`window_blocks`]),
-/// they may stand apart, and it runs window by window.
+/// A job to be run. If its tests have more blocks than a window, they may stand apart, and it runs
+/// window by window.
 #[derive(Drop)]
 pub struct RunJob {
     /// The job, with no tests or those of a window if its own stand apart.
     job: Job,
     /// The tests, if they stand apart.
     apart: Option<Tests>,
+    /// The number of blocks of a window.
+    window: u32,
 }
 
 impl marker::Model for RunJob {
@@ -59,25 +66,33 @@ impl marker::Model for RunJob {
 }
 
 impl RunJob {
-    /// Makes a job whose tests are its own.
+    /// Makes a job whose tests are its own, with windows that suit its circuit ([`window_blocks`]).
     pub fn whole(job: Job) -> RunJob
         ensures parts { result.parts ≡ job }
         ensures apart { result.apart ≡ false }
     {
-        RunJob { job, apart: None }
+        let blocks = window_blocks(job.circuit().signals());
+        RunJob::in_windows(job, blocks)
     }
 
-    /// Makes a job whose tests stand apart.
-    pub fn apart(job: Job, tests: Tests) -> RunJob
-        requires list { IsTestList tests }
-        requires width { tests.width ≡ length (sources job.circuit) }
-        ensures parts { result.parts ≡ with_tests job tests }
-        ensures apart { result.apart ≡ true }
+    /// Makes a job whose tests are its own, with windows of this number of blocks, at least 1.
+    pub fn in_windows(job: Job, blocks: u32) -> RunJob
+        ensures parts { result.parts ≡ job }
+        ensures apart { result.apart ≡ false }
     {
         RunJob {
             job,
-            apart: Some(tests),
+            apart: None,
+            window: blocks,
         }
+    }
+
+    /// Returns the number of blocks by which windows go on.
+    fn step(&self) -> u32
+        ensures some { 0 < result }
+        ensures few { result ≤ 1024 }
+    {
+        self.window.clamp(1, MAX_TESTS / BLOCK_SIZE)
     }
 
     /// Returns the job without regard to its tests, if they may stand apart.
@@ -102,8 +117,19 @@ impl RunJob {
         }
     }
 
-    /// Takes other tests. They stand apart if they have more blocks than a window
-    /// ([`window_blocks`]). If not, at most as many threads as there are workers compute their
+    /// Returns the number of stretches of a run: the requested one, at least 1, or else one that
+    /// suits the workers ([`parts_for`]).
+    pub fn stretches(&self, requested: Option<u32>, workers: u32) -> u32
+        ensures count { result ≡ stretches_of requested self.now.parts workers }
+        ensures some { 0 < result }
+    {
+        match requested {
+            Some(count) => count.max(1),
+            None => parts_for(self.job(), workers),
+        }
+    }
+
+    /// Takes other tests. They stand apart if they have more blocks than a window. If not, at most as many threads as there are workers compute their
     /// fault-free words. It fails only for memory, and then the run is as it was.
     pub fn set_tests<R: Threads + Wait>(
         &mut self,
@@ -117,7 +143,7 @@ impl RunJob {
         ensures tests { OnOk result (self.new.parts ≡ with_tests self.old.parts tests) }
         ensures kept { IfErr result (λ fault. self.new ≡ self.old) }
     {
-        if tests.blocks() <= window_blocks(self.job.circuit().signals()) {
+        if tests.blocks() <= self.step() {
             return self.set_own_tests(rt, alloc, tests, workers);
         }
         let none = Tests::new(alloc, tests.width());
@@ -146,6 +172,27 @@ impl RunJob {
         Ok(())
     }
 
+    /// Takes the tests as its own if they stand apart: then the job has the fault-free words of all
+    /// tests, 16 bytes for each signal and 128 tests. At most as many threads as there are workers
+    /// compute the words. It fails only for memory, and then the run is as it was.
+    pub fn hold_tests<R: Threads + Wait>(
+        &mut self,
+        rt: &R,
+        alloc: Global,
+        workers: u32,
+    ) -> Result<(), AllocError>
+        ensures parts { OnOk result (self.new.parts ≡ self.old.parts) }
+        ensures own { OnOk result (self.new.apart ≡ false) }
+        ensures kept { IfErr result (λ fault. self.new ≡ self.old) }
+    {
+        let Some(tests) = &self.apart else {
+            return Ok(());
+        };
+        take_all(rt, alloc, &mut self.job, tests, workers)?;
+        self.apart = None;
+        Ok(())
+    }
+
     /// Returns the tests of the job and their fault-free words, so that another thread can free
     /// them. The run has none then, unless they stand apart. It returns `None` if memory runs out,
     /// and then the run is as it was.
@@ -160,10 +207,9 @@ impl RunJob {
         self.job.give_tests(alloc).ok()
     }
 
-    /// Runs all classes in a number of parts, by workers in threads of their own, with the verdicts
-    /// and the errors of [`run_in_parts`]. If the tests stand apart, it runs window by
-    /// window ([`run_in_windows`]), under a gate that lets each piece pass. It calls the gate when
-    /// the run begins, when all is settled, and with the verdicts.
+    /// Runs all classes in a number of stretches, by workers in threads of their own, and returns
+    /// the verdicts: the first test of each fault. The skipped pieces are those after the first
+    /// hits. It runs as [`RunJob::run_goal`] does, and lets the gate look at the verdicts, too.
     pub fn run<R: Threads + Wait, G: Watch + Sync>(
         &mut self,
         rt: &R,
@@ -178,49 +224,25 @@ impl RunJob {
             self.old.parts.circuit self.old.parts.tests.tests v.firsts) }
         ensures skipped { IfOk result (λ v. AreAfterHits self.old.parts v.skipped) }
         ensures workers { OnOk result ((0 < workers) × (workers ≤ 64)) }
-        ensures within { OnOk result (ArePartsWithin self.old.parts parts) }
         ensures ledgers { IfOk result (AreByLedgers self.old.parts parts workers) }
         ensures refused { IfErr result (IsPartsFault self.old.parts parts workers
             (G.passing gate.now) (G.stops gate.now)) }
+        ensures open { G.passing gate.now → IfErr result (IsOpenFault workers) }
         ensures kept { self.new ≡ self.old }
     {
-        gate.starts(self.job.classes().count(), self.tests().blocks());
-        let verdicts = self.run_unwatched(rt, alloc, parts, workers, gate)?;
-        gate.ends();
-        gate.finds(&self.job, self.tests(), &verdicts);
+        let done = self.run_goal(rt, alloc, parts, workers, &FirstTest, gate)?;
+        let GoalRun {
+            classes: _classes,
+            positions,
+            kept: firsts,
+        } = done;
+        let ordered = OrderedFirsts { positions, firsts };
+        let tests = self.tests();
+        let job = self.job();
+        let _count = job.classes().count();
+        let verdicts = verdicts_in(rt, alloc, job, &ordered, tests.blocks(), workers)?;
+        gate.finds(job, tests, &verdicts);
         Ok(verdicts)
-    }
-
-    /// Runs all classes as [`RunJob::run`] does, without a call of the gate beside those for
-    /// pieces.
-    fn run_unwatched<R: Threads + Wait, G: Gate + Sync>(
-        &mut self,
-        rt: &R,
-        alloc: Global,
-        parts: u32,
-        workers: u32,
-        gate: &G,
-    ) -> Result<Verdicts, RunFault>
-        requires gate { self.old.apart ≡ true → G.passing gate.now }
-        requires parts { 0 < parts }
-        ensures firsts { IfOk result (λ v. AreFirsts self.old.parts.list.model
-            self.old.parts.circuit self.old.parts.tests.tests v.firsts) }
-        ensures skipped { IfOk result (λ v. AreAfterHits self.old.parts v.skipped) }
-        ensures workers { OnOk result ((0 < workers) × (workers ≤ 64)) }
-        ensures within { OnOk result (ArePartsWithin self.old.parts parts) }
-        ensures ledgers { IfOk result (AreByLedgers self.old.parts parts workers) }
-        ensures refused { IfErr result (IsPartsFault self.old.parts parts workers
-            (G.passing gate.now) (G.stops gate.now)) }
-        ensures kept { self.new ≡ self.old }
-    {
-        match &self.apart {
-            None => run_in_parts(rt, alloc, &self.job, parts, workers, gate),
-            Some(tests) => {
-                let blocks = window_blocks(self.job.circuit().signals());
-                let job = &mut self.job;
-                run_in_windows(rt, alloc, job, tests, blocks, parts, workers, gate)
-            }
-        }
     }
 
     /// Runs a list of classes for a goal. If the tests are the job's own, workers claim stretches
@@ -257,6 +279,7 @@ impl RunJob {
             classes.items stretches workers (G.passing gate.now) (G.stops gate.now)) }
         ensures same { self.new ≡ self.old }
     {
+        let step = self.step();
         match &self.apart {
             None => {
                 let done = run_list_for(
@@ -270,7 +293,6 @@ impl RunJob {
                 Ok(ListKept { classes, kept })
             }
             Some(tests) => {
-                let step = window_blocks(self.job.circuit().signals());
                 let job = &mut self.job;
                 let all = classes.as_slice();
                 let kept = run_windows(
@@ -298,6 +320,7 @@ impl RunJob {
         ensures refused { IfErr result (λ fault. fault ≡ RunFault.Memory) }
         ensures same { self.new ≡ self.old }
     {
+        let step = self.step();
         match &self.apart {
             None => {
                 let _tests = self.job.tests();
@@ -305,21 +328,18 @@ impl RunJob {
                 Ok(())
             }
             Some(tests) => {
-                let step = window_blocks(self.job.circuit().signals());
                 read_in_windows(rt, alloc, &mut self.job, tests, step, workers, reader)
             }
         }
     }
 
-    /// Runs all classes for a goal, in a number of parts if the tests are the job's own
-    /// ([`run_goal`]), and else window by window ([`run_goal_in_windows`]). The classes and blocks
-    /// have no limit. The gate lets each piece pass. It learns when the run begins and when all is
-    /// settled.
+    /// Runs all classes for a goal, in a number of stretches if the tests are the job's own
+    /// ([`run_goal`]), and else window by window, under a gate that lets each piece pass. The gate
+    /// learns when the run begins and when all is settled.
     ///
     /// # Errors
     ///
-    /// [`RunFault::NoWorkers`]; [`RunFault::TooManyWorkers`] above 64 workers; [`RunFault::Memory`]
-    /// or [`RunFault::Threads`] if memory runs out or a thread doesn't start.
+    /// Those of [`run_goal`].
     pub fn run_goal<A: WindowGoal + Sync, R: Threads + Wait, G: Watch + Sync>(
         &mut self,
         rt: &R,
@@ -328,10 +348,10 @@ impl RunJob {
         workers: u32,
         goal: &A,
         gate: &G,
-    ) -> Result<WindowRun<A::Kept>, RunFault>
+    ) -> Result<GoalRun<A::Kept>, RunFault>
     where
         A::Kept: Send,
-        requires passing { G.passing gate.now }
+        requires gate { self.old.apart ≡ true → G.passing gate.now }
         requires parts { 0 < parts }
         requires wanted { IsOpenAtFirst
             (task_of self.old.parts 0 (A.wants goal.now) (A.means goal.now)) }
@@ -346,7 +366,10 @@ impl RunJob {
         ensures ledgers { IfOk result (λ run. AreKeptByLedgers (task_of self.old.parts 0
             (A.wants goal.now) (A.means goal.now)) parts workers run.classes.items
             run.kept.items) }
-        ensures refused { IfErr result (IsOpenFault workers) }
+        ensures refused { IfErr result (IsGoalFault (task_of self.old.parts 0
+            (A.wants goal.now) (A.means goal.now)) parts workers (G.passing gate.now)
+            (G.stops gate.now)) }
+        ensures open { G.passing gate.now → IfErr result (IsOpenFault workers) }
         ensures same { self.new ≡ self.old }
     {
         gate.starts(self.job.classes().count(), self.tests().blocks());
@@ -365,10 +388,10 @@ impl RunJob {
         workers: u32,
         goal: &A,
         gate: &G,
-    ) -> Result<WindowRun<A::Kept>, RunFault>
+    ) -> Result<GoalRun<A::Kept>, RunFault>
     where
         A::Kept: Send,
-        requires passing { G.passing gate.now }
+        requires gate { self.old.apart ≡ true → G.passing gate.now }
         requires parts { 0 < parts }
         requires wanted { IsOpenAtFirst
             (task_of self.old.parts 0 (A.wants goal.now) (A.means goal.now)) }
@@ -383,29 +406,66 @@ impl RunJob {
         ensures ledgers { IfOk result (λ run. AreKeptByLedgers (task_of self.old.parts 0
             (A.wants goal.now) (A.means goal.now)) parts workers run.classes.items
             run.kept.items) }
-        ensures refused { IfErr result (IsOpenFault workers) }
+        ensures refused { IfErr result (IsGoalFault (task_of self.old.parts 0
+            (A.wants goal.now) (A.means goal.now)) parts workers (G.passing gate.now)
+            (G.stops gate.now)) }
+        ensures open { G.passing gate.now → IfErr result (IsOpenFault workers) }
         ensures same { self.new ≡ self.old }
     {
+        let step = self.step();
         match &self.apart {
-            None => {
-                let done = run_goal(rt, alloc, &self.job, parts, workers, goal, gate)?;
-                let GoalRun {
-                    classes,
-                    positions,
-                    kept,
-                    ledger: _ledger,
-                } = done;
-                Ok(WindowRun {
-                    classes,
-                    positions,
-                    kept,
-                })
-            }
+            None => run_goal(rt, alloc, &self.job, parts, workers, goal, gate),
             Some(tests) => {
-                let blocks = window_blocks(self.job.circuit().signals());
                 let job = &mut self.job;
-                run_goal_in_windows(rt, alloc, job, tests, blocks, workers, goal, gate)
+                run_goal_in_windows(rt, alloc, job, tests, step, workers, goal, gate)
             }
         }
+    }
+}
+
+/// Gives a job all tests of a list.
+fn take_all<R: Threads + Wait>(
+    rt: &R,
+    alloc: Global,
+    job: &mut Job,
+    tests: &Tests,
+    workers: u32,
+) -> Result<(), AllocError>
+    requires list { IsTestList tests.now }
+    requires width { tests.now.width ≡ length (sources job.old.circuit) }
+    ensures taken { OnOk result (job.new ≡ with_tests job.old tests.now) }
+    ensures kept { job.new ≡ with_tests job.old job.new.tests }
+{
+    take_rows(rt, alloc, job, tests, workers)?;
+    let _taken = job.tests();
+    Ok(())
+}
+
+/// Gives a job the rows of a list of tests, as a window of all blocks.
+fn take_rows<R: Threads + Wait>(
+    rt: &R,
+    alloc: Global,
+    job: &mut Job,
+    tests: &Tests,
+    workers: u32,
+) -> Result<(), AllocError>
+    requires list { IsTestList tests.now }
+    requires width { tests.now.width ≡ length (sources job.old.circuit) }
+    ensures taken { OnOk result (job.new.tests.tests ≡ tests.now.tests) }
+    ensures kept { job.new ≡ with_tests job.old job.new.tests }
+{
+    let end = tests.blocks();
+    if end == 0 {
+        return forget_tests(alloc, job);
+    }
+    let all = Window {
+        from: 0,
+        first: 0,
+        end,
+    };
+    match take_window(rt, alloc, job, tests, all, workers) {
+        Ok(()) => Ok(()),
+        // A window only lacks memory.
+        Err(_) => Err(AllocError),
     }
 }

@@ -11,31 +11,27 @@ ghost use Rattle.patterns.specs.Tests.{IsTestList, TestList, blocks};
 ghost use Rattle.block_sim.specs.Parts.{BelongTogether, with_tests};
 ghost use Rattle.counting_sort.specs.SortedPlaces.{ArePositions, AreSortedPlaces};
 ghost use Rattle.fault_ledger.specs.Seats.{ClosedFace};
-ghost use Rattle.workers.specs.Stops.{no_stop};
-ghost use Rattle.workers.specs.Verdict.{AreAfterHits, AreFirsts};
 ghost use Rattle.region_sim.specs.ClassOrder.{AreAllByRegion};
-ghost use Rattle.region_runs.specs.Refused.{ArePartsWithin, IsOpenFault, IsPartsFault};
+ghost use Rattle.region_runs.specs.Refused.{IsOpenFault};
 ghost use Rattle.region_runs.specs.Tasks.{AreKept, IsOpenAtFirst, task_of};
 ghost use Rattle.region_runs.specs.WindowLedgers.{AreFoundByLedger, AreOfWindows};
-ghost use Rattle.region_runs.specs.WindowLedgers.{IsOfWindows};
 ghost use Rattle.region_runs.specs.Windows.{AreKeptBelow, AreWordsFrom, GoesOnFrom, IsWindowOf};
 
 use crate::class_order::count_in;
-use crate::fault_firsts::{OrderedFirsts, verdicts_in};
+use crate::goal_run::GoalRun;
 use crate::parts::{ListRun, run_list_for};
 use crate::stretch_workers::starts;
 use crate::stretches::stretches_for;
 use crate::window_goal::{WindowGoal, join_window, open_classes};
 use block_sim::Job;
 use counting_sort::{SortedPlaces, sorted_places};
-use patterns::{BLOCK_SIZE, MAX_TESTS, Tests, WordsFault};
-use region_sim::FirstTest;
+use patterns::{BLOCK_SIZE, Tests, WordsFault};
 use region_sim::class_order::{ClassOrder, class_order, visits_of};
 use std::alloc::{AllocError, Global};
 use std::sync::Wait;
 use std::thread;
 use std::thread::Threads;
-use workers::{Gate, RunFault, Verdicts, check_pieces_of, check_workers};
+use workers::{Gate, RunFault, check_workers};
 
 /// The most memory for the fault-free words of a window, in bytes: 256 MB.
 const MOST_BYTES: u32 = 1 << 28;
@@ -470,19 +466,10 @@ where
     Ok(kept)
 }
 
-/// What a goal keeps of all classes of a job.
-#[derive(Drop)]
-pub struct WindowRun<K> {
-    /// The classes, region by region, in the order of the visits.
-    pub classes: Vec<u32>,
-    /// For each class, by its number, its position in this order.
-    pub positions: Vec<u32>,
-    /// At each position, what the goal keeps of the class there, of all tests.
-    pub kept: Vec<K>,
-}
-
-/// Runs all classes of a job for a goal on a list of tests that is not its own, window by window,
-/// as [`run_in_windows`] does for first tests. The classes and blocks have no limit here.
+/// Runs all classes of a job for a goal on a list of tests that is not its own, window by window: on
+/// this number of blocks at a time ([`window_blocks`] suits), with the fault-free words of these and
+/// of the block before. The workers run the open classes of each window in a number of stretches
+/// that suits them. The job has no tests then, so that no fault-free words take memory.
 ///
 /// # Errors
 ///
@@ -494,18 +481,18 @@ pub(crate) fn run_goal_in_windows<A: WindowGoal + Sync, G: Gate + Sync, R: Threa
     alloc: Global,
     job: &mut Job,
     tests: &Tests,
-    blocks_of_window: u32,
+    step: u32,
     workers: u32,
     goal: &A,
     gate: &G,
-) -> Result<WindowRun<A::Kept>, RunFault>
+) -> Result<GoalRun<A::Kept>, RunFault>
 where
     A::Kept: Send,
     requires passing { G.passing gate.now }
     requires wanted { IsOpenAtFirst (task_of job.old 0 (A.wants goal.now) (A.means goal.now)) }
     requires list { IsTestList tests.now }
     requires width { tests.now.width ≡ length (sources job.old.circuit) }
-    requires window { 0 < blocks_of_window }
+    requires step { (0 < step) × (step ≤ 2047) }
     ensures classes { IfOk result (λ run. AreAllByRegion job.old run.classes.items) }
     ensures positions { IfOk result (λ run.
         ArePositions run.classes.items run.positions.items) }
@@ -522,78 +509,13 @@ where
     ensures job { (some : TestList) × (job.new ≡ with_tests job.old some) }
 {
     check_workers(workers)?;
-    let step = blocks_of_window.min(MAX_TESTS / BLOCK_SIZE);
     let (order, ready) = classes_and_window(rt, alloc, job, tests, step, workers)?;
     let ClassOrder { classes, positions } = order;
     let all = classes.as_slice();
     let kept = run_windows(rt, alloc, job, tests, step, all, ready, workers, goal, gate)?;
-    Ok(WindowRun {
+    Ok(GoalRun {
         classes,
         positions,
         kept,
     })
-}
-
-/// Runs all classes of a job on a list of tests that is not its own, window by window: on this
-/// number of blocks at a time ([`window_blocks`] suits), with the fault-free words of these and of
-/// the block before. The verdicts are those that [`crate::run_in_parts`] returns for a job with
-/// these tests. The job has none then, so that no fault-free words take memory. After an error it
-/// has its own tests, those of some window, or none.
-///
-/// The workers run the open classes of each window in a number of stretches that suits them. The
-/// limit on pieces is that of [`crate::run_in_parts`] for this number of parts.
-///
-/// # Errors
-///
-/// The errors of [`crate::run_in_parts`]. No run ends unfinished, since the gate lets each piece
-/// pass.
-pub fn run_in_windows<G: Gate + Sync, R: Threads + Wait>(
-    rt: &R,
-    alloc: Global,
-    job: &mut Job,
-    tests: &Tests,
-    blocks_of_window: u32,
-    parts: u32,
-    workers: u32,
-    gate: &G,
-) -> Result<Verdicts, RunFault>
-    requires passing { G.passing gate.now }
-    requires window { 0 < blocks_of_window }
-    requires parts { 0 < parts }
-    requires list { IsTestList tests.now }
-    requires width { tests.now.width ≡ length (sources job.old.circuit) }
-    ensures firsts { IfOk result (λ v.
-        AreFirsts job.old.list.model job.old.circuit tests.now.tests v.firsts) }
-    ensures skipped { IfOk result (λ v.
-        AreAfterHits (with_tests job.old tests.now) v.skipped) }
-    ensures workers { OnOk result ((0 < workers) × (workers ≤ 64)) }
-    ensures within { OnOk result (ArePartsWithin (with_tests job.old tests.now) parts) }
-    ensures ledgers { IfOk result (IsOfWindows (with_tests job.old tests.now) workers) }
-    ensures none { OnOk result (job.new.tests.tests ≡ []) }
-    ensures refused { IfErr result
-        (IsPartsFault (with_tests job.old tests.now) parts workers ⊤ no_stop) }
-    ensures kept { (some : TestList) × (job.new ≡ with_tests job.old some) }
-{
-    check_workers(workers)?;
-    let count = job.classes().count();
-    let blocks = tests.blocks();
-    check_pieces_of(count.div_ceil(parts), blocks)?;
-    let done = run_goal_in_windows(
-        rt,
-        alloc,
-        job,
-        tests,
-        blocks_of_window,
-        workers,
-        &FirstTest,
-        gate,
-    )?;
-    let WindowRun {
-        classes: _classes,
-        positions,
-        kept: firsts,
-    } = done;
-    let ordered = OrderedFirsts { positions, firsts };
-    let verdicts = verdicts_in(rt, alloc, job, &ordered, blocks, workers)?;
-    Ok(verdicts)
 }

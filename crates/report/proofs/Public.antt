@@ -4,6 +4,6 @@
 pub use Rattle.report.proofs.CellNames.{cell_is_named}
 pub use Rattle.report.proofs.ClassFirsts.{counted_class, uncounted_class}
 pub use Rattle.report.proofs.CurvePoints.{written_over}
-pub use Rattle.report.proofs.ReportsOfTexts.{ok_as, refused_as, text_fault}
+pub use Rattle.report.proofs.ReportsOfTexts.{ok_as, refused_as}
 pub use Rattle.report.proofs.ReportsOfTexts.{written_as}
 pub use Rattle.report.proofs.WatchedRuns.{open_fault}

@@ -19,7 +19,6 @@ use Rattle.job_loading.specs.Jobs.{IsJobOf, IsJobWithin, IsPiecesFault}
 use Rattle.job_loading.proofs.Public.{job_of_texts}
 use Rattle.report.specs.EndToEnd.{WritesOneOf, IsListingOf, IsReportOf, IsReportOfJob}
 use Rattle.report.specs.EndToEnd.{IsListFault, IsListingFault, IsListingOfCircuit}
-use Rattle.report.specs.EndToEnd.{IsJobReportFault, IsTextFault}
 use Rattle.report.specs.EndToEnd.{HasSomeMoves, IsScheduleReportFault, IsScheduleTextFault}
 use Rattle.report.specs.declared.contents.Contents.{Contents}
 use Rattle.report.specs.Report.{listing, whole_report}
@@ -69,19 +68,6 @@ pub written_of_texts : (m : Model) (bench text : List ℕ) (contents : Contents)
 written_of_texts m bench text contents job r old new is =
     written_as (IsReportOfJob job contents) (IsReportOf m bench text contents) r old new
     (report_of m bench text contents job is)
-
--- the same for a run of a job of any size
-pub text_fault : (m : Model) (bench text : List ℕ) (workers : ℕ)
-    (IsFault : Parts → RunFault → Type 0) (job : Parts) → IsJobOf m bench text job
-    → (f : SimFault) → IsJobReportFault workers (IsFault job) f
-    → IsTextFault m bench text workers IsFault f
-text_fault m bench text workers IsFault job is (fault.Run f) h = (job, is, h)
-text_fault m bench text workers IsFault job is (fault.Report f) h = (job, is, h.0, h.1)
-text_fault m bench text workers IsFault job is (fault.Bench f) h = absurd h
-text_fault m bench text workers IsFault job is (fault.Tests f) h = absurd h
-text_fault m bench text workers IsFault job is (fault.Order f) h = absurd h
-text_fault m bench text workers IsFault job is (fault.Job f) h = absurd h
-text_fault m bench text workers IsFault job is fault.Memory h = absurd h
 
 pub moves_fault : (m : Model) (bench text order : List ℕ) (workers : ℕ) (job : Parts)
     (moves : List ℕ) → IsJobWithin m bench text job → HasMoves order workers moves

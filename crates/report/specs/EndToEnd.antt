@@ -17,15 +17,14 @@ use Rattle.workers.specs.Refused.{IsRunFault}
 use Rattle.workers.specs.Refused.{IsScheduleFault}
 use Rattle.workers.specs.Stops.{Stops, no_stop}
 use Rattle.workers.specs.Verdict.{AreFirsts, VerdictList}
-use Rattle.region_runs.specs.Part.{parts_for}
-use Rattle.region_runs.specs.Refused.{ArePartsWithin, IsPartsFault}
+use Rattle.region_runs.specs.Part.{stretches_of}
+use Rattle.region_runs.specs.Refused.{IsPartsFault}
 use Rattle.job_loading.specs.declared.fault.SimFault.{SimFault}
 use Rattle.job_loading.specs.declared.fault.SimFault.TheVariants as fault
-use Rattle.job_loading.specs.declared.split.Split.{Split}
-use Rattle.job_loading.specs.declared.split.Split.TheVariants as split
+use Rattle.job_loading.specs.declared.runs.Limit.{Limit}
 use Rattle.job_loading.specs.Jobs.{IsInputFault, IsJobFault, IsJobOf, IsJobWithin, IsReadFault}
 use Rattle.region_runs.specs.RunJobs.{AreByLedgers}
-use Rattle.job_loading.specs.Splits.{IsSplitOf}
+use Rattle.job_loading.specs.Limits.{IsLimitFault, IsLimitedJob}
 use Rattle.byte_output.specs.Output.{Output, TakesAll, TakesFront}
 use Rattle.report.specs.declared.contents.Contents.{Contents}
 use Rattle.report.specs.Report.{whole_report, listing}
@@ -44,11 +43,12 @@ IsReportByLedgers job parts workers contents bytes = (v : VerdictList)
     × AreByLedgers job parts workers v
     × (bytes ≡ whole_report job.list.model job.circuit job.classes v.firsts contents)
 
--- the same for a bench file and a test file under a model, whose run is cut so
-abbrev pub IsReportOfByLedgers : Model → List ℕ → List ℕ → Split → ℕ → Contents → List ℕ → Type 0
-IsReportOfByLedgers m bench text split workers contents bytes = (job : Parts) × (parts : ℕ)
-    × IsJobOf m bench text job × IsSplitOf job split workers parts
-    × IsReportByLedgers job parts workers contents bytes
+-- the same for a bench file and a test file under a model, in the requested number of stretches, if
+-- there is one
+abbrev pub IsReportOfByLedgers : Model → List ℕ → List ℕ → Option ℕ → ℕ → Contents → List ℕ → Type 0
+IsReportOfByLedgers m bench text stretches workers contents bytes = (job : Parts)
+    × IsJobOf m bench text job
+    × IsReportByLedgers job (stretches_of stretches job workers) workers contents bytes
 
 -- the bytes are the listing of a bench file under a model
 abbrev pub IsListingOf : Model → List ℕ → List ℕ → Type 0
@@ -92,59 +92,18 @@ IsReportFault m bench text workers (fault.Report f) =
     (job : Parts) × IsJobWithin m bench text job × (0 < workers) × (workers ≤ 64)
 IsReportFault m bench text workers f = IsJobFault m bench text f
 
--- The condition of each error of a text with this condition on the errors of its run: the errors of
--- the two files, then of the run, then of the output. The number of pieces is not limited before
--- the run.
-abbrev pub IsTextFault : Model → List ℕ → List ℕ → ℕ → (Parts → RunFault → Type 0) → SimFault
-    → Type 0
-IsTextFault m bench text workers IsFault (fault.Run f) =
-    (job : Parts) × IsJobOf m bench text job × IsFault job f
-IsTextFault m bench text workers IsFault (fault.Report f) =
-    (job : Parts) × IsJobOf m bench text job × (0 < workers) × (workers ≤ 64)
-IsTextFault m bench text workers IsFault f = IsReadFault bench text f
-
--- the classes of the faults of the files, in this many parts, have each part within the limit of
--- pieces
-abbrev pub HasPartsWithin : Model → List ℕ → List ℕ → ℕ → Type 0
-HasPartsWithin m bench text parts =
-    (job : Parts) × IsJobOf m bench text job × ArePartsWithin job parts
-
--- the condition of each error of the report of a run in this many parts
-abbrev pub IsPartsReportFault : Model → List ℕ → List ℕ → ℕ → ℕ → SimFault → Type 0
-IsPartsReportFault m bench text parts workers f =
-    IsTextFault m bench text workers (λ job. IsPartsFault job parts workers ⊤ no_stop) f
-
--- the number of pieces after a run without errors: the pieces of the whole run are within the
--- limit, or the pieces of each part if a number of parts is given
-abbrev pub IsWithin : Model → List ℕ → List ℕ → Split → Type 0
-IsWithin m bench text split.Whole = (job : Parts) × IsJobWithin m bench text job
-IsWithin m bench text (split.Parts parts) = HasPartsWithin m bench text parts
-IsWithin m bench text split.Fitting = ⊤
-
--- the condition of each error of a run in parts that fit: the error of a run in some number of
--- parts that are each within the limit of pieces, and never the number of pieces
-abbrev pub IsFittingFault : Parts → ℕ → Type 0 → Stops → RunFault → Type 0
-IsFittingFault job workers passing stops run_fault.TooManyPieces = ⊥
-IsFittingFault job workers passing stops f =
-    (parts : ℕ) × ArePartsWithin job parts × IsPartsFault job parts workers passing stops f
-
--- The condition of each error of the report of a run that a gate watches, with this split: the
--- errors of the run without a gate, and an error if the gate stopped workers. That error names the
--- class and the block for which the run in parts waits, and the gate isn't one that lets every
--- piece pass.
-abbrev pub IsWatchedFault : Model → List ℕ → List ℕ → Split → ℕ → Type 0 → Stops → SimFault
-    → Type 0
-IsWatchedFault m bench text split.Whole workers passing stops
-    (fault.Run (run_fault.Unfinished class block)) =
-    (job : Parts) × IsJobWithin m bench text job
-    × IsPartsFault job (parts_for job workers) workers passing stops
-    (run_fault.Unfinished class block)
-IsWatchedFault m bench text split.Whole workers passing stops f =
-    IsReportFault m bench text workers f
-IsWatchedFault m bench text (split.Parts parts) workers passing stops f =
-    IsTextFault m bench text workers (λ job. IsPartsFault job parts workers passing stops) f
-IsWatchedFault m bench text split.Fitting workers passing stops f =
-    IsTextFault m bench text workers (λ job. IsFittingFault job workers passing stops) f
+-- The condition of each error of the report of a run that a gate watches: the errors of the two
+-- files, within the limit, then of the run, then of the output. If the gate stopped workers, the
+-- error names the class and the block for which the run waits, and the gate isn't one that lets
+-- every piece pass.
+abbrev pub IsWatchedFault : Model → List ℕ → List ℕ → Limit → Option ℕ → ℕ → Type 0 → Stops
+    → SimFault → Type 0
+IsWatchedFault m bench text l stretches workers passing stops (fault.Run f) =
+    (job : Parts) × IsLimitedJob m bench text l job
+    × IsPartsFault job (stretches_of stretches job workers) workers passing stops f
+IsWatchedFault m bench text l stretches workers passing stops (fault.Report f) =
+    (job : Parts) × IsLimitedJob m bench text l job × (0 < workers) × (workers ≤ 64)
+IsWatchedFault m bench text l stretches workers passing stops f = IsLimitFault m bench text l f
 
 -- the order file has moves of this many workers
 abbrev pub HasSomeMoves : List ℕ → ℕ → Type 0

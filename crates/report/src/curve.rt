@@ -8,7 +8,7 @@ ghost use Rattle.byte_output.specs.Output.{Writes};
 ghost use Rattle.report.specs.Curve.{IsCurveOfJob, curve, curve_text};
 ghost use Rattle.report.specs.Curve.{counts_at, news_at, point_line};
 ghost use Rattle.report.specs.EndToEnd.{IsJobTextFault, WritesOneOf};
-ghost use Rattle.region_runs.specs.Refused.{ArePartsWithin, IsPartsFault};
+ghost use Rattle.region_runs.specs.Refused.{IsPartsFault};
 
 use crate::report::{hundredths, put_coverage};
 use block_sim::Job;
@@ -64,7 +64,6 @@ pub fn write_curve_of_run<R: Threads + Wait, G: Watch + Sync, W: Out>(
     ensures refused { IfErr result (IsJobTextFault workers
         (IsPartsFault run.old.parts parts workers (G.passing gate.now) (G.stops gate.now))) }
     ensures workers { OnOk result ((0 < workers) × (workers ≤ 64)) }
-    ensures within { OnOk result (ArePartsWithin run.old.parts parts) }
     ensures kept { run.new ≡ run.old }
 {
     let verdicts = run.run(rt, alloc, parts, workers, gate)?;

@@ -25,7 +25,7 @@ pub use contents::{Contents, Lines};
 pub use counts::{RunCounts, count_run};
 pub use curve::{CurvePoint, curve_of, write_curve, write_curve_of_run};
 pub use in_threads::write_report_in_threads;
-pub use job_loading::{ReasonCounts, ReportFault, SimFault, Split, Watch, job_of};
+pub use job_loading::{Limit, ReasonCounts, ReportFault, SimFault, Watch, job_of};
 pub use laws::class_firsts_are;
 pub use report::{
     detected_classes, first_text, put_coverage, put_fault_line, write_fault, write_listing,
@@ -34,8 +34,7 @@ pub use report::{
 pub use run_identity::model_name;
 pub use text::{
     faults_text, faults_text_in, listing_bytes, report_bytes, schedule_text, schedule_text_in,
-    schedule_text_with, simulate_text, simulate_text_in, simulate_text_in_parts,
-    simulate_text_with,
+    schedule_text_with, simulate_text, simulate_text_in, simulate_text_with,
 };
 pub use watched::{simulate_text_watched, write_report_of_run};
 pub use workers::{Gate, MAX_WORKERS, OpenGate, RunFault, Verdicts};

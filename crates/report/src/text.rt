@@ -6,7 +6,6 @@ ghost use Rattle.block_sim.specs.Parts.{BelongTogether, piece_count};
 ghost use Rattle.report.specs.EndToEnd.{WritesOneOf, IsReportOf, IsReportFault, IsReportOfJob};
 ghost use Rattle.report.specs.EndToEnd.{IsScheduleTextFault, HasSomeMoves, IsListingOf};
 ghost use Rattle.report.specs.EndToEnd.{IsListFault, IsListingFault, IsListingOfCircuit};
-ghost use Rattle.report.specs.EndToEnd.{HasPartsWithin, IsPartsReportFault};
 ghost use Rattle.report.specs.EndToEnd.{IsScheduleReportFault};
 ghost use Rattle.report.specs.Report.{contents_of};
 
@@ -17,7 +16,7 @@ use bench_net::{Circuit, read_bench};
 use block_sim::Job;
 use byte_output::{Out, Plain};
 use fault_model::{Model, collapse, list_faults_in};
-use job_loading::{ReportFault, SimFault, Split, job_for, read_inputs};
+use job_loading::{Limit, ReportFault, SimFault, job_for, read_inputs};
 use patterns::read_order;
 use std::alloc::Global;
 use std::sync::Wait;
@@ -89,41 +88,9 @@ pub fn simulate_text_with<R: Threads + Wait, W: Out>(
     ensures refused { IfErr result (IsReportFault model bench.now tests.now workers) }
     ensures workers { OnOk result ((0 < workers) × (workers ≤ 64)) }
 {
-    let split = Split::Whole;
+    let limit = Limit::Pieces;
     simulate_text_watched(
-        rt, alloc, model, bench, tests, split, workers, contents, &OpenGate, out,
-    )
-}
-
-/// Reads a circuit and tests for it, and writes the report as [`simulate_text_with`] does, with the
-/// same bytes. It runs the classes of the faults in this number of parts, each by one worker
-/// ([`region_runs::run_in_parts`]).
-///
-/// It fails as [`simulate_text_with`] does, except for the number of pieces. The whole has no
-/// limit: it fails with [`RunFault::TooManyPieces`] if one part has too many. Here it checks the
-/// number of workers before the pieces.
-pub fn simulate_text_in_parts<R: Threads + Wait, W: Out>(
-    rt: &R,
-    alloc: Global,
-    model: Model,
-    bench: &[u8],
-    tests: &[u8],
-    parts: u32,
-    workers: u32,
-    contents: Contents,
-    out: &mut W,
-) -> Result<(), SimFault>
-    requires { 0 < parts }
-    ensures written { WritesOneOf (IsReportOf model bench.now tests.now contents) result
-        (W.seen out.old) (W.seen out.new) }
-    ensures refused { IfErr result
-        (IsPartsReportFault model bench.now tests.now parts workers) }
-    ensures workers { OnOk result ((0 < workers) × (workers ≤ 64)) }
-    ensures within { OnOk result (HasPartsWithin model bench.now tests.now parts) }
-{
-    let split = Split::Parts(parts);
-    simulate_text_watched(
-        rt, alloc, model, bench, tests, split, workers, contents, &OpenGate, out,
+        rt, alloc, model, bench, tests, limit, None, workers, contents, &OpenGate, out,
     )
 }
 

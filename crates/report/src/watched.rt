@@ -2,19 +2,19 @@
 
 ghost use Rattle.std.specs.Prelude.{◌≡◌, ◌<◌, ◌≤◌, IfErr, OnOk, true};
 ghost use Rattle.patterns.specs.Tests.{TestList};
-ghost use Rattle.block_sim.specs.Parts.{BelongTogether, with_tests};
-ghost use Rattle.job_loading.specs.Splits.{HasSomePart};
-ghost use Rattle.region_runs.specs.Refused.{ArePartsWithin, IsPartsFault};
+ghost use Rattle.block_sim.specs.Parts.{BelongTogether, Parts, with_tests};
+ghost use Rattle.job_loading.specs.Limits.{IsLimitedJob};
+ghost use Rattle.region_runs.specs.Refused.{IsPartsFault};
 ghost use Rattle.workers.specs.declared.RunFault.{RunFault};
 ghost use Rattle.report.specs.EndToEnd.{IsJobReportFault, IsReportByLedgers, IsReportOf};
 ghost use Rattle.report.specs.EndToEnd.{IsReportOfByLedgers, IsReportOfJob};
-ghost use Rattle.report.specs.EndToEnd.{IsWatchedFault, IsWithin, WritesOneOf};
+ghost use Rattle.report.specs.EndToEnd.{IsWatchedFault, WritesOneOf};
 
 use crate::contents::Contents;
 use crate::in_threads::write_report_in_threads;
 use byte_output::Out;
 use fault_model::Model;
-use job_loading::{RunJob, SimFault, Split, Watch, split_run_of};
+use job_loading::{Limit, RunJob, SimFault, Watch, read_run};
 use std::alloc::Global;
 use std::sync::Wait;
 use std::thread;
@@ -27,35 +27,36 @@ use std::thread::{JoinHandle, Threads};
 /// Under a gate that lets each piece pass it runs window by window if the tests have more blocks
 /// than a window ([`region_runs::window_blocks`]).
 ///
-/// With [`Split::Parts`] it runs as [`crate::simulate_text_in_parts`] does, and with
-/// [`Split::Whole`] as [`crate::simulate_text_with`]. It fails as these do, and with
+/// The classes run in the requested number of stretches, or in one that suits the workers. The
+/// report is the same for each. It fails as [`crate::simulate_text_with`] does, and with
 /// [`crate::RunFault::Unfinished`] if the gate stops workers and not all classes are settled. With
-/// [`Split::Fitting`] it fails for no number of pieces.
+/// [`Limit::None`] it fails for no number of pieces.
 pub fn simulate_text_watched<R: Threads + Wait, G: Watch + Sync, W: Out>(
     rt: &R,
     alloc: Global,
     model: Model,
     bench: &[u8],
     tests: &[u8],
-    split: Split,
+    limit: Limit,
+    stretches: Option<u32>,
     workers: u32,
     contents: Contents,
     gate: &G,
     out: &mut W,
 ) -> Result<(), SimFault>
-    requires { HasSomePart split }
     ensures written { WritesOneOf (IsReportOf model bench.now tests.now contents) result
         (W.seen out.old) (W.seen out.new) }
-    ensures ledgers { WritesOneOf (IsReportOfByLedgers model bench.now tests.now split workers
+    ensures ledgers { WritesOneOf (IsReportOfByLedgers model bench.now tests.now stretches workers
         contents) result (W.seen out.old) (W.seen out.new) }
-    ensures refused { IfErr result (IsWatchedFault model bench.now tests.now split workers
+    ensures refused { IfErr result (IsWatchedFault model bench.now tests.now limit stretches workers
         (G.passing gate.now) (G.stops gate.now)) }
     ensures workers { OnOk result ((0 < workers) × (workers ≤ 64)) }
-    ensures within { OnOk result (IsWithin model bench.now tests.now split) }
+    ensures within { OnOk result
+        ((job : Parts) × IsLimitedJob model bench.now tests.now limit job) }
 {
     let apart = gate.lets_all_pass();
-    let (run, parts) = split_run_of(rt, alloc, model, bench, tests, split, apart, workers)?;
-    let mut run = run;
+    let mut run = read_run(rt, alloc, model, bench, tests, limit, apart, workers)?;
+    let parts = run.stretches(stretches, workers);
     write_report_of_run(rt, alloc, &mut run, parts, workers, contents, gate, out)
 }
 
@@ -63,7 +64,7 @@ pub fn simulate_text_watched<R: Threads + Wait, G: Watch + Sync, W: Out>(
 /// calls the gate when the run begins and when all is settled.
 ///
 /// It is the second half of [`simulate_text_watched`], for a job that stands: such as that of a
-/// test file that was read piece by piece ([`job_loading::split_run_in_pieces`]). If there is more
+/// test file that was read piece by piece ([`job_loading::read_run_in_pieces`]). If there is more
 /// than one worker, a thread may free the run's tests while others write, and the run has none
 /// then. It fails as [`job_loading::RunJob::run`] does, and then the run is as it was, or for the
 /// output.
@@ -87,7 +88,6 @@ pub fn write_report_of_run<R: Threads + Wait, G: Watch + Sync, W: Out>(
     ensures refused { IfErr result (IsJobReportFault workers
         (IsPartsFault run.old.parts parts workers (G.passing gate.now) (G.stops gate.now))) }
     ensures workers { OnOk result ((0 < workers) × (workers ≤ 64)) }
-    ensures within { OnOk result (ArePartsWithin run.old.parts parts) }
     ensures kept { (some : TestList) × (run.new.parts ≡ with_tests run.old.parts some) }
     ensures unchanged { (fault : RunFault) → result ≡ Err (SimFault.Run fault)
         → run.new ≡ run.old }

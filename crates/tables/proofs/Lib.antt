@@ -1,4 +1,5 @@
 mod BlockPieces
+mod BlockingPieces
 mod CurvePieces
 mod FurtherCells
 mod HistogramPieces

@@ -1,4 +1,5 @@
 pub mod BlockTables
+pub mod BlockingTables
 pub mod CurveTables
 pub mod FurtherColumns
 pub mod HistogramTables

@@ -8,7 +8,7 @@ ghost use Rattle.tables.specs.CurveTables.{IsCurveTableOfJob, csv_point};
 ghost use Rattle.tables.specs.CurveTables.{curve_table, json_point, point_row, points_csv};
 ghost use Rattle.tables.specs.CurveTables.{points_json};
 ghost use Rattle.tables.specs.Tables.{coverage_object};
-ghost use Rattle.region_runs.specs.Refused.{ArePartsWithin, IsPartsFault};
+ghost use Rattle.region_runs.specs.Refused.{IsPartsFault};
 
 use crate::json_table::{add_pieces, hundredths, without_first};
 use crate::table::{Format, put_text};
@@ -54,7 +54,6 @@ pub fn write_curve_table_of_run<R: Threads + Wait, G: Watch + Sync, W: Out>(
     ensures refused { IfErr result (IsJobTextFault workers
         (IsPartsFault run.old.parts parts workers (G.passing gate.now) (G.stops gate.now))) }
     ensures workers { OnOk result ((0 < workers) × (workers ≤ 64)) }
-    ensures within { OnOk result (ArePartsWithin run.old.parts parts) }
     ensures kept { run.new ≡ run.old }
 {
     let verdicts = run.run(rt, alloc, parts, workers, gate)?;

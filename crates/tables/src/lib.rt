@@ -3,6 +3,7 @@
 #![tactic(auto)]
 
 mod block_table;
+mod blocking_table;
 mod column;
 mod csv_table;
 mod curve_table;
@@ -18,6 +19,7 @@ mod table;
 mod table_of_run;
 
 pub use block_table::{merged_flags, write_block_table, write_block_table_of_run};
+pub use blocking_table::{write_blocking_table, write_blocking_table_of_run};
 pub use curve_table::write_curve_table_of_run;
 pub use histogram_table::write_histogram_table_of_run;
 pub use laws::merged_table;

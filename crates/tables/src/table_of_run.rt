@@ -3,7 +3,7 @@
 ghost use Rattle.std.specs.Prelude.{◌≡◌, ◌<◌, ◌≤◌, ◌++◌, IfErr, IfOk, IsSome, OnOk, map, true};
 ghost use Rattle.std.specs.Prelude.{option_map};
 ghost use Rattle.block_sim.specs.Parts.{BelongTogether};
-ghost use Rattle.region_runs.specs.Refused.{ArePartsWithin, IsOpenFault, IsPartsFault};
+ghost use Rattle.region_runs.specs.Refused.{IsOpenFault, IsPartsFault};
 ghost use Rattle.report.specs.EndToEnd.{IsJobTextFault, WritesOneOf};
 ghost use Rattle.workers.specs.Verdict.{AreFirsts};
 ghost use Rattle.tables.specs.FurtherColumns.{HasClasses, HasCounts, HasReasons, class_cells};
@@ -73,7 +73,6 @@ pub fn write_table_of_run<R: Threads + Wait, G: Watch + Sync, W: Out>(
     ensures refused { IfErr result (IsJobTextFault workers
         (IsPartsFault run.old.parts parts workers (G.passing gate.now) (G.stops gate.now))) }
     ensures workers { OnOk result ((0 < workers) × (workers ≤ 64)) }
-    ensures within { OnOk result (ArePartsWithin run.old.parts parts) }
     ensures kept { run.new ≡ run.old }
 {
     let verdicts = run.run(rt, alloc, parts, workers, gate)?;

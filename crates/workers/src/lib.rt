@@ -18,14 +18,13 @@ mod schedule;
 mod swept;
 mod verdicts;
 
-ghost use Rattle.std.specs.Prelude.{◌≡◌, ◌<◌, ◌≤◌, ◌*◌, IfErr, OnOk, length};
-ghost use Rattle.patterns.specs.Tests.{blocks, max_pieces};
+ghost use Rattle.std.specs.Prelude.{◌≡◌, ◌<◌, ◌≤◌, IfErr, OnOk};
+ghost use Rattle.patterns.specs.Tests.{max_pieces};
 ghost use Rattle.block_sim.specs.Parts.{piece_count};
 ghost use Rattle.workers.specs.Refused.{IsWorkersFault};
 
-use block_sim::Job;
+use block_sim::{Job, has_too_many_pieces};
 pub use fault_ledger::MAX_WORKERS;
-use patterns::MAX_PIECES;
 pub use piece_threads::run;
 pub use piece_worker::{End, Gate, OpenGate, work};
 pub use schedule::run_schedule;
@@ -98,43 +97,14 @@ pub fn check_workers(workers: u32) -> Result<(), RunFault>
     }
 }
 
-/// Checks that this number of classes of a job has no more pieces than a ledger takes.
-///
-/// # Errors
-///
-/// [`RunFault::TooManyPieces`].
-pub fn check_pieces(job: &Job, classes: u32) -> Result<(), RunFault>
-    ensures few { OnOk result (classes * blocks (length job.now.tests.tests) ≤ max_pieces) }
-    ensures refused { IfErr result (λ fault. (fault ≡ RunFault.TooManyPieces)
-        × (max_pieces < classes * blocks (length job.now.tests.tests))) }
-{
-    check_pieces_of(classes, job.tests().blocks())
-}
-
-/// Checks that this number of classes has no more pieces than a ledger takes, on this number of
-/// blocks.
-///
-/// # Errors
-///
-/// [`RunFault::TooManyPieces`].
-pub fn check_pieces_of(classes: u32, blocks: u32) -> Result<(), RunFault>
-    ensures few { OnOk result (classes * blocks ≤ max_pieces) }
-    ensures refused { IfErr result (λ fault. (fault ≡ RunFault.TooManyPieces)
-        × (max_pieces < classes * blocks)) }
-{
-    let pieces = u64::from(classes) * u64::from(blocks);
-    if pieces > u64::from(MAX_PIECES) {
-        Err(RunFault::TooManyPieces)
-    } else {
-        Ok(())
-    }
-}
-
 /// Checks that a job has no more pieces than a ledger takes.
 pub(crate) fn check_job(job: &Job) -> Result<(), RunFault>
     ensures few { OnOk result (piece_count job.now ≤ max_pieces) }
     ensures refused { IfErr result (λ fault. (fault ≡ RunFault.TooManyPieces)
         × (max_pieces < piece_count job.now)) }
 {
-    check_pieces(job, job.classes().count())
+    if has_too_many_pieces(job.classes(), job.tests()) {
+        return Err(RunFault::TooManyPieces);
+    }
+    Ok(())
 }

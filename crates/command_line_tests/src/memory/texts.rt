@@ -9,10 +9,10 @@ use analysis_reports::{
     KeptForm, KeptLayout, TestOrder, responses_text_in, write_detections_of_run, write_kept_of_run,
 };
 use fault_model::Model;
-use job_loading::split_run_of;
+use job_loading::read_run;
 use report::{
-    Contents, Lines, OpenGate, Out, OutFailed, RunFault, SimFault, Split, faults_text,
-    schedule_text, simulate_text, simulate_text_in_parts, write_curve_of_run,
+    Contents, Limit, Lines, OpenGate, Out, OutFailed, RunFault, SimFault, faults_text,
+    schedule_text, simulate_text, write_curve_of_run, write_report_of_run,
 };
 use std::alloc::Global;
 use std::sync::Wait;
@@ -133,10 +133,14 @@ impl<R: Threads + Wait> Written<'_, R> {
     /// Writes an output of a run of C17 under these tests.
     fn write_of_run(&self, alloc: Global, screen: &mut Screen) -> Result<(), SimFault> {
         let (rt, tests, gate) = (self.rt, self.tests, &OpenGate);
-        let (model, split) = (Model::StuckAt, Split::Whole);
-        let (made, parts) = split_run_of(rt, alloc, model, C17, tests, split, true, 2)?;
-        let mut run = made;
+        let (model, limit) = (Model::StuckAt, Limit::Pieces);
+        let mut run = read_run(rt, alloc, model, C17, tests, limit, true, 2)?;
+        let parts = run.stretches(None, 2);
         match self.call {
+            TextCall::InParts => {
+                let all = Contents::of(Lines::All);
+                write_report_of_run(rt, alloc, &mut run, 3, 2, all, gate, screen)
+            }
             TextCall::Curve => write_curve_of_run(rt, alloc, &mut run, parts, 2, gate, screen),
             TextCall::Compact => {
                 match write_kept_of_run(rt, alloc, &mut run, parts, 2, ROWS, gate, screen) {
@@ -149,16 +153,12 @@ impl<R: Threads + Wait> Written<'_, R> {
     }
 
     fn write(&self, alloc: Global, screen: &mut Screen) -> Result<(), SimFault> {
-        let (rt, tests, model) = (self.rt, self.tests, Model::StuckAt);
-        let all = Contents::of(Lines::All);
+        let (rt, tests) = (self.rt, self.tests);
         match self.call {
             TextCall::Simulate => simulate_text(rt, alloc, C17, tests, 2, true, screen),
-            TextCall::InParts => {
-                simulate_text_in_parts(rt, alloc, model, C17, tests, 3, 2, all, screen)
-            }
             TextCall::Schedule => schedule_text(alloc, C17, tests, ORDER, 2, true, screen),
             TextCall::Faults => faults_text(alloc, C17, screen),
-            TextCall::Curve | TextCall::Detections | TextCall::Compact => {
+            TextCall::InParts | TextCall::Curve | TextCall::Detections | TextCall::Compact => {
                 self.write_of_run(alloc, screen)
             }
             TextCall::Responses => responses_text_in(alloc, C17, tests, screen),
@@ -182,7 +182,7 @@ impl<R: Threads + Wait> Trial for Written<'_, R> {
     fn name(&self) -> &str {
         match self.call {
             TextCall::Simulate => "simulate_text",
-            TextCall::InParts => "simulate_text_in_parts",
+            TextCall::InParts => "write_report_of_run",
             TextCall::Schedule => "schedule_text",
             TextCall::Faults => "faults_text",
             TextCall::Curve => "write_curve_of_run",

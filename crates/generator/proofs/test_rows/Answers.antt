@@ -3,6 +3,7 @@ use Rattle.std.proofs.Common.{rules}
 use Rattle.bench_net.specs.Refusal.{IsAccepted}
 use Rattle.bench_net.specs.Scan.{sources}
 use Rattle.patterns.specs.Tests.{HasTests}
+use Rattle.block_sim.specs.Parts.{Parts}
 use Rattle.patterns.specs.Making.{test_text}
 use Rattle.test_columns.specs.Columns.{columns}
 use Rattle.compaction.specs.Compaction.{IsCompaction}
@@ -14,16 +15,6 @@ use Rattle.generator.proofs.Pieces.{fewer_pieces}
 use Rattle.generator.proofs.Searches.{compacted_some}
 use Rattle.generator.proofs.Texts.{file_is, held_refused, text_has_job}
 use Rattle.generator.proofs.test_rows.Goals as goal
-
-pub needed_of_best-requires-clause-pieces : goal.needed_of_best-requires-clause-pieces
-needed_of_best-requires-clause-pieces g c =
-    let job = c.in_ok-job.job in
-    let best = c.in_ok-best.best in
-    let found = c.in_ok-found.found in
-    let same = c.best_tests.ensures.classes ∙ c.search.ensures.classes in
-    subst (λ x. AreFewPieces (length x.representative) (length best.tests)) (sym same)
-    (fewer_pieces (length job.classes.representative) (length best.tests) (length found.tests)
-    c.in_ok-best.ensures.no_more c.in_ok-found.ensures.pieces)
 
 pub returns-clause-held : goal.returns-clause-held
 returns-clause-held g c =
@@ -61,14 +52,16 @@ returns-clause-few g c =
 pub returns-clause-compacted : goal.returns-clause-compacted
 returns-clause-compacted g c =
     let job = c.in_ok-job.job in
-    let was = c.best_tests.new.job in
+    let was = c.best_tests.new.run.parts in
     let best = c.in_ok-best.best.tests in
     let kept = c.in_ok-needed.needed.tests in
     let is = c.in_ok-job.ensures.job in
     let circuit : was.circuit ≡ job.circuit =
-    c.best_tests.ensures.circuit ∙ c.search.ensures.circuit in
+    c.best_tests.ensures.circuit
+    ∙ (ap (λ (p : Parts). p.circuit) c.whole-run.ensures.parts ∙ c.search.ensures.circuit) in
     let model : was.list.model ≡ c.args.settings.model =
-    ap (λ l. l.model) (c.best_tests.ensures.list ∙ c.search.ensures.list) ∙ is.3 in (
+    ap (λ l. l.model) (c.best_tests.ensures.list
+    ∙ (ap (λ (p : Parts). p.list) c.whole-run.ensures.parts ∙ c.search.ensures.list)) ∙ is.3 in (
       job.circuit,
       best,
       kept,
@@ -86,18 +79,21 @@ returns-clause-some g c = λ big.
     let job = c.in_ok-job.job in
     let m = c.args.settings.model in
     let searched = c.search.new.job in
-    let was = c.best_tests.new.job in
+    let was = c.best_tests.new.run.parts in
     let found = c.in_ok-found.found.tests in
     let best = c.in_ok-best.best.tests in
     let kept = c.in_ok-needed.needed.tests in
     let is = c.in_ok-job.ensures.job in
     let of_best : DetectsEarly m job.circuit found → DetectsSome m job.circuit best =
-    subst (λ x. DetectsEarly m x found → DetectsSome m x best) c.search.ensures.circuit
+    subst (λ x. DetectsEarly m x found → DetectsSome m x best)
+    (ap (λ (p : Parts). p.circuit) c.whole-run.ensures.parts ∙ c.search.ensures.circuit)
     (c.in_ok-best.ensures.some big) in
     let circuit : was.circuit ≡ job.circuit =
-    c.best_tests.ensures.circuit ∙ c.search.ensures.circuit in
+    c.best_tests.ensures.circuit
+    ∙ (ap (λ (p : Parts). p.circuit) c.whole-run.ensures.parts ∙ c.search.ensures.circuit) in
     let model : was.list.model ≡ m =
-    ap (λ l. l.model) (c.best_tests.ensures.list ∙ c.search.ensures.list) ∙ is.3 in
+    ap (λ l. l.model) (c.best_tests.ensures.list
+    ∙ (ap (λ (p : Parts). p.list) c.whole-run.ensures.parts ∙ c.search.ensures.list)) ∙ is.3 in
     let needed : IsCompaction m job.circuit best kept =
     subst (λ x. IsCompaction x job.circuit best kept) model
     (subst (λ x. IsCompaction was.list.model x best kept) circuit

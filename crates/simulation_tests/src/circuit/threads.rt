@@ -3,7 +3,7 @@
 use crate::checks::check_ok;
 use block_sim::Job;
 use fault_model::Model;
-use job_loading::{RunJob, SimFault, Split, split_run_of};
+use job_loading::{Limit, RunJob, SimFault, read_run};
 use patterns::Tests;
 use std::alloc::{AllocError, Global};
 use std::sync::Wait;
@@ -143,18 +143,8 @@ fn is_right_again<R: Threads + Wait>(
 fn is_made<R: Threads + Wait>(rt: &R, alloc: Global, text: &[u8]) -> Result<bool, SimFault> {
     let bench = bench_text(alloc)?;
     let bench = bench.as_bytes();
-    let split = Split::Parts(1);
-    let made = split_run_of(
-        rt,
-        alloc,
-        Model::StuckAt,
-        bench,
-        text,
-        split,
-        false,
-        WORKERS,
-    )?;
-    let (mut run, _parts) = made;
+    let (model, limit) = (Model::StuckAt, Limit::None);
+    let mut run = read_run(rt, alloc, model, bench, text, limit, false, WORKERS)?;
     Ok(is_right(run.job()) && is_right_again(rt, alloc, &mut run, text)?)
 }
 

@@ -3,6 +3,7 @@
 
 ghost use Rattle.workers.specs.Stops.{any_stop};
 
+use region_runs::Watch;
 use std::sync::atomic::{AtomicU64, Ordering};
 use std::thread;
 use std::time::{Clock, Duration};
@@ -120,6 +121,8 @@ impl<C: Clock> Gate for Planned<'_, C> {
         }
     }
 }
+
+impl<C: Clock> Watch for Planned<'_, C> {}
 
 /// Waits until a word is at least `wanted` more than `before`, and returns whether it is.
 fn has_come<C: Clock>(clock: &C, word: &AtomicU64, before: u64, wanted: u64) -> bool {

@@ -1,4 +1,4 @@
-//! Runs in threads, over pieces and over parts. The gates of most hold workers until others have
+//! Runs in threads, over pieces and over stretches. The gates of most hold workers until others have
 //! come, so the workers run at the same time.
 
 use crate::checks::check;
@@ -6,7 +6,8 @@ use crate::worker::fixtures::{BUFFER, C17, C17_FIRSTS, JobText, has_firsts, job_
 use crate::worker::gates::{Plan, Planned};
 use block_sim::Job;
 use fault_model::Model;
-use region_runs::run_in_parts;
+use job_loading::SimFault;
+use region_runs::RunJob;
 use std::alloc::Global;
 use std::process::Abort;
 use std::sync::Wait;
@@ -28,19 +29,19 @@ fn is_run<R: Threads + Wait + Clock + Sync>(
     Ok(has_firsts(&verdicts, firsts))
 }
 
-/// The number of parts into which C17 is cut: seven of three classes and one of only the last
-/// class, 21, the class of G23 sa1. Class 2, the class of G3 sa0, is in another part.
-const PARTS: u32 = 8;
+/// The number of stretches into which C17 is cut: seven of three classes and one of only the last
+/// class, 21, the class of G23 sa1. Class 2, the class of G3 sa0, is in another stretch.
+const STRETCHES: u32 = 8;
 
-/// Returns whether a run of C17 in these parts has its verdicts, with a gate of this plan.
-fn is_run_in_parts<R: Threads + Wait + Clock + Sync>(
+/// Returns whether a run of C17 in these stretches has its verdicts, with a gate of this plan.
+fn is_run_in_stretches<R: Threads + Wait + Clock + Sync>(
     rt: &R,
     alloc: Global,
-    job: &Job,
     workers: u32,
     plan: Plan,
-) -> Result<bool, RunFault> {
-    let verdicts = run_in_parts(rt, alloc, job, PARTS, workers, &Planned::new(rt, plan))?;
+) -> Result<bool, SimFault> {
+    let mut run = RunJob::whole(job_of(alloc, &C17)?);
+    let verdicts = run.run(rt, alloc, STRETCHES, workers, &Planned::new(rt, plan))?;
     Ok(has_firsts(&verdicts, &C17_FIRSTS))
 }
 
@@ -89,15 +90,19 @@ fn runs_again<R: Threads + Wait + Clock + Sync>(
     Ok(has_firsts(&verdicts, firsts))
 }
 
-/// Returns whether a run of a job in three parts, at whose last piece the gate stops the worker,
+/// Returns whether a run of C17 in three stretches, at whose last piece the gate stops the worker,
 /// names this piece.
-fn names_the_last<R: Threads + Wait + Clock + Sync>(rt: &R, alloc: Global, job: &Job) -> bool {
+fn names_the_last<R: Threads + Wait + Clock + Sync>(
+    rt: &R,
+    alloc: Global,
+) -> Result<bool, SimFault> {
+    let mut run = RunJob::whole(job_of(alloc, &C17)?);
     let gate = Planned::new(rt, Plan::Stop(21, 0));
     let waiting = Some(RunFault::Unfinished {
         class: 21,
         block: 0,
     });
-    run_in_parts(rt, alloc, job, 3, 3, &gate).err() == waiting
+    Ok(run.run(rt, alloc, 3, 3, &gate).err() == waiting)
 }
 
 /// Returns whether a run of one worker skips a single piece of a job.
@@ -114,8 +119,8 @@ type Firsts = &'static [Option<u32>];
 enum Running {
     /// Do this many workers find these first tests, with a gate of this plan?
     IsRun(u32, Plan, Firsts),
-    /// Do this many workers find the first tests of C17 in parts, with a gate of this plan?
-    IsRunInParts(u32, Plan),
+    /// Do this many workers find the first tests of C17 in stretches, with a gate of this plan?
+    IsRunInStretches(u32, Plan),
     EndsAfterTwo,
     /// Do runs leave pieces open, and does one find these first tests afterwards?
     AreLeftOpen(Firsts),
@@ -192,30 +197,30 @@ static CASES: [Case; 11] = [
         job: TWO_BLOCKS,
         question: Running::AreLeftOpen(&BUFFER_FIRSTS),
     },
-    // Each worker waits in a part of its own until the other has come.
+    // Each worker waits in a stretch of its own until the other has come.
     Case {
-        name: "parts_of_two_workers_that_meet",
+        name: "stretches_of_two_workers_that_meet",
         job: C17,
-        question: Running::IsRunInParts(2, Plan::MeetBoth((2, 0), (21, 0))),
+        question: Running::IsRunInStretches(2, Plan::MeetBoth((2, 0), (21, 0))),
     },
     // They wait for each other: each has a thread of its own, and its gate is called with its own
     // number.
     Case {
-        name: "parts_of_four_workers_that_meet",
+        name: "stretches_of_four_workers_that_meet",
         job: C17,
-        question: Running::IsRunInParts(4, Plan::Roll),
+        question: Running::IsRunInStretches(4, Plan::Roll),
     },
-    // The first worker is held in its first part until the other has passed all classes of the
-    // other seven parts, at least 19.
+    // The first worker is held in its first stretch until the other has passed all classes of the
+    // other seven, at least 19.
     Case {
-        name: "parts_of_a_worker_that_is_held",
+        name: "stretches_of_a_worker_that_is_held",
         job: C17,
-        question: Running::IsRunInParts(2, Plan::Hold(19)),
+        question: Running::IsRunInStretches(2, Plan::Hold(19)),
     },
-    // The piece is the last of its part: its class is the class of G23 sa1, the last of the region
+    // The piece is the last of its stretch: its class is the class of G23 sa1, the last of the region
     // that is visited last. So all others are settled.
     Case {
-        name: "a_stopped_part_names_the_class_of_the_job",
+        name: "a_stopped_stretch_names_the_class_of_the_job",
         job: C17,
         question: Running::NamesTheLast,
     },
@@ -244,14 +249,14 @@ fn is_so<R: Threads + Wait + Clock + Sync>(
         Running::IsRun(workers, plan, firsts) => {
             is_run(rt, alloc, job, workers, plan, firsts) == Ok(true)
         }
-        Running::IsRunInParts(workers, plan) => {
-            is_run_in_parts(rt, alloc, job, workers, plan) == Ok(true)
+        Running::IsRunInStretches(workers, plan) => {
+            is_run_in_stretches(rt, alloc, workers, plan) == Ok(true)
         }
         Running::EndsAfterTwo => ends_after_two(rt, alloc, job) == Ok(true),
         Running::AreLeftOpen(firsts) => {
             are_left_open(rt, alloc, job) && runs_again(rt, alloc, job, firsts) == Ok(true)
         }
-        Running::NamesTheLast => names_the_last(rt, alloc, job),
+        Running::NamesTheLast => names_the_last(rt, alloc) == Ok(true),
         Running::SkipsOne => skips_one(rt, alloc, job) == Ok(true),
     }
 }

@@ -1,6 +1,6 @@
 //! Runs on a list of tests window by window.
 
-ghost use Rattle.std.specs.Prelude.{◌≡◌, ◌<◌, IfOk, length};
+ghost use Rattle.std.specs.Prelude.{◌≡◌, IfOk, length};
 ghost use Rattle.bench_net.specs.Scan.{sources};
 ghost use Rattle.patterns.specs.Tests.{IsTestList};
 
@@ -10,11 +10,11 @@ use block_sim::Job;
 use fault_model::Model;
 use job_loading::SimFault;
 use patterns::{Tests, read_tests};
-use region_runs::run_in_windows;
+use region_runs::RunJob;
 use std::alloc::Global;
 use std::sync::Wait;
 use std::thread::Threads;
-use workers::{OpenGate, RunFault};
+use workers::OpenGate;
 
 /// A buffer under one test.
 const BEFORE: JobText = JobText {
@@ -38,29 +38,14 @@ fn edges(alloc: Global, job: &Job) -> Result<Tests, SimFault>
     Ok(read_tests(alloc, text.as_slice(), job.circuit().sources())?)
 }
 
-/// Returns whether a run in windows of this number of blocks has these first tests.
-fn run_so<R: Threads + Wait>(
-    rt: &R,
-    alloc: Global,
-    job: &mut Job,
-    tests: &Tests,
-    blocks: u32,
-) -> Result<bool, RunFault>
-    requires blocks { 0 < blocks }
-    requires list { IsTestList tests.now }
-    requires width { tests.now.width ≡ length (sources job.old.circuit) }
-{
-    let verdicts = run_in_windows(rt, alloc, job, tests, blocks, 1, 2, &OpenGate)?;
-    Ok(has_firsts(&verdicts, &FIRSTS))
-}
-
 /// Returns whether a job has these first tests by windows of this number of blocks.
-fn is_right_by<R: Threads + Wait>(rt: &R, alloc: Global, blocks: u32) -> Result<bool, SimFault>
-    requires { 0 < blocks }
-{
-    let mut job = job_of(alloc, &BEFORE)?;
+fn is_right_by<R: Threads + Wait>(rt: &R, alloc: Global, blocks: u32) -> Result<bool, SimFault> {
+    let job = job_of(alloc, &BEFORE)?;
     let tests = edges(alloc, &job)?;
-    Ok(run_so(rt, alloc, &mut job, &tests, blocks)?)
+    let mut run = RunJob::in_windows(job, blocks);
+    run.set_tests(rt, alloc, tests, 2)?;
+    let verdicts = run.run(rt, alloc, 1, 2, &OpenGate)?;
+    Ok(has_firsts(&verdicts, &FIRSTS))
 }
 
 #[test]

@@ -2,7 +2,7 @@ use Rattle.std.proofs.Common.{◌≡◌, ◌∙◌, List, ap, length}
 use Rattle.std.proofs.lemmas.Result.{err_from_is_err_and}
 use Rattle.bench_net.specs.Statement.{Statement}
 use Rattle.block_sim.specs.Parts.{Parts}
-use Rattle.region_runs.specs.Refused.{IsPartsFault}
+use Rattle.region_runs.specs.Refused.{IsOpenFault}
 use Rattle.analysis_reports.specs.Compacted.{IsKeptTextOfJob, kept_text}
 use Rattle.analysis_reports.proofs.CompactedTexts.{counted, given_text, kept_fault, the_count}
 use Rattle.analysis_reports.proofs.compacted.write_kept_of_run.Goals as goal
@@ -33,8 +33,7 @@ pub returns-in_err-put_kept-clause-refused : goal.returns-in_err-put_kept-clause
 returns-in_err-put_kept-clause-refused g c =
     let p = err_from_is_err_and c.from_residual-in_err-put_kept.result
     c.from_residual-in_err-put_kept.ensures.1 in
-    rw (p.1, p.2) (kept_fault c.args.workers (IsPartsFault c.args.run.now.parts c.args.parts
-    c.args.workers (g.G.Gate.passing c.args.gate.now) (g.G.Gate.stops c.args.gate.now)) _
+    rw (p.1, p.2) (kept_fault c.args.workers (IsOpenFault c.args.workers) _
     c.in_ok-kept.ensures.workers.0 c.in_ok-kept.ensures.workers.1
     c.in_err-put_kept.ensures.refused)
 

@@ -1,31 +1,15 @@
 use Rattle.std.proofs.Common.{◌≡◌, ◌∙◌, ap, arith, get_or, length, subst, sym}
 use Rattle.std.specs.Prelude.{vec_len}
-use Rattle.std.proofs.lemmas.Result.{err_from_is_err_and}
 use Rattle.std.specs.List.{ReversedBelow}
 use Rattle.fault_model.specs.declared.Model.TheVariants.{StuckAt}
-use Rattle.region_runs.specs.Refused.{IsPartsFault}
 use Rattle.compaction.specs.Compaction.{at_marks}
 use Rattle.compaction.specs.Marks.{AreFinding, AreLastOf}
-use Rattle.compaction.proofs.KeptTests.{are_last, refused_alike}
+use Rattle.compaction.proofs.KeptTests.{are_last}
 use Rattle.compaction.proofs.passes.last_tests.Goals as goal
 
 pub set_tests-requires-clause-width : goal.set_tests-requires-clause-width
 set_tests-requires-clause-width g c = c.in_ok-reversed.ensures.width
     ∙ (c.requires.width ∙ c.requires.job.width)
-
-pub returns-in_err-found-clause-refused : goal.returns-in_err-found-clause-refused
-returns-in_err-found-clause-refused g c =
-    let p = err_from_is_err_and c.from_residual-in_err-found.result
-    c.from_residual-in_err-found.ensures.1 in
-    let job = c.args.run.now.parts in
-    let passing = g.G.Gate.passing c.args.gate.now in
-    let stops = g.G.Gate.stops c.args.gate.now in
-    let given = subst (λ x. IsPartsFault x c.args.parts c.args.workers passing stops
-    c.in_err-found.field-0.0)
-    c.in_ok-set_tests.ensures.tests c.in_err-found.ensures.refused in
-    rw (p.1, p.2) (refused_alike job c.in_ok-reversed.reversed c.args.parts c.args.workers
-    passing stops c.in_err-found.field-0.0 c.requires.passing
-    (omega (arith, c.in_ok-reversed.ensures.count, c.requires.few)) given)
 
 pub returns-clause-last : goal.returns-clause-last
 returns-clause-last g c =

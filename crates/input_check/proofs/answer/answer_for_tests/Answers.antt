@@ -1,6 +1,5 @@
 use Rattle.std.proofs.Common.{◌≡◌, ◌∙◌, ◌*◌, ◌<◌, ◌≤◌, ap, length, subst}
-use Rattle.std.specs.Int.{div_ceil}
-use Rattle.patterns.specs.Tests.{blocks, max_pieces}
+use Rattle.patterns.specs.Tests.{max_pieces}
 use Rattle.block_sim.specs.Parts.{piece_count}
 use Rattle.input_check.proofs.JobsOfAnswers.{is_made, made_job}
 use Rattle.input_check.proofs.answer.answer_for_tests.Goals as goal
@@ -15,8 +14,7 @@ returns-in-Some c =
     let taken = c.count_tests-taken.ensures in
     let many : c.count_tests-taken.result.pieces ≡ piece_count job = taken.pieces
     ∙ (ap (λ k. k * c.count_tests-taken.result.blocks) classes.2
-    ∙ ap (λ k. length classes.0.representative * k) taken.blocks) in
-    let least = rw (taken.blocks) at c.in-Some.ensures.parts in (
+    ∙ ap (λ k. length classes.0.representative * k) taken.blocks) in (
       job,
       is_made m circuit classes.0 tests classes.1 c.requires,
       record {
@@ -24,10 +22,6 @@ returns-in-Some c =
         classes = c.in-Some.ensures.classes ∙ classes.2;
         blocks = c.in-Some.ensures.blocks ∙ taken.blocks;
         pieces = c.in-Some.ensures.pieces ∙ many;
-        parts = subst (λ k. k * blocks (length tests.tests) ≤ max_pieces)
-            (ap (λ k. div_ceil k c.in-Some.excess.parts) classes.2) least.0;
-        least = λ fewer first lt. subst (λ k. max_pieces < k * blocks (length tests.tests))
-            (ap (λ k. div_ceil k fewer) classes.2) (least.1 fewer first lt);
       },
     )
 
@@ -44,7 +38,7 @@ returns-in_ok-warnings_of-in-None c =
     ∙ ap (λ k. length classes.0.representative * k) taken.blocks) in (
       record {
         counts = c.in_ok-counts.ensures;
-        limits = c.limits_of.ensures;
+        most = c.tests_a_run.ensures;
         tests = taken;
       },
       job,

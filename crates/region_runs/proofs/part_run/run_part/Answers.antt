@@ -1,37 +1,16 @@
-use Rattle.std.proofs.Common.{◌≡◌, ◌<◌, ◌≤◌, ◌*◌, ◌∙◌, All, List, ap, get_or, length, map, subst}
-use Rattle.std.proofs.Common.{sym, ℕ}
+use Rattle.std.proofs.Common.{◌≡◌, ◌<◌, ◌∙◌, All, List, ap, get_or, length, map, subst, sym, ℕ}
 use Rattle.std.proofs.lemmas.Result.{err_from_is_err_and}
 use Rattle.fault_model.specs.Collapse.{Collapsed}
-use Rattle.patterns.specs.Tests.{TestList, blocks, max_pieces}
 use Rattle.region_runs.specs.declared.parts.PartVerdict.{PartVerdict}
 use Rattle.region_runs.specs.declared.parts.PartVerdict.TheVariants.{OtherPart}
 use Rattle.region_runs.specs.Part.{stretches_for}
 use Rattle.region_runs.specs.RunJobs.{RunParts}
 use Rattle.region_runs.proofs.FirstHits.{firsts_kept}
 use Rattle.region_runs.proofs.PartRefusals.{fitting_part_fault}
-use Rattle.region_runs.proofs.PartsInView.{large_part_fault, part_by_ledgers, part_in_view}
+use Rattle.region_runs.proofs.PartsInView.{part_by_ledgers, part_in_view}
 use Rattle.region_runs.proofs.PartsOfClasses.{part_verdict_there, part_verdicts, part_within}
 use Rattle.region_runs.proofs.PartsOfClasses.{verdicts_under}
 use Rattle.region_runs.proofs.part_run.run_part.Goals as goal
-
-pub returns-in_err-check_pieces_of-clause-refused :
-    goal.returns-in_err-check_pieces_of-clause-refused
-returns-in_err-check_pieces_of-clause-refused g c =
-    let job = c.args.run.now.parts in
-    let classes = c.in_ok-own.own.items in
-    let own = part_in_view c.job.result.now job c.args.parts c.args.part classes
-    c.job.ensures.circuit c.job.ensures.list c.job.ensures.classes c.in_ok-own.ensures in
-    let few = c.count_in-few.ensures.count
-    ∙ ap (λ (l : List ℕ). length l) c.as_slice.ensures.value in
-    let n = c.blocks-2.ensures
-    ∙ ap (λ (t : TestList). blocks (length t.tests)) c.tests.ensures.tests in
-    let p = err_from_is_err_and c.from_residual-in_err-check_pieces_of.result
-    c.from_residual-in_err-check_pieces_of.ensures.1 in
-    rw (p.1, p.2) (large_part_fault job c.args.parts c.args.part c.args.workers
-    c.count_in-few.result c.blocks-2.result classes (g.G.Gate.passing c.args.gate.now)
-    (g.G.Gate.stops c.args.gate.now) _ c.in_ok-check_workers.ensures.in_range.0
-    c.in_ok-check_workers.ensures.in_range.1 own few n
-    c.in_err-check_pieces_of.ensures.refused)
 
 pub run_list-requires-clause-within : goal.run_list-requires-clause-within
 run_list-requires-clause-within g c κs within =
@@ -93,25 +72,10 @@ returns-clause-verdicts g c =
     ∙ (ap (λ (l : List PartVerdict). map (λ class. get_or l class OtherPart)
     (c.job-job.result.now).classes.class_of) c.as_slice-4.ensures.value
     ∙ ap (λ (x : Collapsed). map (λ class. get_or table class OtherPart) x.class_of) same) in
-    let found = firsts_kept job classes firsts c.tests.ensures.together
+    let found = firsts_kept job classes firsts c.tests-tests.ensures.together
     (part_within job c.args.parts c.args.part classes own) c.in_ok-found.ensures.kept in
     part_verdicts job c.args.parts c.args.part classes firsts table c.in_ok-verdicts.verdicts.items
-    c.tests.ensures.together own found by is
-
-pub returns-clause-within : goal.returns-clause-within
-returns-clause-within g c =
-    let job = c.args.run.now.parts in
-    let classes = c.in_ok-own.own.items in
-    let own = part_in_view c.job.result.now job c.args.parts c.args.part classes
-    c.job.ensures.circuit c.job.ensures.list c.job.ensures.classes c.in_ok-own.ensures in
-    let few = c.count_in-few.ensures.count
-    ∙ ap (λ (l : List ℕ). length l) c.as_slice.ensures.value in
-    let n = c.blocks-2.ensures
-    ∙ ap (λ (t : TestList). blocks (length t.tests)) c.tests.ensures.tests in
-    let same : c.count_in-few.result * c.blocks-2.result
-    ≡ length classes * blocks (length job.tests.tests) =
-    ap (λ k. k * c.blocks-2.result) few ∙ ap (λ k. length classes * k) n in
-    (classes, own, subst (λ k. k ≤ max_pieces) same c.in_ok-check_pieces_of.ensures.few)
+    c.tests-tests.ensures.together own found by is
 
 pub returns-clause-ledgers : goal.returns-clause-ledgers
 returns-clause-ledgers g c =
@@ -141,5 +105,5 @@ returns-clause-ledgers g c =
     part_by_ledgers job c.args.parts c.args.part c.args.workers c.stretches_for-stretches.result
     classes firsts c.in_ok-verdicts.verdicts.items own stretches
     (λ i class first at v. part_verdict_there job classes firsts table
-    c.in_ok-verdicts.verdicts.items c.tests.ensures.together by is i class first at v)
+    c.in_ok-verdicts.verdicts.items c.tests-tests.ensures.together by is i class first at v)
     c.in_ok-found.ensures.ledgers

@@ -1,18 +1,19 @@
+use Rattle.std.proofs.Common.{subst}
 use Rattle.std.proofs.lemmas.Result.{err_from_is_err_and}
-use Rattle.region_runs.specs.Refused.{ArePartsWithin, IsPartsFault}
+use Rattle.region_runs.specs.Refused.{IsPartsFault}
 use Rattle.report.specs.EndToEnd.{IsJobReportFault, IsReportByLedgers, IsReportOfByLedgers}
-use Rattle.report.specs.EndToEnd.{IsWatchedFault, IsWithin}
-use Rattle.report.proofs.ReportsOfTexts.{ok_as, refused_as, written_as, written_of_texts}
-use Rattle.report.proofs.WatchedRuns.{split_fault, split_refused, split_within}
+use Rattle.report.specs.EndToEnd.{IsWatchedFault}
+use Rattle.report.proofs.ReportsOfTexts.{on_ok, refused_as, written_as, written_of_texts}
+use Rattle.report.proofs.WatchedRuns.{read_refused, run_refused}
 use Rattle.report.proofs.watched.simulate_text_watched.Goals as goal
 
 pub returns-in_err-run-clause-refused : goal.returns-in_err-run-clause-refused
 returns-in_err-run-clause-refused g c =
     let p = err_from_is_err_and c.from_residual.result
     c.from_residual.ensures.1 in
-    rw (p.1, p.2) (split_refused c.args.model c.args.bench.now c.args.tests.now c.args.split
-    c.args.workers (g.G.Gate.passing c.args.gate.now) (g.G.Gate.stops c.args.gate.now) _
-    c.in_err-run.ensures.refused)
+    rw (p.1, p.2) (read_refused c.args.model c.args.bench.now c.args.tests.now c.args.limit
+    c.args.stretches c.args.workers (g.G.Gate.passing c.args.gate.now)
+    (g.G.Gate.stops c.args.gate.now) _ c.in_err-run.ensures.refused)
 
 pub returns-clause-written : goal.returns-clause-written
 returns-clause-written g c =
@@ -23,36 +24,38 @@ returns-clause-written g c =
 pub returns-clause-ledgers : goal.returns-clause-ledgers
 returns-clause-ledgers g c =
     let job = c.in_ok-run.run'.parts in
-    let parts = c.in_ok-run.parts in
-    written_as (IsReportByLedgers job parts c.args.workers c.args.contents)
-    (IsReportOfByLedgers c.args.model c.args.bench.now c.args.tests.now c.args.split
+    written_as (IsReportByLedgers job c.stretches-parts.result c.args.workers c.args.contents)
+    (IsReportOfByLedgers c.args.model c.args.bench.now c.args.tests.now c.args.stretches
     c.args.workers c.args.contents)
     c.write_report_of_run.result _ _
-    (λ bytes by. (job, parts, c.in_ok-run.ensures.job, c.in_ok-run.ensures.parts, by))
+    (λ bytes by. (
+      job,
+      c.in_ok-run.ensures.job,
+      subst (λ n. IsReportByLedgers job n c.args.workers c.args.contents bytes)
+          c.stretches-parts.ensures.count by,
+    ))
     c.write_report_of_run.ensures.ledgers
 
 pub returns-clause-refused : goal.returns-clause-refused
 returns-clause-refused g c =
     let job = c.in_ok-run.run'.parts in
-    let parts = c.in_ok-run.parts in
     let passing = g.G.Gate.passing c.args.gate.now in
     let stops = g.G.Gate.stops c.args.gate.now in
     refused_as (IsJobReportFault c.args.workers
-    (IsPartsFault job parts c.args.workers passing stops))
-    (IsWatchedFault c.args.model c.args.bench.now c.args.tests.now c.args.split c.args.workers
-    passing stops)
-    c.write_report_of_run.result (split_fault c.args.model c.args.bench.now c.args.tests.now
-    c.args.split
-    parts c.args.workers passing stops job c.in_ok-run.ensures.job c.in_ok-run.ensures.parts)
+    (IsPartsFault job c.stretches-parts.result c.args.workers passing stops))
+    (IsWatchedFault c.args.model c.args.bench.now c.args.tests.now c.args.limit c.args.stretches
+    c.args.workers passing stops)
+    c.write_report_of_run.result
+    (λ f h. run_refused c.args.model c.args.bench.now c.args.tests.now c.args.limit
+    c.args.stretches c.args.workers passing stops job
+    (c.in_ok-run.ensures.job, c.in_ok-run.ensures.within) f
+    (subst (λ n. IsJobReportFault c.args.workers (IsPartsFault job n c.args.workers passing stops)
+    f) c.stretches-parts.ensures.count h))
     c.write_report_of_run.ensures.refused
 
 pub returns-clause-within : goal.returns-clause-within
 returns-clause-within g c =
-    let job = c.in_ok-run.run'.parts in
-    let parts = c.in_ok-run.parts in
-    ok_as (ArePartsWithin job parts)
-    (IsWithin c.args.model c.args.bench.now c.args.tests.now c.args.split)
-    c.write_report_of_run.result
-    (split_within c.args.model c.args.bench.now c.args.tests.now c.args.split parts c.args.workers
-    job c.in_ok-run.ensures.job c.in_ok-run.ensures.parts)
-    c.write_report_of_run.ensures.within
+    on_ok _ c.write_report_of_run.result (
+      c.in_ok-run.run'.parts,
+      (c.in_ok-run.ensures.job, c.in_ok-run.ensures.within),
+    )

@@ -1,7 +1,0 @@
-use Rattle.region_runs.proofs.PartRefusals.{parts_fault}
-use Rattle.region_runs.proofs.open_run.run_open.Goals as goal
-
-pub returns-in-Err-clause-refused : goal.returns-in-Err-clause-refused
-returns-in-Err-clause-refused g c =
-    parts_fault c.args.job.now c.parts_for-parts.result c.args.workers c.in-Err.fault
-    c.in-Err.ensures.refused
