@@ -5,6 +5,7 @@ import base64
 import gzip
 import re
 import sys
+from itertools import accumulate
 
 KINDS = "INPUT DFF AND NAND OR NOR XOR XNOR NOT BUFF".split()
 KINDS = {word: kind for kind, word in enumerate(KINDS)} | {"BUF": KINDS.index("BUFF")}
@@ -43,7 +44,7 @@ def column(numbers, differences=False):
 
 
 def circuit_of(path):
-    """The names of the signals, and columns of what they are and read."""
+    """The names of the signals, what the pins of each read, and columns of both."""
     names, lists, kinds, outs = [], [], [], []
     with open(path, encoding="latin-1", newline="\n") as file:
         for line in file:
@@ -58,12 +59,23 @@ def circuit_of(path):
             kinds.append(0 if name is None else KINDS[word])
             lists.append([] if name is None else [it.strip(" \t") for it in inside.split(",")])
     numbers = {name: number for number, name in enumerate(names)}
-    return names, {
+    return names, lists, {
         "kinds": column(kinds),
         "pins": column([len(it) for it in lists]),
         "args": column([numbers[it] for own in lists for it in own], differences=True),
         "outs": column([numbers[it] for it in outs], differences=True),
     }
+
+
+def blocking_of(rows, names, lists):
+    """Columns of the pins of all gates: how many faults each blocks, and under how many tests."""
+    starts = dict(zip(names, accumulate(map(len, lists), initial=0)))
+    count = sum(map(len, lists))
+    blocked, blocking = array.array("I", bytes(4 * count)), array.array("I", bytes(4 * count))
+    for gate, pin, _, _, faults, tests in rows:
+        place = starts[gate] + int(pin) - 1
+        blocked[place], blocking[place] = int(faults), int(tests)
+    return {"blocked": column(blocked), "blocking": column(blocking)}
 
 
 def bits_of(path, room):

@@ -38,8 +38,8 @@ const joined = (list, between) => list.flatMap((it, i) => (i ? [between, it] : [
 let report, simulator;
 const times = {};                              // in milliseconds, for measurements
 const NONE = { fault: -1, block: 0, own: false, query: "", state: "undetected", kind: undefined,
-  count: undefined, test: undefined, beside: undefined, collapsed: false, sort: "list",
-  descending: false };
+  count: undefined, test: undefined, beside: undefined, pin: undefined, collapsed: false,
+  sort: "list", descending: false };
 const chosen = { ...NONE };
 const FILTERS = Object.keys(NONE).filter((name) => name !== "fault");
 const opened = new Set([0]);                   // blocks whose parts the tree shows
@@ -56,6 +56,7 @@ function address() {
   for (const name of ["count", "test", "beside"]) {
     if (chosen[name] !== undefined) it.set(name, chosen[name]);
   }
+  if (chosen.pin !== undefined) it.set("pin", report.pins.text(chosen.pin));
   if (chosen.collapsed) it.set("collapsed", "1");
   if (chosen.sort !== "list") it.set("sort", (chosen.descending ? "-" : "") + chosen.sort);
   const text = it.toString();
@@ -79,6 +80,7 @@ function readAddress() {
     state: state < 0 ? noState : state,
     kind: kind < 0 ? undefined : kind,
     count: asNumber("count"), test: asNumber("test"), beside: asNumber("beside"),
+    pin: report.head.tests_kept ? report.pins?.find(it.get("pin") ?? "") : undefined,
     collapsed: it.has("collapsed"),
     sort: isColumn ? sort : NONE.sort,
     descending: isColumn && it.get("sort").startsWith("-"),
@@ -110,10 +112,11 @@ function choose(changes, step) {
   if (step) writeAddress.now(true);
   else writeAddress.soon();
   if (differs(["block", "own"])) drawBlocks();
+  if (differs(["pin"])) drawPin();
   if (differs(FILTERS)) drawFaults();
   if (differs(["fault"])) {
     drawDetail();
-    showRow();
+    faultGrid.mark(chosen.fault);
   }
 }
 

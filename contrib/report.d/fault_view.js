@@ -1,7 +1,8 @@
 // Draws the chosen fault: its facts, what the tests do with it, and where its effect stops.
 
-// The test of the values, the signal in the middle of the picture, and what scan found.
-const view = { fault: -1, test: -1, centre: -1, scan: null };
+// The test of the values, the signal in the middle of the picture, what scan found, and the test
+// under which the chosen pin blocks the fault.
+const view = { fault: -1, test: -1, centre: -1, scan: null, held: undefined };
 
 /** Other faults of the class of a fault, up to some. */
 function classMates(f, most) {
@@ -50,13 +51,17 @@ function factsOf(f) {
   ];
 }
 
-/** Simulates a fault for a moment, and chooses the test of its values. */
+/**
+ * Simulates a fault for a moment, and chooses the test of its values: if the chosen pin blocks it,
+ * one under which it does, with the gate of the pin in the middle.
+ */
 function begin(f) {
   const kept = report.head.tests_kept, first = report.first[f] - 1;
-  const scan = kept ? simulator.scan(f, 60) : null;
+  const scan = kept ? simulator.scan(f, 60) : null, held = blocked?.found.get(f);
   const best = scan && scan.best >= 0 ? scan.best : 0;
-  const test = !kept ? -1 : first >= 0 && first < kept ? first : best;
-  Object.assign(view, { fault: f, scan, centre: -1, test });
+  const test = !kept ? -1 : first >= 0 && first < kept ? first : held ?? best;
+  const centre = held === undefined ? -1 : blocked.gate;
+  Object.assign(view, { fault: f, scan, centre, test, held });
 }
 
 function drawDetail() {
@@ -72,7 +77,7 @@ function drawDetail() {
   const facts = factsOf(f);
   box.replaceChildren(make("h3", {}, report.faults.text(f)),
     make("dl", {}, ...facts.flatMap(([name, it]) => [make("dt", {}, name), make("dd", {}, it)])),
-    make("p", { id: "tests-of" }), make("p", { class: "links", id: "stops" }),
+    make("p", { id: "tests-of" }), make("p", { class: "links", id: "stops-of" }),
     make("p", { class: "tools" }, button("Copy link", (event) => copyLink(event.target)),
       button("Close", () => choose({ fault: -1 }, true))));
   const most = report.head.tests_kept - 1;
@@ -103,7 +108,8 @@ function scanOn() {
     if (view.fault !== fault || chosen.fault !== fault) return;
     const before = Math.max(scan.best, 0);
     simulator.scan(fault, 40, scan);
-    const isBetter = !report.first[fault] && scan.best > before && view.test === before;
+    const isOpen = !report.first[fault] && view.held === undefined;
+    const isBetter = isOpen && scan.best > before && view.test === before;
     if (isBetter) showTest(scan.best);
     else drawTestsOf();
     scanOn();
@@ -150,7 +156,7 @@ function drawAround() {
   const x = Number(middle.getAttribute("x")) + Number(middle.getAttribute("width")) / 2;
   $("picture").scrollLeft = x - $("picture").clientWidth / 2;
   drawTestsOf(values);
-  const stops = values && !values.seen ? stopsOf(values) : [];
+  const stops = values && !values.seen ? stopsOf(f, values) : [];
   const parts = joined(stops.slice(0, 6).map(([gate, held]) => {
     const pins = [...new Set(held)].map((s) => `${circuit.names[s]} = ${values.signal(s)[0]}`);
     const how = pins.length ? ` with ${pins.join(", ")}` : ": its changes cancel out";
@@ -159,7 +165,7 @@ function drawAround() {
     return make("span", {}, button(circuit.names[gate], go), ` (${kind}${how})`);
   }), ", ");
   const more = stops.length > 6 ? `, and ${stops.length - 6} more` : "";
-  $("stops").replaceChildren(...(parts.length ? ["The effect stops at: ", ...parts, more] : []));
+  $("stops-of").replaceChildren(...(parts.length ? ["The effect stops at: ", ...parts, more] : []));
 }
 
 function drawTestsOf(values = valuesUnder(chosen.fault, view.test)) {
@@ -171,7 +177,8 @@ function drawTestsOf(values = valuesUnder(chosen.fault, view.test)) {
 function testWords(values) {
   const { scan, test } = view, tests = report.head.sums.tests;
   const here = values.seen ? "detects the fault" : !values.active ? "doesn't activate the fault"
-    : `activates the fault and changes ${plural(values.reach, "signal")}, none of them observed`;
+    : values.reach ? `activates the fault and changes ${plural(values.reach, "signal")}, none of `
+      + "them observed" : "activates the fault and changes no signal";
   const isAll = scan.tried === tests;
   const of = `${isAll ? "all" : "the first"} ${plural(scan.tried, "test")}`;
   const { active, seen } = scan, verb = (n, word) => (n > 1 ? word : `${word}s`);
@@ -183,22 +190,23 @@ function testWords(values) {
   return `${all}${best} Test ${test} ${here}.`;
 }
 
-/** Gates that a changed value reaches and that don't change, each with the pins that hold it. */
-function stopsOf({ words, signal }) {
-  const { circuit } = report, stops = new Map();
-  const hold = (gate) => {
-    const kind = circuit.kinds[gate], low = kind === AND || kind === NAND ? 0 : 1;
-    if (kind === XOR || kind === XNOR) return [];
-    const holds = ([good, faulty]) => good === faulty && good === low;
-    return [...circuit.pins(gate)].filter((pin) => holds(signal(pin)));
+/** Gates with a changed pin that don't change, each with the pins that block the effect. */
+function stopsOf(f, { words, signal, pin }) {
+  const { circuit, faults } = report, stops = new Map();
+  const look = (gate) => {
+    if (circuit.kinds[gate] === DFF || stops.has(gate) || isChanged(signal(gate))) return;
+    const pins = [...circuit.pins(gate).keys()], value = controlling(circuit.kinds[gate]);
+    if (!pins.some((i) => isChanged(pin(gate, i)))) return;
+    const held = pins.filter((i) => pin(gate, i).every((it) => it === value));
+    stops.set(gate, held.map((i) => circuit.pins(gate)[i]));
   };
+  if (faults.kind(f) === PIN) look(faults.owner(f));
   for (const s of words.keys()) {
     if (!isChanged(signal(s))) continue;
     for (let i = circuit.readStarts[s]; i < circuit.readStarts[s + 1]; i++) {
-      const gate = circuit.readers[i];
-      if (circuit.kinds[gate] === DFF || stops.has(gate) || isChanged(signal(gate))) continue;
-      stops.set(gate, hold(gate));
+      look(circuit.readers[i]);
     }
   }
-  return [...stops];
+  // the gate of the chosen pin comes first
+  return [...stops].sort(([a], [b]) => (b === blocked?.gate) - (a === blocked?.gate));
 }

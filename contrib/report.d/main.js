@@ -37,7 +37,7 @@ const clear = () => {
 
 /** Saves the faults of the table. */
 function save() {
-  const url = URL.createObjectURL(new Blob([report.csv(listed)], { type: "text/csv" }));
+  const url = URL.createObjectURL(new Blob([report.csv(faultGrid.list)], { type: "text/csv" }));
   make("a", { href: url, download: `${report.head.title}-faults.csv` }).click();
   setTimeout(() => URL.revokeObjectURL(url), 1000);
 }
@@ -64,18 +64,11 @@ function listenFilters() {
   $("save").addEventListener("click", save);
 }
 
-function listenTable() {
-  let isDue = false;
-  $("rows").addEventListener("scroll", () => {
-    if (isDue) return;
-    isDue = true;
-    requestAnimationFrame(() => { isDue = false; drawRows(); });
-  }, { passive: true });
-  $("rows").addEventListener("wheel", rowsWheel, { passive: false });
-  $("grid").addEventListener("keydown", gridKey);
+function listenTables() {
   $("tree").addEventListener("keydown", treeKey);
   $("tree").tHead.addEventListener("click", sortTree);
   $("curve-log").addEventListener("change", drawCurve);
+  $("pins-all").addEventListener("click", showAllPins);
 }
 
 function listenWindow() {
@@ -96,14 +89,24 @@ function listenWindow() {
   addEventListener("resize", () => {
     if (innerWidth !== wide) { drawMap(); drawCurve(); }
     wide = innerWidth;
-    showRow();
+    faultGrid.mark(chosen.fault);
+    pinGrid?.drawRows();
   });
   addEventListener("beforeprint", drawPrinted);
-  addEventListener("afterprint", () => { $("printed").replaceChildren(); });
+  addEventListener("afterprint", () => {
+    for (const id of ["printed", "pins-printed"]) $(id).replaceChildren();
+  });
+}
+
+/** Paper has no scroll bars: it gets the first rows. */
+function drawPrinted() {
+  $("printed").replaceChildren(...faultGrid.printed(200, "fault"));
+  if (pinGrid) $("pins-printed").replaceChildren(...pinGrid.printed(50, "pin"));
 }
 
 function drawChosen() {
   drawBlocks();
+  drawPin();
   drawDetail();
   drawFaults();
 }
@@ -125,10 +128,6 @@ async function readData() {
     [name, numbersOf(columns[i], head.columns[name])])));
   simulator = new Simulator(report, bits);
   document.body.classList.toggle("compared", report.other !== undefined);
-  if (report.placeOf) {
-    COLUMNS.push(PLACE);
-    document.body.classList.add("placed");
-  }
   times.read = performance.now();
 }
 
@@ -137,6 +136,8 @@ async function start() {
   await readData();
   document.body.classList.add("ready");
   $("loading").hidden = true;
+  makeFaultGrid();
+  makePinGrid();
   readAddress();
   drawWarnings();
   drawCurve();
@@ -144,9 +145,10 @@ async function start() {
   drawKinds();
   drawBeside();
   drawBlockNotes();
+  drawPins();
   drawChosen();
   listenFilters();
-  listenTable();
+  listenTables();
   listenWindow();
   if (chosen.fault >= 0) $("faults").scrollIntoView();
   times.drawn = performance.now();

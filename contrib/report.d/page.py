@@ -5,12 +5,13 @@ import json
 import os
 import re
 
-from columns import bits_of, circuit_of, column, packed
+from columns import bits_of, blocking_of, circuit_of, column, packed
 from places import Places
 from results import Failed, Results
 
-SCRIPTS = ("circuit", "blocks", "result", "simulator", "elements", "block_view", "test_view",
-           "table_view", "fault_view", "schematic", "main")
+SCRIPTS = ("circuit", "blocks", "result", "simulator", "pins", "elements", "grid", "block_view",
+           "test_view", "table_view", "pin_view", "fault_view", "schematic", "main")
+PLAIN_PINS = 20                 # the rows of the table of pins without JavaScript
 
 
 def share(part, whole):
@@ -104,7 +105,7 @@ def inlined(name, values):
 
 def data_of(given, results):
     """The data of the page: the head, and texts by name."""
-    names, columns = circuit_of(given.bench)
+    names, lists, columns = circuit_of(given.bench)
     columns |= {"first": column(results.first), "reason": column(results.reasons),
                 "count": column(results.counts),
                 "class": column(results.classes, differences=True)}
@@ -117,13 +118,17 @@ def data_of(given, results):
         pairs = [(bool(a), bool(b)) for a, b in zip(results.first, results.other)]
         beside = (os.path.basename(given.beside), pairs.count((True, False)),
                   pairs.count((False, True)))
+    if results.pins is not None:
+        columns |= blocking_of(results.pins, names, lists)
     kept = bits_of(given.tests, int(given.values * 1e6))
     texts = {"names": "\n".join(names).encode("latin-1"), "tests": b"".join(kept),
              "places": "\n".join(places).encode()}
     blobs = {name: it.pop("data") for name, it in columns.items()}
     blobs |= {name: packed(text) for name, text in texts.items()}
+    # (without its time, so that the same files make the same page)
+    sums = {name: it for name, it in results.sums.items() if name not in ("workers", "seconds")}
     head = {
-        "sums": results.sums, "warnings": results.warnings, "title": title_of(given),
+        "sums": sums, "warnings": results.warnings, "title": title_of(given),
         "separator": given.separator, "detections": given.detections, "tests_kept": len(kept),
         "files": [os.path.basename(it) for it in (given.bench, given.tests)],
         "map": os.path.basename(path) if path else None, "beside": beside and beside[0],
@@ -132,9 +137,27 @@ def data_of(given, results):
     return head, blobs, figures(results.sums, beside)
 
 
+def plain_pins(pins):
+    """The first pins that block effects as a part of the page without JavaScript."""
+    if pins is None:
+        return ""
+    kinds = ("", " class=num", "", *3 * [" class=num"])
+    heads = "".join(f"<th{kind}>{it}</th>"
+                    for kind, it in zip(kinds, "Gate Pin Net Value Faults Tests".split()))
+    table = "".join("<tr>" + "".join(f"<td{kind}>{html.escape(it)}</td>"
+                                     for kind, it in zip(kinds, row)) + "</tr>"
+                    for row in pins[:PLAIN_PINS])
+    what = (f"The first {PLAIN_PINS} of {many(len(pins), 'pin')}" if len(pins) > PLAIN_PINS
+            else many(len(pins), "pin"))
+    return ('<noscript><section><h2>Where effects stop</h2><div class="scroll"><table>'
+            f"<caption>{what} that block effects of undetected faults</caption>"
+            f"<thead><tr>{heads}</tr></thead><tbody>{table}</tbody></table></div></section>"
+            "</noscript>")
+
+
 def page_of(given, program, folder):
     """The text of the page."""
-    results = Results(given, program)
+    results = Results(given, program, map_of(given) is not None)
     head, blobs, shown = data_of(given, results)
     sums = results.sums
     proved = "" if sums["proved"] else " (unproved)"
@@ -147,6 +170,7 @@ def page_of(given, program, folder):
         # "<" in a string of JSON can't end the script so
         "HEAD": json.dumps(head, separators=(",", ":")).replace("<", "\\u003c"),
         "DATA": data, "TITLE": html.escape(head["title"]), "FIGURES": shown,
+        "PINS": plain_pins(results.pins),
         "ABOUT": html.escape(about), "STYLE": inlined(f"{folder}/page.css", {}),
         "SCRIPT": scripts,
     })

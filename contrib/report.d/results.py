@@ -11,6 +11,7 @@ import tempfile
 
 HERE = os.path.dirname(os.path.realpath(__file__))
 REASONS = {"no path": 0, "not activated": 1, "not observed": 2}
+WRONG_CALL = 2                  # the status of faultsim for an option that it doesn't have
 
 
 class Failed(Exception):
@@ -66,17 +67,18 @@ def line_text(row):
 
 
 class Results:
-    """What faultsim reports: columns of numbers, sums and warnings."""
+    """What faultsim reports: columns of numbers, sums and warnings, and with `lines` the lines."""
 
-    def __init__(self, given, program):
+    def __init__(self, given, program, lines):
         model = ["--model", given.model]
         self.runs = ["--parts", "auto"]
         self.runs += ["--workers", given.workers] if given.workers else []
         self.inputs = ["--bench", given.bench, "--tests", given.tests, *model]
-        self.program = program
+        self.program, self.lines_of = program, [] if lines else None
         self.warnings = self.read_check()["warnings"]
         self.read_table(given.detections)
         self.other = self.first_of(given.beside, model) if given.beside else None
+        self.pins = self.read_blocking()
 
     def read_check(self):
         """The object of `check`, which ends this program if a file has an error."""
@@ -84,9 +86,9 @@ class Results:
         return json.loads("\n".join(call(words)))
 
     def read_table(self, most):
-        """The lines of all faults, first tests, reasons, classes and counts, and the sums."""
+        """First tests, reasons, classes and counts of all faults, and the sums."""
         self.first, self.classes = array.array("I"), array.array("I")
-        self.counts, self.reasons, self.lines_of = array.array("B"), bytearray(), []
+        self.counts, self.reasons = array.array("B"), bytearray()
         with tempfile.TemporaryDirectory(prefix="report-") as room:
             options = ["--why", "--classes", "--format", "csv", "--summary", f"{room}/sums"]
             if most > 1:  # up to 1 the first tests are enough
@@ -99,13 +101,24 @@ class Results:
     def read_row(self, row):
         """The row of a fault."""
         kind, name, pin, _, first, _, reason, *count, number = row
-        if len(self.first) % 2 == 0:
+        if self.lines_of is not None and len(self.first) % 2 == 0:
             self.lines_of.append((line_text(row), kind, pin if kind == "out" else name))
         self.first.append(int(first) + 1 if first else 0)
         self.classes.append(int(number))
         self.counts.append(int(count[0]) if count else 1 if first else 0)
         if not first:
             self.reasons.append(REASONS[reason])
+
+    def read_blocking(self):
+        """The rows of the pins that block effects of undetected faults: gate, pin, net, value,
+        faults and tests. None if this faultsim is too old for it."""
+        words = ["run", *self.inputs, *self.runs, "--blocking", "--format", "csv"]
+        try:
+            return list(rows([self.program, *words]))
+        except Failed as failure:
+            if failure.status != WRONG_CALL:
+                raise
+            return None
 
     def first_of(self, tests, model):
         """The first of other tests that detect each fault, from 1, or 0."""

@@ -1,9 +1,34 @@
 // Simulates one fault, 32 tests at a time: for the values in the picture of a fault.
 
+/** A map of signals to words that is cleared at once, and used many times. */
+class Words {
+  constructor(count) {
+    this.words = new Int32Array(count);
+    this.stamps = new Int32Array(count);
+    this.stamp = 1;
+  }
+
+  clear() { this.stamp++; }
+  has(s) { return this.stamps[s] === this.stamp; }
+  get(s) { return this.stamps[s] === this.stamp ? this.words[s] : undefined; }
+  add(s) { this.stamps[s] = this.stamp; }
+
+  set(s, word) {
+    this.stamps[s] = this.stamp;
+    this.words[s] = word;
+  }
+}
+
 /** The places of gates that wait, in the order of evaluation: a heap, each place once. */
 class Waiting {
-  constructor() { this.heap = []; this.queued = new Set(); }
+  /** `queued` is a set of places, without any. */
+  constructor(queued = new Set()) { Object.assign(this, { heap: [], queued }); }
   get length() { return this.heap.length; }
+
+  clear() {
+    this.heap.length = 0;
+    this.queued.clear();
+  }
 
   push(place) {
     const { heap } = this;
@@ -34,9 +59,11 @@ class Simulator {
     const { circuit, head } = report;
     Object.assign(this, { report, bits, circuit, tests: head.tests_kept, cache: new Map() });
     this.size = (this.circuit.sources.length + 7) >> 3;
+    // the blocks that are kept: 64 MB of words
+    this.room = Math.max(Math.floor(16e6 / this.circuit.count), 1);
   }
 
-  /** The fault-free words of a block. The last few blocks are kept. */
+  /** The fault-free words of a block. */
   good(block) {
     let words = this.cache.get(block);
     if (words) return words;
@@ -58,7 +85,7 @@ class Simulator {
       else while (++i < end) word ^= words[args[i]];
       words[s] = INVERTS[kind] ? ~word : word;
     }
-    if (this.cache.size > 64) this.cache.clear();
+    if (this.cache.size >= this.room) this.cache.clear();
     this.cache.set(block, words);
     return words;
   }
@@ -97,16 +124,16 @@ class Simulator {
     };
     const owner = faults.owners[line], stuck = good[faults.nets[line]] ^ active;
     if (kind === STEM) change(owner, stuck);
-    else change(owner, this.#faulty(owner, good, words, faults.pins[line] - 1, stuck));
+    else change(owner, this.faulty(owner, good, words, faults.pins[line] - 1, stuck));
     while (waiting.length) {
       const s = circuit.order[waiting.pop()];
-      change(s, this.#faulty(s, good, words, -1, 0));
+      change(s, this.faulty(s, good, words));
     }
     return { active, seen, reach, words };
   }
 
   /** The word of a gate whose pins have faulty words, if there are any; pin `own` has `other`. */
-  #faulty(s, good, words, own, other) {
+  faulty(s, good, words, own = -1, other = 0) {
     const { args, firsts, kinds } = this.circuit, from = firsts[s], end = firsts[s + 1];
     const kind = kinds[s];
     const at = (i) => (i === from + own ? other : words.get(args[i]) ?? good[args[i]]);

@@ -1,16 +1,9 @@
-// Draws the table of faults. Only the rows in view exist.
+// Draws the table of faults: its columns, its filters, and what they show.
 
-const ROW = 28;                                // the height of a row, as in page.css
-const MOST = 12e6;                             // the height of an element that browsers can have
-let listed = new Uint32Array(0), rowOf = null; // the faults of the table, and their rows
+let faultGrid;                                 // the table
 
 const isMost = (f) => report.counts[f] === report.head.detections;
 const countWords = (f) => (isMost(f) ? "≥ " : "") + report.counts[f];
-
-/** A cell that is cut at its left: the end of a name says more. */
-const nameCell = (text, title) => make("span", { class: "mono", title },
-  make("bdi", { dir: "ltr" }, text));
-const numberCell = (text) => make("span", { class: "num" }, text);
 
 const COLUMNS = [
   { by: "name", title: "Fault", cell: (f) => nameCell(report.faults.text(f), lineWords(f)) },
@@ -21,11 +14,13 @@ const COLUMNS = [
   { by: "state", title: "State", cell: (f) => make("span", {},
     make("span", { class: "sign", "aria-hidden": "true" }, SIGNS[report.states[f]]),
     STATES[report.states[f]]) },
-  { by: "first", title: "First", hint: "the first test that detects the fault",
+  { by: "first", title: "First", hint: "the first test that detects the fault", isNumber: true,
     cell: (f) => numberCell(report.first[f] ? number(report.first[f] - 1) : "–") },
   { by: "count", title: "Tests", hint: "the number of tests that detect the fault",
+    isNumber: true, isCount: true,
     cell: (f) => numberCell(countWords(f)) },
   { by: "size", title: "Class", hint: "the number of faults in its equivalence class",
+    isNumber: true, isCount: true,
     cell: (f) => numberCell(report.sizes[report.classes[f]]) },
 ];
 // the column of a page with a map
@@ -42,23 +37,6 @@ function lineWords(f) {
     case OUT: return `output ${pin}, which observes ${net}`;
     default: return `signal ${net}, with all pins that read it`;
   }
-}
-
-/** A click on a head sorts: a first click, the other way, and the order of the list again. */
-function sortBy(by) {
-  const isCount = ["count", "size"].includes(by), { sort, descending } = chosen;
-  if (sort !== by) choose({ sort: by, descending: isCount });
-  else if (descending === isCount) choose({ descending: !isCount });
-  else choose({ sort: "list", descending: false });
-  $("columns").querySelectorAll("button")[COLUMNS.findIndex((it) => it.by === by)].focus();
-}
-
-function drawHead() {
-  const way = chosen.descending ? "descending" : "ascending";
-  $("columns").replaceChildren(...COLUMNS.map(({ by, title, hint }) => make("span", {
-    role: "columnheader", class: ["first", "count", "size"].includes(by) ? "num" : "",
-    "aria-sort": chosen.sort === by ? way : "none" },
-  button(title, () => sortBy(by), { title: hint }))));
 }
 
 /** What is filtered by other parts of the page, each with a button that ends it. */
@@ -78,6 +56,7 @@ function drawChips() {
   if (beside !== undefined && report.other) {
     chip(`${BESIDE[beside] ?? "?"}, beside ${head.beside}`, { beside: undefined });
   }
+  if (blocked) chip(pinWords(chosen.pin), { pin: undefined });
   $("chips").replaceChildren(...chips);
 }
 
@@ -90,96 +69,23 @@ function drawFilters() {
 }
 
 function drawFaults() {
-  const began = performance.now(), view = $("rows");
-  listed = report.filter(chosen);
-  if (chosen.sort !== "list") report.sort(listed, chosen.sort, chosen.descending);
-  rowOf = null;
+  const began = performance.now();
+  const list = report.filter({ ...chosen, blocked: blockedFaults() });
+  if (chosen.sort !== "list") report.sort(list, chosen.sort, chosen.descending);
   drawFilters();
-  drawHead();
-  const height = `${Math.min(listed.length * ROW, MOST)}px`;
-  $("grid").setAttribute("aria-rowcount", listed.length + 1);
-  $("spacer").style.height = height;
-  view.style.setProperty("--needs", height);
-  view.scrollTop = 0;
-  showRow();
-  $("found").textContent = `${number(listed.length)} of ${plural(report.faults.count, "fault")}`;
+  faultGrid.on = chosen.fault;
+  faultGrid.show(list);
+  $("found").textContent = `${number(list.length)} of ${plural(report.faults.count, "fault")}`;
   times.filter = performance.now() - began;
 }
 
-/** The row of a fault in the table, or -1. */
-function rowIn(f) {
-  if (f < 0) return -1;
-  if (!rowOf) {
-    rowOf = new Int32Array(report.faults.count).fill(-1);
-    listed.forEach((it, row) => { rowOf[it] = row; });
+/** Makes the table, once the data is there. */
+function makeFaultGrid() {
+  if (report.placeOf) {
+    COLUMNS.push(PLACE);
+    document.body.classList.add("placed");
   }
-  return rowOf[f];
-}
-
-/** By how much the list is longer than its scroll bar, if it is too long for a browser. */
-function stretch(view) {
-  const all = listed.length * ROW;
-  return all > MOST ? (all - view.clientHeight) / (MOST - view.clientHeight) : 1;
-}
-
-function drawRows() {
-  const view = $("rows"), top = view.scrollTop * stretch(view), first = Math.floor(top / ROW);
-  const end = Math.min(first + Math.ceil(view.clientHeight / ROW) + 5, listed.length), made = [];
-  for (let i = Math.max(first - 4, 0); i < end; i++) {
-    const f = listed[i], on = f === chosen.fault;
-    const cells = COLUMNS.map(({ cell }) => cell(f));
-    cells.forEach((it) => it.setAttribute("role", "gridcell"));
-    made.push(make("div", { role: "row", class: `row${on ? " on" : ""}`, id: `row-${i}`,
-      "aria-rowindex": i + 2, "aria-selected": on,
-      style: `transform:translateY(${view.scrollTop + i * ROW - top}px)`,
-      onclick: () => choose({ fault: f }, true) }, ...cells));
-  }
-  if (!listed.length) made.push(make("p", { class: "note" }, "No fault fits."));
-  $("spacer").replaceChildren(...made);
-  const at = rowIn(chosen.fault), isDrawn = at >= 0 && $(`row-${at}`);
-  if (isDrawn) $("grid").setAttribute("aria-activedescendant", `row-${at}`);
-  else $("grid").removeAttribute("aria-activedescendant");
-}
-
-/** Scrolls so that the row of the chosen fault is in view, and draws the rows. */
-function showRow() {
-  const view = $("rows"), at = rowIn(chosen.fault);
-  if (at >= 0) {
-    const top = view.scrollTop * stretch(view), room = view.clientHeight - ROW;
-    if (at * ROW < top) view.scrollTop = at * ROW / stretch(view);
-    else if (at * ROW > top + room) view.scrollTop = (at * ROW - room) / stretch(view);
-  }
-  drawRows();
-}
-
-/** Keys in the table choose a fault. */
-function gridKey(event) {
-  if (event.target !== $("grid") || !listed.length) return;
-  const page = Math.floor($("rows").clientHeight / ROW) - 1, at = rowIn(chosen.fault);
-  const to = { ArrowDown: at + 1, ArrowUp: at - 1, PageDown: at + page, PageUp: at - page,
-    Home: 0, End: listed.length - 1 }[event.key];
-  if (to === undefined) return;
-  event.preventDefault();
-  choose({ fault: listed[Math.min(Math.max(to, 0), listed.length - 1)] });
-}
-
-/** A list that is longer than its scroll bar moves by pixels nevertheless. */
-function rowsWheel(event) {
-  const view = $("rows"), longer = stretch(view);
-  if (longer <= 1 || event.ctrlKey || !event.deltaY) return;
-  event.preventDefault();
-  const step = event.deltaY * [1, ROW, view.clientHeight][event.deltaMode] / longer;
-  view.scrollTop += Math.sign(step) * Math.max(Math.abs(step), 1);
-}
-
-/** Paper has no scroll bars: it gets the first rows. */
-function drawPrinted() {
-  const rows = [...listed.subarray(0, 200)].map((f) => make("tr", {},
-    ...COLUMNS.map(({ cell }) => make("td", {}, cell(f).textContent))));
-  const heads = COLUMNS.map(({ title }) => make("th", {}, title));
-  const isCut = listed.length > rows.length;
-  const note = isCut ? `The first ${rows.length} of ${plural(listed.length, "fault")}.` : "";
-  $("printed").replaceChildren(make("table", { class: "plain" },
-    make("thead", {}, make("tr", {}, ...heads)), make("tbody", {}, ...rows)),
-  make("p", { class: "quiet" }, note));
+  faultGrid = new Grid($("grid"), { columns: COLUMNS, items: report.faults.count,
+    none: "No fault fits.", order: () => chosen, reorder: choose,
+    move: (fault) => choose({ fault }), pick: (fault) => choose({ fault }, true) });
 }

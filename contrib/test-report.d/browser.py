@@ -24,12 +24,67 @@ def found():
     return next(filter(None, map(shutil.which, NAMES)), None)
 
 
+def clean(room):
+    """Removes a folder, to which a browser that ends may still write."""
+    for _ in range(20):
+        try:
+            room.cleanup()
+            return
+        except OSError:
+            time.sleep(0.1)
+
+
 class Unavailable(Exception):
     """The browser doesn't start."""
 
 
-class Browser:
-    """One page of a browser of its own. Answers come in order; events are kept."""
+class Page:
+    """A page of a browser, which has `run`, `navigate`, `key`, and `press` for the mouse."""
+
+    def wait(self, script, seconds=10):
+        """Waits until an expression is true."""
+        until = time.monotonic() + seconds
+        while not self.run(script):
+            if time.monotonic() > until:
+                raise TimeoutError(f"not in {seconds} s: {script}")
+            time.sleep(0.02)
+
+    def open(self, path, fragment=""):
+        """Opens a page, and waits until all is drawn."""
+        self.navigate("about:blank")
+        self.navigate(f"file://{os.path.realpath(path)}{fragment}")
+        self.wait(DRAWN, 30)
+
+    def type(self, text):
+        """Types a text."""
+        for letter in text:
+            self.key(None, letter)
+
+    def box(self, selector):
+        """Where an element is in the window, after it is scrolled into view."""
+        return self.run(f"""(() => {{
+          const it = document.querySelector({json.dumps(selector)});
+          it.scrollIntoView({{ block: 'center', behavior: 'instant' }});
+          const b = it.getBoundingClientRect();
+          return [b.x, b.y, b.width, b.height];
+        }})()""")
+
+    def place(self, selector, share):
+        """A place in an element: the middle of its height, a share of its width."""
+        x, y, width, height = self.box(selector)
+        return x + share * width, y + height / 2
+
+    def move(self, selector, share=0.5):
+        """Moves the mouse over an element, to a share of its width."""
+        self.press(*self.place(selector, share), is_click=False)
+
+    def click(self, selector):
+        """Clicks into the middle of an element."""
+        self.press(*self.place(selector, 0.5), is_click=True)
+
+
+class Browser(Page):
+    """One page of a Chromium of its own. Answers come in order; events are kept."""
 
     def __init__(self, seconds=60):
         self.seconds, self.number, self.rest, self.events = seconds, 0, b"", []
@@ -83,12 +138,7 @@ class Browser:
         self.process.wait()
         os.close(self.out)
         os.close(self.into)
-        for _ in range(20):
-            try:
-                self.room.cleanup()
-                return
-            except OSError:
-                time.sleep(0.1)
+        clean(self.room)
 
     def message(self, until):
         """The next message of the browser."""
@@ -133,19 +183,9 @@ class Browser:
             raise RuntimeError(thrown.get("description", "an exception"))
         return it["result"].get("value")
 
-    def wait(self, script, seconds=10):
-        """Waits until an expression is true."""
-        until = time.monotonic() + seconds
-        while not self.run(script):
-            if time.monotonic() > until:
-                raise TimeoutError(f"not in {seconds} s: {script}")
-            time.sleep(0.02)
-
-    def open(self, path, fragment=""):
-        """Opens a page, and waits until all is drawn."""
-        self.send("Page.navigate", url="about:blank")
-        self.send("Page.navigate", url=f"file://{os.path.realpath(path)}{fragment}")
-        self.wait(DRAWN, 30)
+    def navigate(self, url):
+        """Opens an address."""
+        self.send("Page.navigate", url=url)
 
     def key(self, name, text=None):
         """Presses a key as a user does."""
@@ -158,32 +198,11 @@ class Browser:
         code.pop("text", None)
         self.send("Input.dispatchKeyEvent", type="keyUp", **code)
 
-    def type(self, text):
-        """Types a text."""
-        for letter in text:
-            self.key(None, letter)
-
-    def box(self, selector):
-        """Where an element is in the window, after it is scrolled into view."""
-        return self.run(f"""(() => {{
-          const it = document.querySelector({json.dumps(selector)});
-          it.scrollIntoView({{ block: 'center', behavior: 'instant' }});
-          const b = it.getBoundingClientRect();
-          return [b.x, b.y, b.width, b.height];
-        }})()""")
-
-    def move(self, selector, share=0.5):
-        """Moves the mouse over an element, to a share of its width."""
-        x, y, width, height = self.box(selector)
-        place = {"x": x + share * width, "y": y + height / 2}
-        self.send("Input.dispatchMouseEvent", type="mouseMoved", **place)
-        return place
-
-    def click(self, selector):
-        """Clicks into the middle of an element."""
-        place = {**self.move(selector), "button": "left", "clickCount": 1}
-        for kind in ("mousePressed", "mouseReleased"):
-            self.send("Input.dispatchMouseEvent", type=kind, **place)
+    def press(self, x, y, is_click):
+        """Moves the mouse to a place, and clicks there."""
+        self.send("Input.dispatchMouseEvent", type="mouseMoved", x=x, y=y)
+        for kind in ("mousePressed", "mouseReleased") if is_click else ():
+            self.send("Input.dispatchMouseEvent", type=kind, x=x, y=y, button="left", clickCount=1)
 
     def window(self, width, height, dark=False, media=""):
         """Sets the size of the window, the theme of the system, and 'print' for paper."""

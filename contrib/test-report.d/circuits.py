@@ -3,6 +3,7 @@
 import lzma
 import os
 import random
+import re
 import subprocess
 import sys
 
@@ -11,12 +12,13 @@ BENCH = f"{HERE}/../../bench"
 MODELS = ("stuck", "transition", "transition-pairs")
 ALL_MODELS = ("c17", "odd", "random")   # the circuits that are tried under each model
 MOST = "4"                      # --detections of the pages
+LISTED = "[...faultGrid.list].map((f) => report.faults.text(f))"
 DEEP = ".".join("abcdefghij" * 10)
 WIDE = ",".join(f"w[{at}]" for at in range(60))
 # Names that HTML, CSV and a link can take for something else; a name that INPUT and OUTPUT lines
 # have; several OUTPUT lines of a signal; pins that read a signal twice; a flip-flop of a flip-flop;
-# logic without an output; a name of a hundred parts; a line that ends in CR LF; a comment that isn't
-# ASCII.
+# logic without an output; a name of a hundred parts; a line that ends in CR LF; a comment that
+# isn't ASCII.
 ODD = f"""# odd.bench
 input( a ) # a
 INPUT(u1.b[0])
@@ -109,6 +111,20 @@ def texts():
         "random": (cell, random_tests(29, 100)),
         "simpleuart": (uart, tests_of("simpleuart", uart, 1000)),
     }
+
+
+def statements(bench):
+    """The inputs, the observed signals, and the kind and pins that drive each other signal."""
+    inputs, outs, drivers = [], [], {}
+    for line in bench.splitlines():
+        line = line.partition("#")[0].replace(" ", "").replace("\t", "")
+        if "=" in line:
+            name, kind, pins = re.fullmatch(r"(.*)=(\w+)\((.*)\)", line).groups()
+            drivers[name] = kind.upper(), pins.split(",")
+        elif line:
+            is_out = line.upper().startswith("OUTPUT(")
+            (outs if is_out else inputs).append(line[line.index("(") + 1:-1])
+    return inputs, outs, drivers
 
 
 class Case:

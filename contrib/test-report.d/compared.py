@@ -7,7 +7,8 @@ import sys
 from collections import Counter
 from concurrent.futures import ThreadPoolExecutor
 
-from circuits import ALL_MODELS, MODELS, MOST, Case, design, put, same, tests_of, texts
+from circuits import (ALL_MODELS, LISTED, MODELS, MOST, Case, design, put, same, statements,
+                      tests_of, texts)
 
 MADE = """(() => {
   const { faults, states, first, counts, classes, curve, histogram, head, circuit } = report;
@@ -107,15 +108,7 @@ def compare_lanes(page, case):
 
 def blocks_of(bench):
     """The block of each signal by the words of blocks.js, in another way: as a tuple of parts."""
-    drivers, outs, inputs = {}, [], []
-    for line in bench.splitlines():
-        line = line.partition("#")[0].replace(" ", "").replace("\t", "")
-        if "=" in line:
-            name, kind, pins = re.fullmatch(r"(.*)=(\w+)\((.*)\)", line).groups()
-            drivers[name] = kind.upper(), pins.split(",")
-        elif line:
-            is_out = line.upper().startswith("OUTPUT(")
-            (outs if is_out else inputs).append(line[line.index("(") + 1:-1])
+    inputs, outs, drivers = statements(bench)
     readers, memo = {}, {}
     for name, (_, pins) in drivers.items():
         for pin in pins:
@@ -255,10 +248,14 @@ def try_places(page, tools):
     facts = page.run("factsOf(report.faults.find('stem n1 sa0')).slice(0, 2)")
     same(facts[1], ["design", "u/g1/Y (INV x.v:5), u/g2/B (AND x.v:6)"], "cells: a place")
     page.open("cells-stuck.html", "#q=u/g2/a&state=all")
-    same(page.run("[...listed].map((f) => report.faults.text(f))"), ["pin z 1 sa0", "pin z 1 sa1"],
-         "cells: faults of a pin")
-    same(page.run("report.csv(listed).split('\\n')[1].split(',').at(-1)"), "u/g2/A (AND x.v:6)",
-         "cells: the saved place")
+    same(page.run(LISTED), ["pin z 1 sa0", "pin z 1 sa1"], "cells: faults of a pin")
+    same(page.run("report.csv(faultGrid.list).split('\\n')[1].split(',').at(-1)"),
+         "u/g2/A (AND x.v:6)", "cells: the saved place")
+    # (a = 0, n1 = 1: pin n1 1 stuck at 1 changes n1, and a holds z)
+    page.open("cells-stuck.html")
+    pins = page.run("[...document.querySelectorAll('#pin-rows .row')].map((row) =>"
+                    "[0, 2, 3].map((at) => row.children[at].textContent))")
+    same(pins, [["z", "u/g2/A (AND x.v:6)", "1"]], "cells: the place of a pin")
     page.open("rtl-stuck.html")
     place = "report.place(report.faults.find('%s'))"
     for fault, wanted in (("stem n1 sa0", "block u1, top.v:7, feeds u1.z"),
@@ -301,11 +298,10 @@ def try_beside(page, tools):
     same(rows, [f"{len(it):,}" for it in wanted], "beside: sums")
     card = page.run("document.querySelector('.card:last-child b').textContent")
     same(card, f"+{len(gained):,} −{len(lost):,}", "beside: the card")
-    shown = "[...listed].map((f) => report.faults.text(f))"
     for row, names in ((1, gained), (2, lost)):
         page.click(f"#beside-table tbody tr:nth-child({row}) button")
-        page.wait(f"listed.length === {len(names)}")
-        same(page.run(shown), names, "beside: faults")
+        page.wait(f"faultGrid.list.length === {len(names)}")
+        same(page.run(LISTED), names, "beside: faults")
     blocks = page.run("""report.blocks.paths.map((path, node) => {
       const { gained, lost } = report.of(node, true);
       return [path, gained, lost];

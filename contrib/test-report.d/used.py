@@ -6,11 +6,15 @@ import re
 import time
 from concurrent.futures import ThreadPoolExecutor
 
-from circuits import MANY_PINS, Case, design, generated, put, random_tests, same, tests_of
+from circuits import (MANY_PINS, Case, design, generated, put, random_tests, same, tests_of,
+                      texts)
+from compared import compare
+from stops import Stops, program_rows
 
 ROWS = """[...document.querySelectorAll("#rows [role=row]")]
   .map((it) => it.firstChild.textContent)"""
 FOUND = "document.querySelector('#found').textContent"
+OWNERS = "[...faultGrid.list].map((f) => report.circuit.names[report.faults.owner(f)])"
 CHOSEN = "report.faults.text(chosen.fault)"
 INSIDE = """(() => {
   const a = document.querySelector("#rows .on").getBoundingClientRect();
@@ -43,6 +47,19 @@ CONTRAST = """(() => {
   }
   return low;
 })()"""
+# cells of the tables that are outside of their rows or have too little room: a name has 80 pixels
+CELLS = """[...document.querySelectorAll("#rows .row > *, #pin-rows .row > *")].filter((it) => {
+  const isName = it.firstElementChild?.tagName === "BDI", end = it.getBoundingClientRect().bottom;
+  return it.getClientRects().length && (end > it.parentNode.getBoundingClientRect().bottom + 1
+    || (isName ? it.clientWidth < 80 : it.scrollWidth > it.clientWidth));
+}).map((it) => it.textContent)"""
+# heads that don't stand above their column; a scroll bar takes room only from the rows
+APART = """["#grid", "#pin-grid"].flatMap((grid) => {
+  const places = (row) => [...document.querySelector(`${grid} ${row}`).children].map((it) =>
+    Math.round(it.getBoundingClientRect().left));
+  const rows = places(".rows .row");
+  return places(".head").filter((it, at) => Math.abs(it - rows[at]) > 1);
+})"""
 # what the policy of the page forbids
 ASK = """(() => {
   globalThis.asked = [];
@@ -85,8 +102,7 @@ class Use:
             page.type(text)
             wanted = [row for row in table if re.search(form, row[1]) or re.search(form, row[5])]
             self.shows(len(wanted), f"rows of the search {text}")
-            names = "[...listed].map((f) => report.circuit.names[report.faults.owner(f)])"
-            same(page.run(names), [row[1] for row in wanted], f"faults of the search {text}")
+            same(page.run(OWNERS), [row[1] for row in wanted], f"faults of the search {text}")
             page.wait("location.hash.includes('q=')")
             page.key("Escape")
             self.shows(len(self.undetected), "rows after Escape")
@@ -143,10 +159,10 @@ class Use:
         """Columns sort: a first click, the other way, and the order of the list again."""
         page, head = self.page, "#columns [role=columnheader]:nth-child(%d) button"
         page.click(head % 6)
-        sizes = "[...listed].map((f) => report.sizes[report.classes[f]])"
+        sizes = "[...faultGrid.list].map((f) => report.sizes[report.classes[f]])"
         same(page.run(sizes), page.run(f"{sizes}.sort((a, b) => b - a)"), "sorted by classes")
         page.click(head % 1)
-        names = page.run("[...listed].map((f) => report.circuit.names[report.faults.owner(f)])")
+        names = page.run(OWNERS)
         natural = [re.sub(r"\d+", lambda it: it[0].zfill(9), name) for name in names]
         same(natural, sorted(natural), "sorted by names")
         way = "document.querySelector('#columns [role=columnheader]').getAttribute('aria-sort')"
@@ -277,6 +293,26 @@ def try_use(page, tools):
     return "a page by mouse and keys"
 
 
+def try_firefox(page, tools):
+    """In Firefox: what the scripts make of some circuits, and a page by mouse and keys."""
+    circuits, faults = texts(), 0
+    for name in ("c17", "odd", "random"):
+        faults += compare(page, Case.of(tools, name, *circuits[name]))
+    use = Use(page, tools)
+    for part in (use.search, use.arrows, use.links, use.heads, use.numbers, use.blocks, use.curve):
+        part()
+    stops = Stops(page, use.case, program_rows(use.case))
+    for part in (stops.mouse, stops.keys, stops.fault, stops.slowly, stops.all, stops.paper):
+        part()
+    for width in (390, 1400):
+        page.window(width, 900)
+        same(page.run("document.documentElement.scrollWidth <= innerWidth"), True,
+             f"nothing is wider than {width} in Firefox")
+        same(page.run(APART), [], f"heads above their columns, width {width}")
+    same(page.complaints(), [], "complaints in Firefox")
+    return f"{faults} faults and a page by mouse and keys in Firefox"
+
+
 def try_fault(page, tools):
     """A chosen fault, by hand: c17 of the documents, and a gate of sixty pins."""
     Case.of(tools, "c17", generated("c17"), "01011\n11111\n")
@@ -305,7 +341,7 @@ def try_fault(page, tools):
     # an AND whose pin w[0] is 0 under the only test: the effect of w[40] stuck at 0 stops there
     Case.of(tools, "pins", MANY_PINS, "0" + "1" * 59 + "\n")
     page.open("pins-stuck.html", "#fault=stem+w[40]+sa0")
-    same(page.run(text % "#stops"), "The effect stops at: all (AND with w[0] = 0)", "the stops")
+    same(page.run(text % "#stops-of"), "The effect stops at: all (AND with w[0] = 0)", "the stops")
     same(page.run(text % "#tests-of"), "Of all 1 test, 1 activates it and none detects it. Test 0 "
          "activates the fault and changes 1 signal, none of them observed.", "the words of a test")
     page.run("document.querySelector('#picture g[aria-label^=\"AND all\"]').dispatchEvent("
@@ -330,6 +366,7 @@ def look(page, case, fault):
              f"nothing is wider than {width}")
         seen = "document.querySelector('#rows .on').firstChild.getClientRects().length"
         same(page.run(seen), 1, f"the row of the fault, width {width}")
+        same(page.run(CELLS), [], f"cells of tables, width {width}")
 
 
 def try_looks(page, tools):
@@ -467,4 +504,5 @@ def try_errors(_, tools):
     same([it for it in os.listdir(".") if it.endswith(".part")], [], "parts that are left")
     ran = case.make("-")
     same(ran.stdout.startswith("<!DOCTYPE html>"), True, "a page on standard output")
+    same(ran.stdout, case.make("-", "-w", "1").stdout, "the same page again")
     return "wrong calls and files"
