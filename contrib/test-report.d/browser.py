@@ -39,7 +39,21 @@ class Unavailable(Exception):
 
 
 class Page:
-    """A page of a browser, which has `run`, `navigate`, `key`, and `press` for the mouse."""
+    """A page of a browser, which has `run`, `navigate`, `key`, and `press` for the mouse.
+
+    The browser is a process with a group of its own and a folder, and ends with the page.
+    """
+
+    def __enter__(self):
+        return self
+
+    def __exit__(self, *_):
+        try:
+            os.killpg(self.process.pid, signal.SIGKILL)
+        except ProcessLookupError:
+            pass
+        self.process.wait()
+        clean(self.room)
 
     def wait(self, script, seconds=10):
         """Waits until an expression is true."""
@@ -127,18 +141,10 @@ class Browser(Page):
         self.out, self.into = out, into
         os.set_blocking(into, False)
 
-    def __enter__(self):
-        return self
-
     def __exit__(self, *_):
-        try:
-            os.killpg(self.process.pid, signal.SIGKILL)
-        except ProcessLookupError:
-            pass
-        self.process.wait()
+        super().__exit__()
         os.close(self.out)
         os.close(self.into)
-        clean(self.room)
 
     def message(self, until):
         """The next message of the browser."""

@@ -4,14 +4,13 @@ import base64
 import json
 import os
 import shutil
-import signal
 import socket
 import struct
 import subprocess
 import tempfile
 import time
 
-from browser import Page, Unavailable, clean
+from browser import Page, Unavailable
 
 NAMES = ("firefox-esr", "firefox")
 KEYS = {"Enter": "\ue007", "Escape": "\ue00c", "PageUp": "\ue00e", "PageDown": "\ue00f",
@@ -122,17 +121,6 @@ class Firefox(Page):
                 if time.monotonic() > until or self.process.poll() is not None:
                     raise EOFError("it doesn't listen") from None
                 time.sleep(0.1)
-
-    def __enter__(self):
-        return self
-
-    def __exit__(self, *_):
-        try:
-            os.killpg(self.process.pid, signal.SIGKILL)
-        except ProcessLookupError:
-            pass
-        self.process.wait()
-        clean(self.room)
 
     def send(self, method, **params):
         """Calls a method of WebDriver BiDi, and returns its result."""
