@@ -27,8 +27,8 @@ kept_text Numbers c kept numbers = flat_map number_line numbers
 abbrev pub count_of : List Test → List Test → KeptCount
 count_of tests kept = record { kept = length kept; all = length tests }
 
--- the bytes are the rows or numbers of a compaction of a job's tests, in an order; the count has the
--- numbers of kept tests and of all tests
+-- the bytes are the rows or numbers of a compaction of a job's tests, in an order; the count has
+-- the numbers of kept tests and of all tests
 abbrev pub IsKeptTextOfJob : Parts → KeptLayout → KeptCount → List ℕ → Type 0
 IsKeptTextOfJob job layout count bytes = (kept : List Test) × (numbers : List ℕ)
     × IsOrdered layout.order job.list.model job.circuit job.tests.tests kept numbers

@@ -6,7 +6,7 @@ ghost use Rattle.patterns.specs.Tests.{as_number};
 ghost use Rattle.block_sim.specs.Parts.{BelongTogether};
 ghost use Rattle.blocking_pins.specs.Blocking.{AreDetected};
 ghost use Rattle.byte_output.specs.Output.{Writes};
-ghost use Rattle.region_runs.specs.Refused.{IsPartsFault};
+ghost use Rattle.region_runs.specs.Refused.{IsFirstsFault};
 ghost use Rattle.report.specs.EndToEnd.{IsJobTextFault, IsListFault, WritesOneOf};
 ghost use Rattle.report.specs.Report.{coverage_line};
 ghost use Rattle.analysis_reports.specs.BlockingReports.{IsBlockingReport, IsBlockingReportOfJob};
@@ -41,14 +41,14 @@ pub struct NamedPin<'a> {
     pub tests: u32,
 }
 
-/// Runs a job in a number of parts by workers in threads of their own, and writes which pins block
-/// the effects of undetected faults, as [`report::write_report_of_run`] writes its report. Then the
-/// run has its tests as its own, with their fault-free words ([`RunJob::hold_tests`]).
+/// Runs a job in a number of stretches by workers in threads of their own, and writes which pins
+/// block the effects of undetected faults, as [`report::write_report_of_run`] writes its report.
+/// Then the run has its tests as its own, with their fault-free words ([`RunJob::hold_tests`]).
 ///
 /// The first line is the coverage line. A line `pin GATE K NET V F T` follows for each pin: pin K
-/// of the gate, from 1, reads the signal NET. The controlling value of the gate is V. The pin blocks
-/// F undetected faults, each under at least one of T tests. [`blocking_pins::blocking_pins`] defines
-/// the pins and their order.
+/// of the gate, from 1, reads the signal NET. The controlling value of the gate is V. The pin
+/// blocks F undetected faults, each under at least one of T tests. [`blocking_pins::blocking_pins`]
+/// defines the pins and their order.
 ///
 /// # Examples
 ///
@@ -63,22 +63,22 @@ pub fn write_blocking_of_run<R: Threads + Wait, G: Watch + Sync, W: Out>(
     rt: &R,
     alloc: Global,
     run: &mut RunJob,
-    parts: u32,
+    stretches: u32,
     workers: u32,
     gate: &G,
     out: &mut W,
 ) -> Result<(), SimFault>
-    requires job { BelongTogether run.old.parts }
+    requires job { BelongTogether run.old.whole }
     requires gate { run.old.apart ≡ true → G.passing gate.now }
-    requires parts { 0 < parts }
-    ensures written { WritesOneOf (IsBlockingReportOfJob run.old.parts) result
+    requires stretches { 0 < stretches }
+    ensures written { WritesOneOf (IsBlockingReportOfJob run.old.whole) result
         (W.seen out.old) (W.seen out.new) }
     ensures refused { IfErr result (IsJobTextFault workers
-        (IsPartsFault run.old.parts parts workers (G.passing gate.now) (G.stops gate.now))) }
+        (IsFirstsFault run.old.whole stretches workers (G.passing gate.now) (G.stops gate.now))) }
     ensures workers { OnOk result ((0 < workers) × (workers ≤ 64)) }
-    ensures kept { run.new.parts ≡ run.old.parts }
+    ensures kept { run.new.whole ≡ run.old.whole }
 {
-    let verdicts = run.run(rt, alloc, parts, workers, gate)?;
+    let verdicts = run.run(rt, alloc, stretches, workers, gate)?;
     let detected = detected_flags(alloc, &verdicts)?;
     run.hold_tests(rt, alloc, workers)?;
     write_blocking(alloc, run.job(), &detected, out)

@@ -8,7 +8,7 @@ ghost use Rattle.fault_model.specs.Fault.{faults};
 ghost use Rattle.block_coverage.specs.Blocks.{byte_of};
 ghost use Rattle.block_sim.specs.Parts.{BelongTogether};
 ghost use Rattle.byte_output.specs.Output.{Writes};
-ghost use Rattle.region_runs.specs.Refused.{IsPartsFault};
+ghost use Rattle.region_runs.specs.Refused.{IsFirstsFault};
 ghost use Rattle.report.specs.EndToEnd.{IsJobTextFault, IsListFault, WritesOneOf};
 ghost use Rattle.analysis_reports.specs.Blocks.{IsBlockReport, IsBlockReportOfJob, flagged};
 ghost use Rattle.analysis_reports.specs.Blocks.{row_line};
@@ -25,8 +25,8 @@ use std::sync::Wait;
 use std::thread::Threads;
 use workers::Verdicts;
 
-/// Runs a job in a number of parts by workers in threads of their own, and writes the coverage of
-/// its faults and of each block, as [`report::write_report_of_run`] writes its report.
+/// Runs a job in a number of stretches by workers in threads of their own, and writes the coverage
+/// of its faults and of each block, as [`report::write_report_of_run`] writes its report.
 ///
 /// The first line is the coverage line. A line `block NAME D of T (P.PP%)` follows for each block:
 /// a test detects D of its T faults. [`block_coverage::block_rows`] defines the blocks and their
@@ -44,23 +44,23 @@ pub fn write_blocks_of_run<R: Threads + Wait, G: Watch + Sync, W: Out>(
     rt: &R,
     alloc: Global,
     run: &mut RunJob,
-    parts: u32,
+    stretches: u32,
     workers: u32,
     separator: Separator,
     gate: &G,
     out: &mut W,
 ) -> Result<(), SimFault>
-    requires job { BelongTogether run.old.parts }
+    requires job { BelongTogether run.old.whole }
     requires gate { run.old.apart ≡ true → G.passing gate.now }
-    requires parts { 0 < parts }
-    ensures written { WritesOneOf (IsBlockReportOfJob run.old.parts (byte_of separator)) result
+    requires stretches { 0 < stretches }
+    ensures written { WritesOneOf (IsBlockReportOfJob run.old.whole (byte_of separator)) result
         (W.seen out.old) (W.seen out.new) }
     ensures refused { IfErr result (IsJobTextFault workers
-        (IsPartsFault run.old.parts parts workers (G.passing gate.now) (G.stops gate.now))) }
+        (IsFirstsFault run.old.whole stretches workers (G.passing gate.now) (G.stops gate.now))) }
     ensures workers { OnOk result ((0 < workers) × (workers ≤ 64)) }
     ensures kept { run.new ≡ run.old }
 {
-    let verdicts = run.run(rt, alloc, parts, workers, gate)?;
+    let verdicts = run.run(rt, alloc, stretches, workers, gate)?;
     let detected = detected_flags(alloc, &verdicts)?;
     let job = run.job();
     write_blocks(

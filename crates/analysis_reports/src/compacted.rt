@@ -50,9 +50,9 @@ pub struct KeptCount {
     pub all: u32,
 }
 
-/// Runs a job in a number of parts, and writes some of its tests, or their numbers in the list. They
-/// detect each fault that all tests detect ([`compaction::compact`]). The tests are written as a
-/// test file that names its columns ([`test_columns::columns_line`]). Returns the number of kept
+/// Runs a job in a number of stretches, and writes some of its tests, or their numbers in the list.
+/// They detect each fault that all tests detect ([`compaction::compact`]). The tests are written as
+/// a test file that names its columns ([`test_columns::columns_line`]). Returns the number of kept
 /// tests.
 ///
 /// The gate observes each pass, and lets each piece pass. If the tests stand apart, a pass goes
@@ -73,21 +73,21 @@ pub fn write_kept_of_run<R: Threads + Wait, G: Watch + Sync, W: Out>(
     rt: &R,
     alloc: Global,
     run: &mut RunJob,
-    parts: u32,
+    stretches: u32,
     workers: u32,
     layout: KeptLayout,
     gate: &G,
     out: &mut W,
 ) -> Result<KeptCount, SimFault>
     requires passing { G.passing gate.now }
-    requires parts { 0 < parts }
-    ensures written { GivesOneOf (IsKeptTextOfJob run.old.parts layout) result (W.seen out.old)
+    requires stretches { 0 < stretches }
+    ensures written { GivesOneOf (IsKeptTextOfJob run.old.whole layout) result (W.seen out.old)
         (W.seen out.new) }
     ensures refused { IfErr result (IsJobTextFault workers (IsOpenFault workers)) }
     ensures workers { OnOk result ((0 < workers) × (workers ≤ 64)) }
 {
     let all = run.tests().count();
-    let kept = compact(rt, alloc, run, layout.order, parts, workers, gate)?;
+    let kept = compact(rt, alloc, run, layout.order, stretches, workers, gate)?;
     let count = KeptCount {
         kept: kept.tests.count(),
         all,

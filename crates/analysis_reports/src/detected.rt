@@ -24,7 +24,7 @@ use std::alloc::Global;
 use std::sync::Wait;
 use std::thread::Threads;
 
-/// Runs a job in a number of parts, and writes how many tests detect each fault. With `list` it
+/// Runs a job in a number of stretches, and writes how many tests detect each fault. With `list` it
 /// writes a line for each fault. Then it writes how many faults at least `most` tests detect. The
 /// count of a fault ends at `most`.
 ///
@@ -49,22 +49,22 @@ pub fn write_detections_of_run<R: Threads + Wait, G: Watch + Sync, W: Out>(
     rt: &R,
     alloc: Global,
     run: &mut RunJob,
-    parts: u32,
+    stretches: u32,
     workers: u32,
     most: u32,
     list: bool,
     gate: &G,
     out: &mut W,
 ) -> Result<(), SimFault>
-    requires job { BelongTogether run.old.parts }
-    requires parts { 0 < parts }
+    requires job { BelongTogether run.old.whole }
+    requires stretches { 0 < stretches }
     requires passing { G.passing gate.now }
-    ensures written { WritesOneOf (IsDetectionReportOfJob run.old.parts most list) result
+    ensures written { WritesOneOf (IsDetectionReportOfJob run.old.whole most list) result
         (W.seen out.old) (W.seen out.new) }
     ensures refused { IfErr result (IsJobReportFault workers (IsOpenFault workers)) }
     ensures workers { OnOk result ((0 < workers) × (workers ≤ 64)) }
 {
-    let counts = detections(rt, alloc, run, most, parts, workers, gate)?;
+    let counts = detections(rt, alloc, run, most, stretches, workers, gate)?;
     write_detections(run.job(), counts.as_slice(), most, list, out)?;
     Ok(())
 }

@@ -22,7 +22,7 @@ use std::sync::Wait;
 use std::thread::Threads;
 use workers::RunFault;
 
-/// Runs a job in a number of parts, and writes how many tests detect each fault, as
+/// Runs a job in a number of stretches, and writes how many tests detect each fault, as
 /// [`crate::write_detections_of_run`] does, and then the histogram. The histogram has a line `COUNT
 /// FAULTS` for each count from 0 to `most`, with the number of faults that this many tests detect.
 /// The last line counts the faults that at least `most` tests detect.
@@ -45,22 +45,22 @@ pub fn write_histogram_of_run<R: Threads + Wait, G: Watch + Sync, W: Out>(
     rt: &R,
     alloc: Global,
     run: &mut RunJob,
-    parts: u32,
+    stretches: u32,
     workers: u32,
     most: u32,
     list: bool,
     gate: &G,
     out: &mut W,
 ) -> Result<(), SimFault>
-    requires job { BelongTogether run.old.parts }
-    requires parts { 0 < parts }
+    requires job { BelongTogether run.old.whole }
+    requires stretches { 0 < stretches }
     requires passing { G.passing gate.now }
-    ensures written { WritesOneOf (IsHistogramReportOfJob run.old.parts most list) result
+    ensures written { WritesOneOf (IsHistogramReportOfJob run.old.whole most list) result
         (W.seen out.old) (W.seen out.new) }
     ensures refused { IfErr result (IsJobReportFault workers (IsOpenFault workers)) }
     ensures workers { OnOk result ((0 < workers) × (workers ≤ 64)) }
 {
-    let counts = detections(rt, alloc, run, most, parts, workers, gate)?;
+    let counts = detections(rt, alloc, run, most, stretches, workers, gate)?;
     let job = run.job();
     let _faults = job.faults().count();
     let Ok(faults) = histogram_of(alloc, &counts, most) else {

@@ -6,7 +6,7 @@ ghost use Rattle.std.specs.List.{flat_map};
 ghost use Rattle.fault_model.specs.Fault.{faults};
 ghost use Rattle.block_sim.specs.Parts.{BelongTogether};
 ghost use Rattle.byte_output.specs.Output.{Writes};
-ghost use Rattle.region_runs.specs.Refused.{IsPartsFault};
+ghost use Rattle.region_runs.specs.Refused.{IsFirstsFault};
 ghost use Rattle.analysis_reports.specs.Reasons.{reason_counts_of};
 ghost use Rattle.report.specs.EndToEnd.{IsJobTextFault, WritesOneOf};
 ghost use Rattle.analysis_reports.specs.Reasons.{IsReasonReportOfJob, has_reason};
@@ -29,8 +29,8 @@ use threaded_lines::put_in_threads;
 use undetected::{Reason, reasons};
 use workers::Verdicts;
 
-/// Runs a job in a number of parts, and writes the report of the faults that no test detects, each
-/// with the reason why none does. The report has a line for each of these faults, and then the
+/// Runs a job in a number of stretches, and writes the report of the faults that no test detects,
+/// each with the reason why none does. The report has a line for each of these faults, and then the
 /// coverage line. With `classes` the coverage of the classes follows. Last comes the number of
 /// faults for each reason, which the gate learns, too. Else it works and fails as
 /// [`report::write_report_of_run`] does.
@@ -50,23 +50,23 @@ pub fn write_reasons_of_run<R: Threads + Wait, G: Watch + Sync, W: Out>(
     rt: &R,
     alloc: Global,
     run: &mut RunJob,
-    parts: u32,
+    stretches: u32,
     workers: u32,
     classes: bool,
     gate: &G,
     out: &mut W,
 ) -> Result<(), SimFault>
-    requires job { BelongTogether run.old.parts }
+    requires job { BelongTogether run.old.whole }
     requires gate { run.old.apart ≡ true → G.passing gate.now }
-    requires parts { 0 < parts }
-    ensures written { WritesOneOf (IsReasonReportOfJob run.old.parts classes) result
+    requires stretches { 0 < stretches }
+    ensures written { WritesOneOf (IsReasonReportOfJob run.old.whole classes) result
         (W.seen out.old) (W.seen out.new) }
     ensures refused { IfErr result (IsJobTextFault workers
-        (IsPartsFault run.old.parts parts workers (G.passing gate.now) (G.stops gate.now))) }
+        (IsFirstsFault run.old.whole stretches workers (G.passing gate.now) (G.stops gate.now))) }
     ensures workers { OnOk result ((0 < workers) × (workers ≤ 64)) }
     ensures kept { run.new ≡ run.old }
 {
-    let verdicts = run.run(rt, alloc, parts, workers, gate)?;
+    let verdicts = run.run(rt, alloc, stretches, workers, gate)?;
     let reasons = reasons(rt, alloc, run, &verdicts, workers)?;
     gate.explains(reason_counts(&reasons));
     write_reasons_in_threads(

@@ -100,6 +100,12 @@ pub struct SpentTests {
     rows: Vec<Vec<u128>>,
 }
 
+/// The memory of fault-free words that a job no longer has, for the words of other tests.
+#[derive(Drop)]
+pub struct SpareWords {
+    rows: Vec<Vec<u128>>,
+}
+
 impl JobParts {
     /// Takes other tests and their words, and returns those before.
     fn exchange_tests(&mut self, tests: Tests, rows: Vec<Vec<u128>>) -> SpentTests
@@ -207,7 +213,7 @@ impl Job {
         }) }
     {
         let flat = FlatCircuit::new(alloc, circuit)?;
-        let rows = fault_free_rows(alloc, &flat, &tests)?;
+        let rows = words_of(alloc, &flat, &tests)?;
         let lists = class_lists(alloc, flat.circuit(), faults, classes)?;
         Job::with_lists(alloc, flat, lists, tests, rows)
     }
@@ -252,7 +258,8 @@ impl Job {
           tests = tests;
         }) }
     {
-        let rows = fault_free_rows_in_threads(rt, alloc, &flat, &tests, workers)?;
+        let spare = Vec::new(alloc);
+        let rows = fault_free_rows_in_threads(rt, alloc, &flat, &tests, spare, workers)?;
         Job::with_lists(alloc, flat, lists, tests, rows)
     }
 
@@ -331,7 +338,7 @@ impl Job {
         ensures job { OnOk result (self.new ≡ with_tests self.old tests) }
         ensures kept { IfErr result (λ fault. self.new ≡ self.old) }
     {
-        let rows = fault_free_rows(alloc, &self.parts.flat, &tests)?;
+        let rows = words_of(alloc, &self.parts.flat, &tests)?;
         self.parts.take_tests(tests, rows);
         Ok(())
     }
@@ -350,7 +357,29 @@ impl Job {
         ensures job { OnOk result (self.new ≡ with_tests self.old tests) }
         ensures kept { IfErr result (λ fault. self.new ≡ self.old) }
     {
-        let rows = fault_free_rows_in_threads(rt, alloc, &self.parts.flat, &tests, workers)?;
+        let none = SpareWords {
+            rows: Vec::new(alloc),
+        };
+        self.set_tests_over(rt, alloc, tests, none, workers)
+    }
+
+    /// Takes other tests as [`Job::set_tests_of_any_size_in_threads`] does. Their words take the
+    /// memory of spare words, as far as these are of as many signals.
+    pub fn set_tests_over<R: Threads + Wait>(
+        &mut self,
+        rt: &R,
+        alloc: Global,
+        tests: Tests,
+        spare: SpareWords,
+        workers: u32,
+    ) -> Result<(), AllocError>
+        requires tests { IsTestList tests }
+        requires width { tests.width ≡ length (sources self.old.circuit) }
+        ensures job { OnOk result (self.new ≡ with_tests self.old tests) }
+        ensures kept { IfErr result (λ fault. self.new ≡ self.old) }
+    {
+        let flat = &self.parts.flat;
+        let rows = fault_free_rows_in_threads(rt, alloc, flat, &tests, spare.rows, workers)?;
         self.parts.take_tests(tests, rows);
         Ok(())
     }
@@ -363,8 +392,19 @@ impl Job {
         ensures kept { IfErr result (λ fault. self.new ≡ self.old) }
     {
         let none = Tests::new(alloc, self.parts.tests.width());
-        let rows = fault_free_rows(alloc, &self.parts.flat, &none)?;
+        let rows = words_of(alloc, &self.parts.flat, &none)?;
         Ok(self.parts.exchange_tests(none, rows))
+    }
+
+    /// Forgets the tests, and returns the memory of their fault-free words. It fails only for
+    /// memory, and then the job is as it was.
+    pub fn give_words(&mut self, alloc: Global) -> Result<SpareWords, AllocError>
+        ensures job { OnOk result (self.new ≡ with_tests self.old
+            (record { width = self.old.tests.width; tests = [] })) }
+        ensures kept { IfErr result (λ fault. self.new ≡ self.old) }
+    {
+        let spent = self.give_tests(alloc)?;
+        Ok(SpareWords { rows: spent.rows })
     }
 
     /// Returns the circuit.
@@ -511,6 +551,17 @@ impl Job {
         let place = parts.flat.place_of(signal);
         block_word(parts.rows[(block / 2) as usize][place as usize], block)
     }
+}
+
+/// Returns the fault-free words of tests, in memory of their own.
+fn words_of(alloc: Global, flat: &FlatCircuit, tests: &Tests) -> Result<Vec<Vec<u128>>, AllocError>
+    requires width { tests.now.width ≡ length (sources flat.now.statements) }
+    ensures count { IfOk result (λ rows. length (map (λ row. row.items) rows.items)
+        ≡ groups (length tests.now.tests)) }
+    ensures rows { IfOk result (λ rows. AreFaultFree flat.now.arranged tests.now.tests
+        (map (λ row. row.items) rows.items)) }
+{
+    fault_free_rows(alloc, flat, tests, Vec::new(alloc))
 }
 
 /// Makes the lists of the classes of a circuit under a model, in one thread or two.

@@ -1,6 +1,6 @@
 -- The first tests of all faults, from those of all classes.
 use Rattle.std.proofs.Common.{◌≡◌, ◌<◌, ◌∙◌, ℕ, None, List, Option, All, ap, arith, get_or, length}
-use Rattle.std.proofs.Common.{map, refl, subst, sym}
+use Rattle.std.proofs.Common.{map, refl, subst}
 use Rattle.std.specs.Prelude.{Some, slice_get}
 use Rattle.std.proofs.lemmas.List.{length-map}
 use Rattle.std.proofs.lemmas.Option.{get_or_from_slice_get, slice_get-get_or}

@@ -25,25 +25,50 @@ pub(crate) fn do_check<S: Source, W: Out, E: Out>(
     out: &mut W,
     err: &mut E,
 ) -> Result<(), CommandError> {
-    let model = read_model(matches)?;
+    let bench = InputFile::Bench.read(alloc, matches, files)?;
+    if InputFile::Tests.path(matches).is_none() {
+        return check_files(alloc, matches, &bench, None, out, err);
+    }
+    let tests = InputFile::Tests.read(alloc, matches, files)?;
+    check_files(alloc, matches, &bench, Some(&tests), out, err)
+}
+
+/// Checks the bytes of a bench file, and of a test file if there is one.
+fn check_files<W: Out, E: Out>(
+    alloc: Global,
+    matches: &ArgMatches<'_>,
+    bench: &[u8],
+    tests: Option<&[u8]>,
+    out: &mut W,
+    err: &mut E,
+) -> Result<(), CommandError> {
     let json = matches.get_str("format") == Some("json");
     let bench_path = InputFile::Bench.path(matches).unwrap_or("");
-    let bench = InputFile::Bench.read(alloc, matches, files)?;
-    let Some(tests_path) = InputFile::Tests.path(matches) else {
-        let answer = check_texts(alloc, model, &bench, None)?;
-        return write_answer(alloc, &answer, json, bench_path, "", out, err);
-    };
-    let tests = InputFile::Tests.read(alloc, matches, files)?;
-    if let Err(fault) = check_names(alloc, &bench, &tests) {
-        if let CommandError::Columns(mismatch) = &fault
-            && json
-        {
-            write_mismatch(alloc, tests_path, mismatch, out)?;
-        }
-        return Err(fault);
+    let tests_path = InputFile::Tests.path(matches).unwrap_or("");
+    if let Some(tests) = tests {
+        check_columns(alloc, bench, tests, json, tests_path, out)?;
     }
-    let answer = check_texts(alloc, model, &bench, Some(&tests))?;
+    let answer = check_texts(alloc, read_model(matches)?, bench, tests)?;
     write_answer(alloc, &answer, json, bench_path, tests_path, out, err)
+}
+
+/// Checks the names of the columns of the test file at a path. An error goes to the output, too, if
+/// `json` is set.
+fn check_columns<W: Out>(
+    alloc: Global,
+    bench: &[u8],
+    tests: &[u8],
+    json: bool,
+    path: &str,
+    out: &mut W,
+) -> Result<(), CommandError> {
+    let checked = check_names(alloc, bench, tests);
+    if let Err(CommandError::Columns(mismatch)) = &checked
+        && json
+    {
+        write_mismatch(alloc, path, mismatch, out)?;
+    }
+    checked
 }
 
 /// Writes the object of a test file that names its columns otherwise than the circuit.

@@ -80,13 +80,13 @@ pub(crate) fn needs_sums(form: Form) -> bool
     matches!(form, Form::Part(_))
 }
 
-/// Runs a job in a number of parts, under a gate that lets each piece pass, and writes the output.
-/// The file of a part has the sums of the two files.
+/// Runs a job in a number of stretches, under a gate that lets each piece pass, and writes the
+/// output. The file of a part has the sums of the two files.
 pub(crate) fn write_form_of_run<R: Threads + Wait, G: Watch + Sync, W: Out>(
     rt: &R,
     alloc: Global,
     run: &mut RunJob,
-    parts: u32,
+    stretches: u32,
     workers: u32,
     form: Form,
     sums: Option<FileSums<'_>>,
@@ -94,52 +94,56 @@ pub(crate) fn write_form_of_run<R: Threads + Wait, G: Watch + Sync, W: Out>(
     tally: &Tally,
     out: &mut W,
 ) -> Result<(), SimFault>
-    requires job { BelongTogether run.old.parts }
+    requires job { BelongTogether run.old.whole }
     requires passing { G.passing gate.now }
-    requires parts { 0 < parts }
+    requires stretches { 0 < stretches }
     requires sums { NeedsSums form → IsSome sums }
-    ensures { WritesOneOf (IsFormOfJob run.old.parts (bench_sum sums.entry)
+    ensures { WritesOneOf (IsFormOfJob run.old.whole (bench_sum sums.entry)
         (test_sum sums.entry) form) result (W.seen out.old) (W.seen out.new) }
 {
     match form {
         Form::Report(contents) => {
-            write_report_of_run(rt, alloc, run, parts, workers, contents, gate, out)
+            write_report_of_run(rt, alloc, run, stretches, workers, contents, gate, out)
         }
         Form::Table {
             lines,
             wanted,
             format,
         } => write_table_of_run(
-            rt, alloc, run, parts, workers, lines, wanted, format, gate, out,
+            rt, alloc, run, stretches, workers, lines, wanted, format, gate, out,
         ),
         Form::Reasons { classes } => {
-            write_reasons_of_run(rt, alloc, run, parts, workers, classes, gate, out)
+            write_reasons_of_run(rt, alloc, run, stretches, workers, classes, gate, out)
         }
         Form::Blocks(separator) => {
-            write_blocks_of_run(rt, alloc, run, parts, workers, separator, gate, out)
+            write_blocks_of_run(rt, alloc, run, stretches, workers, separator, gate, out)
         }
         Form::BlockTable(separator, format) => {
-            write_block_table_of_run(rt, alloc, run, parts, workers, separator, format, gate, out)
+            write_block_table_of_run(
+                rt, alloc, run, stretches, workers, separator, format, gate, out,
+            )
         }
-        Form::Blocking => write_blocking_of_run(rt, alloc, run, parts, workers, gate, out),
+        Form::Blocking => write_blocking_of_run(rt, alloc, run, stretches, workers, gate, out),
         Form::BlockingTable(format) => {
-            write_blocking_table_of_run(rt, alloc, run, parts, workers, format, gate, out)
+            write_blocking_table_of_run(rt, alloc, run, stretches, workers, format, gate, out)
         }
-        Form::Curve => write_curve_of_run(rt, alloc, run, parts, workers, gate, out),
+        Form::Curve => write_curve_of_run(rt, alloc, run, stretches, workers, gate, out),
         Form::CurveTable(format) => {
-            write_curve_table_of_run(rt, alloc, run, parts, workers, format, gate, out)
+            write_curve_table_of_run(rt, alloc, run, stretches, workers, format, gate, out)
         }
         Form::Detections { most, list } => {
-            write_detections_of_run(rt, alloc, run, parts, workers, most, list, gate, out)
+            write_detections_of_run(rt, alloc, run, stretches, workers, most, list, gate, out)
         }
         Form::Histogram { most, list } => {
-            write_histogram_of_run(rt, alloc, run, parts, workers, most, list, gate, out)
+            write_histogram_of_run(rt, alloc, run, stretches, workers, most, list, gate, out)
         }
         Form::HistogramTable { most, format } => {
-            write_histogram_table_of_run(rt, alloc, run, parts, workers, most, format, gate, out)
+            write_histogram_table_of_run(
+                rt, alloc, run, stretches, workers, most, format, gate, out,
+            )
         }
         Form::Kept(layout) => {
-            write_kept(rt, alloc, run, parts, workers, layout, gate, tally, out)
+            write_kept(rt, alloc, run, stretches, workers, layout, gate, tally, out)
         }
         Form::Part(part) => write_part(rt, alloc, run, part, sums, workers, gate, out),
     }
@@ -150,7 +154,7 @@ fn write_kept<R: Threads + Wait, G: Watch + Sync, W: Out>(
     rt: &R,
     alloc: Global,
     run: &mut RunJob,
-    parts: u32,
+    stretches: u32,
     workers: u32,
     layout: KeptLayout,
     gate: &G,
@@ -158,11 +162,11 @@ fn write_kept<R: Threads + Wait, G: Watch + Sync, W: Out>(
     out: &mut W,
 ) -> Result<(), SimFault>
     requires passing { G.passing gate.now }
-    requires parts { 0 < parts }
-    ensures { WritesOneOf (IsKeptOfJob run.old.parts layout) result (W.seen out.old)
+    requires stretches { 0 < stretches }
+    ensures { WritesOneOf (IsKeptOfJob run.old.whole layout) result (W.seen out.old)
         (W.seen out.new) }
 {
-    let count = write_kept_of_run(rt, alloc, run, parts, workers, layout, gate, out)?;
+    let count = write_kept_of_run(rt, alloc, run, stretches, workers, layout, gate, out)?;
     tally.note_kept(count);
     Ok(())
 }
@@ -178,11 +182,11 @@ fn write_part<R: Threads + Wait, G: Watch + Sync, W: Out>(
     gate: &G,
     out: &mut W,
 ) -> Result<(), SimFault>
-    requires job { BelongTogether run.old.parts }
+    requires job { BelongTogether run.old.whole }
     requires passing { G.passing gate.now }
     requires sums { IsSome sums }
-    ensures { WritesOneOf (IsPartTextOfJob (head_with run.old.parts.list.model
-        (bench_sum sums.entry) (test_sum sums.entry) part.part part.parts) run.old.parts) result
+    ensures { WritesOneOf (IsPartTextOfJob (head_with run.old.whole.list.model
+        (bench_sum sums.entry) (test_sum sums.entry) part.part part.parts) run.old.whole) result
         (W.seen out.old) (W.seen out.new) }
 {
     let Part { part, parts } = part;

@@ -107,14 +107,33 @@ pub(crate) fn write_form<R: Threads + Wait, S: Source, W: Out, E: Out + Send>(
     err: &mut E,
 ) -> Result<Outcome, CommandError> {
     let bench = InputFile::Bench.read(alloc, matches, files)?;
-    if let Some(inputs) = open_inputs(alloc, matches, &bench, split, is_summed, files)? {
-        let done = write_inputs(rt, alloc, matches, inputs, form, files, out, err)?;
-        if let Some(outcome) = done {
-            return Ok(outcome);
-        }
+    let done = match open_inputs(alloc, matches, &bench, split, is_summed, files)? {
+        Some(inputs) => write_inputs(rt, alloc, matches, inputs, form, files, out, err)?,
+        None => None,
+    };
+    match done {
+        Some(outcome) => Ok(outcome),
+        None => write_whole(
+            rt, alloc, matches, &bench, form, split, is_summed, files, out, err,
+        ),
     }
+}
+
+/// Runs with all bytes of both files, of which the bench file is read, and writes the output.
+fn write_whole<R: Threads + Wait, S: Source, W: Out, E: Out + Send>(
+    rt: &R,
+    alloc: Global,
+    matches: &ArgMatches<'_>,
+    bench: &[u8],
+    form: Form,
+    split: Split,
+    is_summed: bool,
+    files: &mut S,
+    out: &mut W,
+    err: &mut E,
+) -> Result<Outcome, CommandError> {
     let tests = InputFile::Tests.read(alloc, matches, files)?;
-    let inputs = whole_inputs(alloc, matches, &bench, &tests, split, is_summed)?;
+    let inputs = whole_inputs(alloc, matches, bench, &tests, split, is_summed)?;
     match write_inputs(rt, alloc, matches, inputs, form, files, out, err)? {
         Some(outcome) => Ok(outcome),
         None => unreachable!(),
@@ -308,10 +327,10 @@ fn write_run<R: Threads + Wait, F: Read + Send + Drop, G: Watch + Sync, W: Out>(
     match run_of(rt, alloc, inputs, form)? {
         Ok((made, summed)) => {
             let mut run = made;
-            let parts = run.stretches(stretches, workers);
+            let count = run.stretches(stretches, workers);
             let words = words_of(&summed);
             let done = write_form_of_run(
-                rt, alloc, &mut run, parts, workers, form, words, gate, tally, out,
+                rt, alloc, &mut run, count, workers, form, words, gate, tally, out,
             );
             *sums = summed;
             Some(done)
@@ -332,9 +351,9 @@ fn words_of(sums: &Option<Sums>) -> Option<FileSums<'_>>
     }
 }
 
-/// Reads the files, and makes the run of their job, whose tests may stand apart. Returns it with the
-/// sums of both files if they are wanted or the output has them. Returns `None` if the tests can't be
-/// read piece by piece.
+/// Reads the files, and makes the run of their job, whose tests may stand apart. Returns it with
+/// the sums of both files if they are wanted or the output has them. Returns `None` if the tests
+/// can't be read piece by piece.
 fn run_of<R: Threads + Wait, F: Read + Send + Drop>(
     rt: &R,
     alloc: Global,
@@ -344,14 +363,14 @@ fn run_of<R: Threads + Wait, F: Read + Send + Drop>(
     ensures some { AreBytes inputs.entry.tests → IsSome result }
     ensures job { IfSome (text_of F.remaining inputs.entry.tests) (λ text. IfSome result (λ read.
         IfOk read (λ made.
-        IsJobOf inputs.entry.model inputs.entry.bench.now text made.0.parts))) }
+        IsJobOf inputs.entry.model inputs.entry.bench.now text made.0.whole))) }
     ensures circuit { IfSome result (λ read. IfOk read (λ made.
-        IsAccepted inputs.entry.bench.now made.0.parts.circuit)) }
+        IsAccepted inputs.entry.bench.now made.0.whole.circuit)) }
     ensures model { IfSome result (λ read. IfOk read (λ made.
-        made.0.parts.list.model ≡ inputs.entry.model)) }
-    ensures together { IfSome result (λ read. IfOk read (λ made. BelongTogether made.0.parts)) }
+        made.0.whole.list.model ≡ inputs.entry.model)) }
+    ensures together { IfSome result (λ read. IfOk read (λ made. BelongTogether made.0.whole)) }
     ensures within { IfSome result (λ read. IfOk read (λ made.
-        IsWithinLimit inputs.entry.split.limit made.0.parts)) }
+        IsWithinLimit inputs.entry.split.limit made.0.whole)) }
     ensures tests { IfSome (text_of F.remaining inputs.entry.tests) (λ text. IfSome result (λ read.
         IfOk read (λ made. IsSome made.1 → tests_of made.1 ≡ sum_text text))) }
     ensures bench { IfSome result (λ read. IfOk read (λ made.
@@ -391,8 +410,8 @@ fn run_of_bytes<R: Threads + Wait>(
     limit: Limit,
     workers: u32,
 ) -> Result<(RunJob, Option<Sums>), SimFault>
-    ensures job { IfOk result (λ made. IsJobOf model bench.now tests.now made.0.parts) }
-    ensures within { IfOk result (λ made. IsWithinLimit limit made.0.parts) }
+    ensures job { IfOk result (λ made. IsJobOf model bench.now tests.now made.0.whole) }
+    ensures within { IfOk result (λ made. IsWithinLimit limit made.0.whole) }
     ensures tests { IfOk result (λ made. IsSome made.1 → tests_of made.1 ≡ sum_text tests.now) }
     ensures bench { IfOk result (λ made. IsSome made.1 → bench_of made.1 ≡ sum_text bench.now) }
     ensures summed { IfOk result (λ made. is_some made.1 ≡ is_summed) }
@@ -418,14 +437,14 @@ fn run_of_pieces<R: Threads + Wait, F: Read + Send + Drop>(
     workers: u32,
 ) -> Option<Result<(RunJob, Option<Sums>), SimFault>>
     ensures job { IfSome (F.remaining file) (λ text. IfSome result (λ read.
-        IfOk read (λ made. IsJobOf model bench.now text made.0.parts))) }
+        IfOk read (λ made. IsJobOf model bench.now text made.0.whole))) }
     ensures circuit { IfSome result (λ read. IfOk read (λ made.
-        IsAccepted bench.now made.0.parts.circuit)) }
+        IsAccepted bench.now made.0.whole.circuit)) }
     ensures model { IfSome result (λ read. IfOk read (λ made.
-        made.0.parts.list.model ≡ model)) }
-    ensures together { IfSome result (λ read. IfOk read (λ made. BelongTogether made.0.parts)) }
+        made.0.whole.list.model ≡ model)) }
+    ensures together { IfSome result (λ read. IfOk read (λ made. BelongTogether made.0.whole)) }
     ensures within { IfSome result (λ read. IfOk read (λ made.
-        IsWithinLimit limit made.0.parts)) }
+        IsWithinLimit limit made.0.whole)) }
     ensures tests { IfSome (F.remaining file) (λ text. IfSome result (λ read.
         IfOk read (λ made. IsSome made.1 → tests_of made.1 ≡ sum_text text))) }
     ensures bench { IfSome result (λ read. IfOk read (λ made.

@@ -66,11 +66,7 @@ pub(crate) fn do_merge<S: Source, W: Out>(
     let merged = merge_files(alloc, matches, &text, files)?;
     match outcome {
         None => write_merged(&merged, read_lines(matches), out)?,
-        Some(outcome) => {
-            let bench = InputFile::Bench.read(alloc, matches, files)?;
-            let model = model_of(alloc, &text, &bench)?;
-            write_outcome(alloc, model, &bench, &merged, outcome, out)?;
-        }
+        Some(outcome) => write_outcome(alloc, matches, &text, &merged, outcome, files, out)?,
     }
     check_threshold(threshold, merged.detected(), merged.total())
 }
@@ -88,16 +84,26 @@ fn merge_files<'t, S: Source>(
         Err(fault) => return Err(CommandError::of_merge(Some(InputFile::Part(0)), fault)),
     };
     for place in 1..count {
-        let file = InputFile::Part(place);
-        let more = file.read(alloc, matches, files)?;
-        merge = match merge.add(alloc, &more) {
-            Ok(sum) => sum,
-            Err(fault) => return Err(CommandError::of_merge(Some(file), fault)),
-        };
+        merge = merge_file(alloc, matches, merge, InputFile::Part(place), files)?;
     }
     match merge.end(alloc) {
         Ok(merged) => Ok(merged),
         Err(fault) => Err(CommandError::of_merge(None, fault)),
+    }
+}
+
+/// Adds a part file to a merge.
+fn merge_file<'t, S: Source>(
+    alloc: Global,
+    matches: &ArgMatches<'_>,
+    merge: Merge<'t>,
+    file: InputFile,
+    files: &mut S,
+) -> Result<Merge<'t>, CommandError> {
+    let text = file.read(alloc, matches, files)?;
+    match merge.add(alloc, &text) {
+        Ok(sum) => Ok(sum),
+        Err(fault) => Err(CommandError::of_merge(Some(file), fault)),
     }
 }
 
@@ -149,22 +155,40 @@ fn check_total(merged: &Merged<'_>, list: &Faults) -> Result<(), CommandError>
     Err(CommandError::Merge(Some(InputFile::Part(0)), MergeFault::Differs(line)))
 }
 
-/// Writes an output of a merged run of a bench file under a model.
-fn write_outcome<W: Out>(
+/// Writes an output of a merged run, whose first part file has this text, by the bench file of the
+/// command line.
+fn write_outcome<S: Source, W: Out>(
     alloc: Global,
-    model: Model,
-    bench: &[u8],
+    matches: &ArgMatches<'_>,
+    text: &[u8],
+    merged: &Merged<'_>,
+    outcome: Outcome,
+    files: &mut S,
+    out: &mut W,
+) -> Result<(), CommandError> {
+    let bench = InputFile::Bench.read(alloc, matches, files)?;
+    let model = model_of(alloc, text, &bench)?;
+    let (circuit, list) = read_list(alloc, model, &bench)?;
+    write_of_list(alloc, &circuit, &list, merged, outcome, out)
+}
+
+/// Writes an output of a merged run of a circuit and the list of its faults.
+fn write_of_list<W: Out>(
+    alloc: Global,
+    circuit: &Circuit,
+    list: &Faults,
     merged: &Merged<'_>,
     outcome: Outcome,
     out: &mut W,
-) -> Result<(), CommandError> {
-    let (circuit, list) = read_list(alloc, model, bench)?;
+) -> Result<(), CommandError>
+    requires { list.now.list ≡ faults list.now.model circuit.now }
+{
     if let Outcome::Classes(lines) = outcome {
-        let classes = collapse(alloc, &circuit, &list)?;
+        let classes = collapse(alloc, circuit, list)?;
         return write_classes(merged, &classes, lines, out);
     }
-    check_total(merged, &list)?;
-    write_listed(alloc, &circuit, &list, merged, outcome, out)
+    check_total(merged, list)?;
+    write_listed(alloc, circuit, list, merged, outcome, out)
 }
 
 /// Writes the report with the coverage of the classes. Each circuit has some class.

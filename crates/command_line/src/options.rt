@@ -1,7 +1,8 @@
 //! The options of the subcommands, as rows of tables.
 
 use crate::help::ABOUT_MODELS;
-use clap::{Arg, ArgAction, value_parser};
+use clap::builder::ValueParser;
+use clap::{Arg, ArgAction};
 use command_basics::MODELS;
 use report::MAX_WORKERS;
 use std::alloc::{AllocError, Global};
@@ -55,15 +56,16 @@ pub(crate) struct OptionRow {
     pub(crate) name: &'static str,
     short: Option<char>,
     pub(crate) takes: Takes,
-    /// The name of its value in the help.
-    value: Option<&'static str>,
-    default: Option<&'static str>,
+    /// The name of its value in the help, if it takes one.
+    value: &'static [&'static str],
+    /// Its value if it isn't used, if it then has one.
+    default: &'static [&'static str],
     is_required: bool,
     help: &'static str,
     /// The options that can't stand beside it.
     conflicts: &'static [&'static str],
-    /// The option that has to stand beside it.
-    needs: Option<&'static str>,
+    /// The options that have to stand beside it.
+    needs: &'static [&'static str],
 }
 
 /// A flag, of which each row has what differs.
@@ -71,19 +73,19 @@ const FLAG: OptionRow = OptionRow {
     name: "",
     short: None,
     takes: Takes::Nothing,
-    value: None,
-    default: None,
+    value: &[],
+    default: &[],
     is_required: false,
     help: "",
     conflicts: &[],
-    needs: None,
+    needs: &[],
 };
 
 const BENCH: OptionRow = OptionRow {
     name: "bench",
     short: Some('b'),
     takes: Takes::File,
-    value: Some("FILE"),
+    value: &["FILE"],
     is_required: true,
     help: "The circuit, a bench file",
     ..FLAG
@@ -100,8 +102,8 @@ const MODEL: OptionRow = OptionRow {
     name: "model",
     short: Some('m'),
     takes: Takes::Model,
-    value: Some("MODEL"),
-    default: Some("stuck"),
+    value: &["MODEL"],
+    default: &["stuck"],
     help: "Which faults: stuck-at, or slow to rise and slow to fall",
     ..FLAG
 };
@@ -110,8 +112,8 @@ const WORKERS: OptionRow = OptionRow {
     name: "workers",
     short: Some('w'),
     takes: Takes::Number(MAX_WORKERS),
-    value: Some("N"),
-    default: Some("4"),
+    value: &["N"],
+    default: &["4"],
     help: "The number of workers that share the run, 1 to 64",
     ..FLAG
 };
@@ -119,7 +121,7 @@ const WORKERS: OptionRow = OptionRow {
 const PARTS: OptionRow = OptionRow {
     name: "parts",
     takes: Takes::Parts,
-    value: Some("N"),
+    value: &["N"],
     help: "Run in N stretches of the fault classes, or auto, without a limit on pieces",
     ..FLAG
 };
@@ -147,7 +149,7 @@ const CLASSES: OptionRow = OptionRow {
 const BLOCKS: OptionRow = OptionRow {
     name: "blocks",
     takes: Takes::Text,
-    value: Some("S"),
+    value: &["S"],
     help: "Print the coverage of each block, too; S ends a block in a name, such as .",
     conflicts: &["list", "undetected", "classes"],
     ..FLAG
@@ -172,8 +174,8 @@ const BLOCKING: OptionRow = OptionRow {
 const FORMAT: OptionRow = OptionRow {
     name: "format",
     takes: Takes::Word(&["text", "csv", "json"]),
-    value: Some("FORMAT"),
-    default: Some("text"),
+    value: &["FORMAT"],
+    default: &["text"],
     help: "The format of the list of faults",
     ..FLAG
 };
@@ -182,10 +184,14 @@ const FORMAT: OptionRow = OptionRow {
 const RUN_FORMAT_HELP: &str =
     "The format of the list; csv and json list all faults, or only undetected ones";
 
+/// The help of `--classes` of `run`.
+const RUN_CLASSES_HELP: &str =
+    "Print the coverage of the fault classes, too, or with --format the class of each fault";
+
 const FAIL_UNDER: OptionRow = OptionRow {
     name: "fail-under",
     takes: Takes::Text,
-    value: Some("P"),
+    value: &["P"],
     help: "End with status 4 if the coverage of the faults is below P percent",
     ..FLAG
 };
@@ -220,14 +226,14 @@ pub(crate) static RUN_OPTIONS: [OptionRow; 18] = [
     OptionRow {
         name: "part",
         takes: Takes::Text,
-        value: Some("I/N"),
+        value: &["I/N"],
         help: "Run only part I of N, from 1, and write its part file",
         ..FLAG
     },
     OptionRow {
         name: "detections",
         takes: Takes::Number(MAX_DETECTIONS),
-        value: Some("N"),
+        value: &["N"],
         help: "Count up to N tests that detect each fault, 1 to 65536",
         conflicts: &["part"],
         ..FLAG
@@ -235,8 +241,8 @@ pub(crate) static RUN_OPTIONS: [OptionRow; 18] = [
     OptionRow {
         name: "histogram",
         help: "With --detections, also write how many faults have each count",
-        conflicts: &["undetected", "classes"],
-        needs: Some("detections"),
+        conflicts: &["undetected", "classes", "blocks", "part"],
+        needs: &["detections"],
         ..FLAG
     },
     LIST,
@@ -248,7 +254,7 @@ pub(crate) static RUN_OPTIONS: [OptionRow; 18] = [
         ..FLAG
     },
     OptionRow {
-        help: "Print the coverage of the fault classes, too, or with --format the class of each fault",
+        help: RUN_CLASSES_HELP,
         ..CLASSES
     },
     OptionRow {
@@ -268,7 +274,7 @@ pub(crate) static RUN_OPTIONS: [OptionRow; 18] = [
     OptionRow {
         name: "summary",
         takes: Takes::Text,
-        value: Some("FILE"),
+        value: &["FILE"],
         help: "Write a summary of the run to FILE, as JSON",
         conflicts: &["part", "histogram"],
         ..FLAG
@@ -303,8 +309,8 @@ pub(crate) static COMPACT_OPTIONS: [OptionRow; 8] = [
     OptionRow {
         name: "order",
         takes: Takes::Word(&["list", STEEPEST]),
-        value: Some("ORDER"),
-        default: Some("list"),
+        value: &["ORDER"],
+        default: &["list"],
         help: "The order of the kept tests",
         ..FLAG
     },
@@ -343,11 +349,11 @@ pub(crate) static MERGE_OPTIONS: [OptionRow; 8] = [
     LIST,
     UNDETECTED,
     OptionRow {
-        needs: Some("bench"),
+        needs: &["bench"],
         ..CLASSES
     },
     OptionRow {
-        needs: Some("bench"),
+        needs: &["bench"],
         ..BLOCKS
     },
     OptionRow {
@@ -364,53 +370,61 @@ pub(crate) static MERGE_OPTIONS: [OptionRow; 8] = [
     OptionRow {
         name: PART_FILES,
         takes: Takes::Files,
-        value: Some("FILE"),
+        value: &["FILE"],
         is_required: true,
         help: "The part files of one run, in any order",
         ..FLAG
     },
 ];
 
-impl OptionRow {
-    /// Returns the option of the parser. If `has_word` is set, the number of parts may be a word:
-    /// the parser of a number takes none.
-    pub(crate) fn arg<'a>(&self, alloc: Global, has_word: bool) -> Result<Arg<'a>, AllocError> {
-        let mut arg = Arg::new(alloc, self.name)
-            .required(self.is_required)
-            .help(self.help);
-        if let Some(letter) = self.short {
-            arg = arg.short(letter);
+impl Takes {
+    /// Returns what the parser does with an option.
+    fn action(self) -> ArgAction {
+        match self {
+            Takes::Nothing => ArgAction::SetTrue,
+            Takes::Files => ArgAction::Append,
+            _ => ArgAction::Set,
         }
-        if let Some(value) = self.value {
-            arg = arg.value_name(value);
+    }
+
+    /// Returns the parser of a value. If `has_word` is set, the number of parts may be a word: the
+    /// parser of a number takes none.
+    fn parser(self, has_word: bool) -> ValueParser<'static> {
+        match self {
+            Takes::Nothing => ValueParser::Bool,
+            Takes::Text | Takes::File | Takes::Files => ValueParser::String,
+            Takes::Parts if has_word => ValueParser::Names(&PARTS_CHOICES),
+            Takes::Parts => ValueParser::Signed(1, i64::from(MAX_PARTS)),
+            Takes::Number(most) => ValueParser::Signed(1, i64::from(most)),
+            Takes::Word(words) => ValueParser::Names(words),
+            Takes::Model => ValueParser::Names(&MODELS),
         }
-        if let Some(default) = self.default {
-            arg = arg.default_value(default);
-        }
-        if let Some(other) = self.needs {
-            arg = arg.requires_arg(other)?;
-        }
-        for other in self.conflicts {
-            arg = arg.conflicts_with(other)?;
-        }
-        if matches!(self.takes, Takes::Files) {
-            return Ok(arg.action(ArgAction::Append).num_args(1..));
-        }
-        Ok(with_parser(arg.long(self.name), self.takes, has_word))
     }
 }
 
-/// Returns an option with the parser of what it takes.
-fn with_parser<'a>(arg: Arg<'a>, takes: Takes, has_word: bool) -> Arg<'a> {
-    match takes {
-        Takes::Nothing => arg.action(ArgAction::SetTrue),
-        Takes::Text | Takes::File | Takes::Files => arg,
-        Takes::Number(most) => arg.value_parser(value_parser!(u32).range(1..=i64::from(most))),
-        Takes::Parts if has_word => arg
-            .hide_possible_values(true)
-            .value_parser(PARTS_CHOICES.as_slice()),
-        Takes::Parts => arg.value_parser(value_parser!(u32).range(1..=i64::from(MAX_PARTS))),
-        Takes::Word(words) => arg.value_parser(words),
-        Takes::Model => arg.value_parser(MODELS.as_slice()).long_help(ABOUT_MODELS),
+impl OptionRow {
+    /// Returns the option of the parser.
+    pub(crate) fn arg<'a>(&self, alloc: Global, has_word: bool) -> Result<Arg<'a>, AllocError> {
+        let arg = Arg::new(alloc, self.name)
+            .required(self.is_required)
+            .help(self.help)
+            .value_names(self.value)
+            .default_values(self.default)
+            .hide_possible_values(matches!(self.takes, Takes::Parts))
+            .action(self.takes.action())
+            .value_parser(self.takes.parser(has_word))
+            .requires_all(self.needs)?
+            .conflicts_with_all(self.conflicts)?;
+        Ok(self.named(arg))
+    }
+
+    /// Returns an option with its names, the files of `merge` without any.
+    fn named<'a>(&self, arg: Arg<'a>) -> Arg<'a> {
+        match (self.takes, self.short) {
+            (Takes::Files, _) => arg.num_args(1..),
+            (Takes::Model, _) => arg.long(self.name).short('m').long_help(ABOUT_MODELS),
+            (_, Some(letter)) => arg.long(self.name).short(letter),
+            (_, None) => arg.long(self.name),
+        }
     }
 }

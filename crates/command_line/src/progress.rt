@@ -2,10 +2,10 @@
 
 use crate::tally::Tally;
 use block_sim::Job;
+use byte_output::put_all;
 use patterns::Tests;
-use report::{Formatted, Gate, MAX_WORKERS, Out, ReasonCounts, Verdicts, Watch};
+use report::{Gate, MAX_WORKERS, Out, ReasonCounts, Verdicts, Watch};
 use std::alloc::{AllocError, Global};
-use std::fmt::Write;
 use std::sync::Mutex;
 use std::sync::atomic::{AtomicU64, Ordering};
 
@@ -33,10 +33,10 @@ fn set(number: &AtomicU64, value: u64) {
 struct Place {
     /// The pieces that it has settled.
     settled: AtomicU64,
-    /// The settled pieces of the parts that it has run.
+    /// The settled pieces of the stretches that it has run.
     done: AtomicU64,
-    /// The classes of the part that it runs: the watched ones at block 0, because it comes to all
-    /// of them there.
+    /// the classes of the stretch that it runs: the watched ones at block 0, because it comes to
+    /// all of them there.
     classes: AtomicU64,
     /// The current block of the worker, counted from the first of the window.
     block: AtomicU64,
@@ -78,7 +78,7 @@ impl Place {
         set(&self.settled, get(&self.done).saturating_add(part));
     }
 
-    /// Forgets all, for the parts of the next window.
+    /// Forgets all, for the stretches of the next window.
     fn begin(&self) {
         for number in [&self.settled, &self.done, &self.classes, &self.block] {
             set(number, 0);
@@ -114,11 +114,12 @@ impl<'a, E: Out> Pen<'a, E> {
         }
     }
 
-    /// Writes the line. It leaves out a line that fails.
+    /// Writes the line, from the beginning of the line before it. It leaves out a line that fails.
     fn put(&mut self, settled: u64, pieces: u64, percent: u64, end: &str) {
         self.open = true;
-        if let Ok(line) = line_of(self.alloc, settled, pieces, percent, end) {
-            put_text(&line, self.err);
+        let text = format!(in self.alloc; "\r{settled} of {pieces} pieces, {percent}%{end}");
+        if let Ok(line) = text {
+            let _ = put_all(line.as_bytes(), self.err);
         }
     }
 
@@ -126,25 +127,9 @@ impl<'a, E: Out> Pen<'a, E> {
     fn end_line(&mut self) {
         if self.open {
             self.open = false;
-            put_text("\n", self.err);
+            let _ = put_all(b"\n", self.err);
         }
     }
-}
-
-/// Writes a text. It leaves out a text that fails.
-fn put_text<E: Out>(text: &str, err: &mut E) {
-    let _ = write!(Formatted(err), "{text}");
-}
-
-/// Returns the line. It begins at the beginning of the line before it.
-fn line_of(
-    alloc: Global,
-    settled: u64,
-    pieces: u64,
-    percent: u64,
-    end: &str,
-) -> Result<String, AllocError> {
-    format!(in alloc; "\r{settled} of {pieces} pieces, {percent}%{end}")
 }
 
 /// A gate that lets every piece pass, and draws how many are settled, from the watched ones. Each

@@ -109,6 +109,20 @@ impl CommandError {
         }
     }
 
+    /// Returns the path or the value of the command line that its words name.
+    fn named<'a>(&self, matches: &ArgMatches<'a>) -> &'a str {
+        let named = match self {
+            CommandError::Unreadable(file, _) | CommandError::Merge(Some(file), _) => {
+                file.path(matches)
+            }
+            CommandError::Unwritten => matches.get_str("summary"),
+            CommandError::Columns(_) => matches.get_str("tests"),
+            CommandError::Missed => matches.get_str("fail-under"),
+            _ => None,
+        };
+        named.unwrap_or("")
+    }
+
     /// Returns the status of the error.
     fn status(&self) -> u8
         ensures failed { 0 < result }
@@ -124,22 +138,6 @@ impl CommandError {
     }
 }
 
-/// Returns the value of an option.
-fn word_of<'a>(matches: Option<&ArgMatches<'a>>, option: &str) -> &'a str {
-    match matches {
-        Some(matches) => matches.get_str(option).unwrap_or(""),
-        None => "",
-    }
-}
-
-/// Returns the path of a file.
-fn path_of<'a>(matches: Option<&ArgMatches<'a>>, file: InputFile) -> &'a str {
-    match matches {
-        Some(matches) => file.path(matches).unwrap_or(""),
-        None => "",
-    }
-}
-
 /// Writes an error on one line, and its details on a second line. Returns its status, also if the
 /// lines cannot be written. The paths are those of the command line, if it could be parsed.
 pub(crate) fn answer_fault<E: Out>(
@@ -150,41 +148,32 @@ pub(crate) fn answer_fault<E: Out>(
     ensures failed { 0 < result }
     ensures few { result ≤ 4 }
 {
+    let named = match matches {
+        Some(matches) => fault.named(matches),
+        None => "",
+    };
+    write_fault(fault, named, err);
+    fault.status()
+}
+
+/// Writes an error with the path or the value that its words name.
+fn write_fault<E: Out>(fault: &CommandError, named: &str, err: &mut E) {
     let mut text = Formatted(err);
     let _ = match fault {
         CommandError::NoText => writeln!(text, "faultsim: an argument is no text"),
-        CommandError::Misused(misuse) => {
-            writeln!(text, "faultsim: cannot use {}", misuse.words())
+        CommandError::Misused(misuse) => writeln!(text, "faultsim: cannot use {}", misuse.words()),
+        CommandError::Unreadable(_, fault) => {
+            writeln!(text, "faultsim: cannot read {named}{fault}")
         }
-        CommandError::Unreadable(file, fault) => {
-            writeln!(
-                text,
-                "faultsim: cannot read {}{fault}",
-                path_of(matches, *file)
-            )
-        }
-        CommandError::Unwritten => writeln!(
-            text,
-            "faultsim: cannot write {}",
-            word_of(matches, "summary")
-        ),
-        CommandError::Sim(fault) => writeln!(text, "faultsim: {fault}"),
-        CommandError::Columns(mismatch) => {
-            writeln!(text, "faultsim: {}: {mismatch}", word_of(matches, "tests"))
-        }
+        CommandError::Unwritten => writeln!(text, "faultsim: cannot write {named}"),
+        CommandError::Columns(mismatch) => writeln!(text, "faultsim: {named}: {mismatch}"),
         CommandError::TooManyPieces(fault, excess) => {
             writeln!(text, "faultsim: {fault}\n    {excess}")
         }
-        CommandError::Merge(Some(file), fault) => {
-            writeln!(text, "faultsim: {}: {fault}", path_of(matches, *file))
-        }
+        CommandError::Merge(Some(_), fault) => writeln!(text, "faultsim: {named}: {fault}"),
+        CommandError::Sim(fault) => writeln!(text, "faultsim: {fault}"),
         CommandError::Merge(None, fault) => writeln!(text, "faultsim: {fault}"),
         CommandError::Lost => writeln!(text, "faultsim: results lost"),
-        CommandError::Missed => writeln!(
-            text,
-            "faultsim: coverage below {}%",
-            word_of(matches, "fail-under")
-        ),
+        CommandError::Missed => writeln!(text, "faultsim: coverage below {named}%"),
     };
-    fault.status()
 }

@@ -7,15 +7,14 @@ use report::{Gate, ReasonCounts, RunCounts, Verdicts, Watch, count_run};
 use std::sync::Mutex;
 
 /// The results that a gate has seen of its run.
-#[derive(Clone, Copy, Debug, PartialEq, Eq)]
+#[derive(Clone, Copy)]
 pub(crate) struct Found {
     pub(crate) counts: Option<RunCounts>,
     pub(crate) reasons: Option<ReasonCounts>,
     pub(crate) kept: Option<KeptCount>,
 }
 
-/// The results of a run, once they are known. It is a gate that lets every piece pass, and notes the
-/// results of the run.
+/// A gate that lets every piece pass, and notes the results of its run once they are known.
 #[derive(Drop)]
 pub(crate) struct Tally {
     found: Mutex<Found>,
@@ -61,10 +60,6 @@ impl Gate for Tally {
 }
 
 impl Watch for Tally {
-    fn starts(&self, _classes: u32, _blocks: u32) {}
-
-    fn ends(&self) {}
-
     fn finds(&self, job: &Job, tests: &Tests, verdicts: &Verdicts) {
         let counts = count_run(job, tests, verdicts);
         if let Some(mut found) = self.found.try_lock() {

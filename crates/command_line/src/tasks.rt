@@ -8,7 +8,7 @@ use crate::options::{
     CHECK_OPTIONS, COMPACT_OPTIONS, CURVE_OPTIONS, FAULTS_OPTIONS, MERGE_OPTIONS, OptionRow,
     RESPONSES_OPTIONS, RUN_OPTIONS, SCHEDULE_OPTIONS,
 };
-use clap::Command;
+use clap::{Arg, Command};
 use command_basics::VERSION;
 use std::alloc::{AllocError, Global};
 
@@ -101,16 +101,23 @@ impl Task {
         }
     }
 
+    /// Returns the options of the parser.
+    fn args<'a>(self, alloc: Global, has_word: bool) -> Result<Vec<Arg<'a>>, AllocError> {
+        let mut args = Vec::new(alloc);
+        for option in self.options() {
+            args.push(option.arg(alloc, has_word)?)?;
+        }
+        Ok(args)
+    }
+
     /// Returns the subcommand.
     fn subcommand<'a>(self, alloc: Global, has_word: bool) -> Result<Command<'a>, AllocError> {
-        let mut command = Command::new(alloc, self.name())
+        let args = self.args(alloc, has_word)?;
+        Command::new(alloc, self.name())
             .about(self.about())
             .after_help(FILES)
-            .after_long_help(self.example());
-        for option in self.options() {
-            command = command.arg(option.arg(alloc, has_word)?)?;
-        }
-        Ok(command)
+            .after_long_help(self.example())
+            .args(args)
     }
 }
 
@@ -118,16 +125,23 @@ impl Task {
 const ABOUT_THE_ORDER: &str =
     "Simulates as run does, in a given order of moves, for tests of the simulator itself";
 
+/// Returns all subcommands.
+fn subcommands<'a>(alloc: Global, has_word: bool) -> Result<Vec<Command<'a>>, AllocError> {
+    let mut commands = Vec::new(alloc);
+    for task in &TASKS {
+        commands.push(task.subcommand(alloc, has_word)?)?;
+    }
+    Ok(commands)
+}
+
 /// Returns the command line of the program. If `has_word` is set, the number of parts may be a
 /// word.
 pub(crate) fn command_line<'a>(alloc: Global, has_word: bool) -> Result<Command<'a>, AllocError> {
-    let mut command = Command::new(alloc, "faultsim")
+    let commands = subcommands(alloc, has_word)?;
+    Command::new(alloc, "faultsim")
         .version(VERSION)
         .about("Parallel fault simulation of bench circuits")
         .after_long_help(ABOUT_TEXTS)
-        .subcommand_required(true);
-    for task in &TASKS {
-        command = command.subcommand(task.subcommand(alloc, has_word)?)?;
-    }
-    Ok(command)
+        .subcommand_required(true)
+        .subcommands(commands)
 }

@@ -60,10 +60,7 @@ pub(crate) fn read_separator(matches: &ArgMatches<'_>) -> Result<Option<Separato
     let Some(text) = matches.get_str("blocks") else {
         return Ok(None);
     };
-    match separator_of(text.as_bytes()) {
-        Some(separator) => Ok(Some(separator)),
-        None => Err(Misuse::Blocks),
-    }
+    Ok(Some(separator_of(text.as_bytes()).ok_or(Misuse::Blocks)?))
 }
 
 /// Returns the separator that bytes are.
@@ -76,7 +73,7 @@ fn separator_of(bytes: &[u8]) -> Option<Separator> {
 }
 
 /// How a run of all classes is split.
-#[derive(Clone, Copy, Debug, PartialEq, Eq)]
+#[derive(Clone, Copy)]
 pub(crate) struct Split {
     /// The limit of its size.
     pub(crate) limit: Limit,
@@ -101,36 +98,22 @@ pub(crate) fn has_word(words: &[&str]) -> bool {
     false
 }
 
-/// Returns how the command line splits a run. Only without `--parts` does a limit apply to its size.
+/// Returns how the command line splits a run. Only without `--parts` is its size limited.
 pub(crate) fn read_split(matches: &ArgMatches<'_>) -> Result<Split, Misuse> {
-    let Some(text) = matches.get_str("parts") else {
-        return Ok(Split {
-            limit: Limit::Pieces,
-            stretches: None,
-        });
+    let (limit, stretches) = match matches.get_str("parts") {
+        None => (Limit::Pieces, None),
+        Some(text) if text == AUTO => (Limit::None, None),
+        Some(_) => (
+            Limit::None,
+            Some(matches.get_one::<u32>("parts").ok_or(Misuse::Parts)?),
+        ),
     };
-    let limit = Limit::None;
-    if text == AUTO {
-        return Ok(Split {
-            limit,
-            stretches: None,
-        });
-    }
-    match matches.get_one::<u32>("parts") {
-        Some(count) => Ok(Split {
-            limit,
-            stretches: Some(count),
-        }),
-        None => Err(Misuse::Parts),
-    }
+    Ok(Split { limit, stretches })
 }
 
 /// Returns the number of workers that the command line names.
 pub(crate) fn read_workers(matches: &ArgMatches<'_>) -> Result<u32, Misuse> {
-    match matches.get_one::<u32>("workers") {
-        Some(workers) => Ok(workers),
-        None => Err(Misuse::Unset),
-    }
+    matches.get_one::<u32>("workers").ok_or(Misuse::Unset)
 }
 
 /// Returns the number of workers that share a run of two files: the one that the command line

@@ -51,11 +51,7 @@ impl<C: Clock> Gate for Roll<'_, C> {
     }
 }
 
-impl<C: Clock> Watch for Roll<'_, C> {
-    fn starts(&self, _classes: u32, _blocks: u32) {}
-
-    fn ends(&self) {}
-}
+impl<C: Clock> Watch for Roll<'_, C> {}
 
 /// Returns whether C17 with one test is reported by four workers that wait for each other.
 fn is_met<R: Threads + Wait + Clock + Sync>(rt: &R, alloc: Global) -> Result<bool, SimFault> {

@@ -1,6 +1,11 @@
 -- The tests that detect each class, by the words of the class.
-use Rattle.std.proofs.Common.{◌≡◌, ◌+◌, ◌*◌, ◌/◌, ◌%◌, ◌<◌, ◌∙◌, ℕ, List, []}
-use Rattle.std.proofs.Common.{ap, arith, get_or, length, map, subst, sym}
+use Rattle.std.proofs.Common.{◌≡◌, ◌+◌, ◌*◌, ◌/◌, ◌%◌, ◌<◌, ◌≤◌, ◌∙◌, ◌⊎◌, ◌==◌, inl, inr, ℕ, List, []}
+use Rattle.std.proofs.Common.{Bool, true, false, ap, arith, get_or, length, map, not, refl, subst, sym}
+use Rattle.std.specs.List.{list_any}
+use Rattle.std.proofs.lemmas.Bool.{cases_lt, eqb-true, false≢true}
+use Rattle.std.proofs.lemmas.List.{get_or_past}
+use Rattle.std.proofs.lemmas.List.Folds.{list_any_at}
+use Rattle.flat_circuit.proofs.Public.{lane_zero}
 use Rattle.std.specs.Prelude.{Option, Some, slice_get, slice_index, unwrap_or}
 use Rattle.std.specs.Bool.{Decides}
 use Rattle.std.specs.declared.vec.Vec.{Vec}
@@ -14,7 +19,7 @@ use Rattle.flat_circuit.specs.BlockSpans.{groups}
 use Rattle.flat_circuit.specs.Words.{lane}
 use Rattle.block_sim.specs.Parts.{BelongTogether, Parts}
 use Rattle.n_detect.specs.ClassTests.{AreClassTests}
-use Rattle.compaction.specs.Detections.{DetectionTable, HasGroups, detects_by, words_of}
+use Rattle.compaction.specs.Detections.{DetectionTable, HasGroups, detects_by, is_detected, words_of}
 use Rattle.compaction.specs.Steepest.{DetectsClasses}
 
 -- the words of the class at a position
@@ -93,28 +98,28 @@ module _ {Z : Type 0} (job : Parts) (positions : List ℕ) (rows : List (Vec ℕ
       ∙ get_or_from_slice_get row.0.items (t / 128) word.0 0 word.1 in
       subst (λ w. Decides (lane w k) (DetectsAt c tests r t)) (sym read) of_r
 
--- ---- one row
+-- ---- classes that no test detects
 
-module _ {Z : Type 0} (positions : List ℕ) (rows : List (Vec ℕ Z)) (tests : ℕ)
-    (value : DetectionTable) (class : ℕ)
-    (is : record { words = words_of positions rows; tests = tests } ≡ value)
-    (low : class < length value.words) where
-  -- the class has a position
-  pub class_here : class < length positions
-  class_here =
-      let same = ap (λ (t : DetectionTable). length t.words) is in
-      let long = length-map positions
-      (λ position. get_or (map (λ (v : Vec ℕ Z). v.items) rows) position []) in
-      omega (arith, low, same, long)
+-- a row of words without a lane
+no_lane : (row : List ℕ) → list_any (λ word. not (word == 0)) row ≡ false → (group k : ℕ)
+    → lane (get_or row group 0) k ≡ false
+no_lane row none group k = go (cases_lt group (length row))
+  where
+    zero_so : (b : Bool) → (get_or row group 0 == 0) ≡ b → group < length row
+        → get_or row group 0 ≡ 0
+    zero_so true e lt = eqb-true (get_or row group 0) 0 e
+    zero_so false e lt =
+        let on = list_any_at (λ word. not (word == 0)) row group 0 lt (ap not e) in
+        absurd (false≢true (sym none ∙ on))
 
-  -- the words of the class
-  pub row_here : get_or (map (λ v. v.items) rows) (slice_index positions class) []
-      ≡ get_or value.words class []
-  row_here = sym (words_read positions rows class class_here)
-      ∙ ap (λ (t : DetectionTable). get_or t.words class []) is
+    read : get_or row group 0 ≡ 0 → lane (get_or row group 0) k ≡ false
+    read e = ap (λ w. lane w k) e ∙ lane_zero k
 
-  pub groups_here : HasGroups (record { words = words_of positions rows; tests = tests })
-      → length (get_or value.words class []) ≡ groups value.tests
-  groups_here has =
-      let all : HasGroups value = subst (λ (t : DetectionTable). HasGroups t) is has in
-      all class [] low
+    go : (group < length row) ⊎ (length row ≤ group) → lane (get_or row group 0) k ≡ false
+    go (inl lt) = read (zero_so (get_or row group 0 == 0) refl lt)
+    go (inr past) = read (get_or_past row group 0 past)
+
+pub undetected : (table : DetectionTable) (class t : ℕ) → is_detected table class ≡ false
+    → detects_by table class t ≡ false
+undetected table class t none =
+    no_lane (get_or table.words class []) none (t / 128) (t % 128)

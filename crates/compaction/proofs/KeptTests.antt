@@ -2,7 +2,7 @@
 use Rattle.std.proofs.Common.{◌≡◌, ◌<◌, ◌≤◌, ◌+◌, ◌-◌, ◌*◌, ◌∙◌, ℕ, zero, suc, Bool, true, false}
 use Rattle.std.proofs.Common.{List, ◌∷◌, [], length, ap, refl, sym, subst, arith, add-one, inl, inr}
 use Rattle.std.proofs.Common.{◌⊎◌, get_or, take}
-use Rattle.std.specs.Prelude.{◌||◌, ⊤, Contains, IfOk, Option, Some, None, Result, Ok, Err}
+use Rattle.std.specs.Prelude.{◌||◌, Contains, IfOk, Option, Some, None, Result, Ok, Err}
 use Rattle.std.specs.Prelude.{slice_get}
 use Rattle.std.specs.List.{ReversedBelow}
 use Rattle.std.proofs.lemmas.Bool.{cases_lt, eqb-true, eq-eqb}
@@ -20,9 +20,7 @@ use Rattle.fault_model.specs.declared.Line.{Line}
 use Rattle.fault_model.specs.Detection.{DetectsAt, IsInitialized, IsSecondOfPair, LooksBack}
 use Rattle.fault_model.proofs.Public.{listed_model}
 use Rattle.patterns.specs.Least.{below}
-use Rattle.patterns.specs.Tests.{TestList, blocks}
 use Rattle.block_sim.specs.First.{IsFirst}
-use Rattle.block_sim.specs.Parts.{Parts, with_tests}
 use Rattle.workers.specs.Verdict.{AreFirsts}
 use Rattle.compaction.specs.Compaction.{AreEarly, Covers, IsFirstForSome, IsFirstOrBefore}
 use Rattle.compaction.specs.Compaction.{IsLastForSome, IsLastOrBefore, IsNeeded, IsNumbered}

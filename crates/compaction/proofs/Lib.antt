@@ -1,7 +1,7 @@
 mod ElementsAtMarks
 mod TestNumbers
 mod PushedElements
-mod ClassesLeft
+mod TallyDigits
 mod DetectedClasses
 mod SteepestOrder
 mod OrderedTests

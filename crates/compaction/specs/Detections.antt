@@ -1,5 +1,7 @@
 -- The tests of a job that detect each class, in words of 128 tests.
-use Rattle.std.specs.Prelude.{◌≡◌, ℕ, ◌/◌, ◌%◌, All, Bool, List, [], length, map, slice_index_or}
+use Rattle.std.specs.Prelude.{◌≡◌, ◌==◌, ℕ, ◌/◌, ◌%◌, All, Bool, List, [], length, map, not}
+use Rattle.std.specs.Prelude.{slice_index_or}
+use Rattle.std.specs.List.{list_any}
 use Rattle.std.specs.declared.vec.Vec.{Vec}
 use Rattle.flat_circuit.specs.BlockSpans.{groups}
 use Rattle.flat_circuit.specs.Words.{lane}
@@ -19,6 +21,11 @@ words_of positions rows =
 abbrev pub detects_by : DetectionTable → ℕ → ℕ → Bool
 detects_by table class test =
     lane (slice_index_or (slice_index_or table.words class []) (test / 128) 0) (test % 128)
+
+-- whether some test detects a class
+abbrev pub is_detected : DetectionTable → ℕ → Bool
+is_detected table class =
+    list_any (λ word. not (word == 0)) (slice_index_or table.words class [])
 
 -- each class has a word for each group of the tests
 abbrev pub HasGroups : DetectionTable → Type 0

@@ -5,7 +5,7 @@ ghost use Rattle.std.specs.Prelude.{slice_index, slice_index_or};
 ghost use Rattle.flat_circuit.specs.BlockSpans.{groups};
 ghost use Rattle.flat_circuit.specs.Words.{lane};
 ghost use Rattle.region_runs.specs.Refused.{IsOpenFault};
-ghost use Rattle.compaction.specs.Detections.{detects_by};
+ghost use Rattle.compaction.specs.Detections.{detects_by, words_of};
 ghost use Rattle.compaction.specs.Steepest.{DetectsClasses};
 
 use block_sim::Job;
@@ -18,7 +18,7 @@ use std::thread::Threads;
 use workers::RunFault;
 
 /// The number of tests of which a word has the lanes.
-const GROUP_SIZE: u32 = 128;
+pub(crate) const GROUP_SIZE: u32 = 128;
 
 /// The tests of a job that detect each class: for each class a word for each group of 128 tests.
 #[derive(Drop)]
@@ -47,18 +47,18 @@ impl Model for Detections {
 }
 
 impl Detections {
-    /// Simulates each class of a job under all of its tests. The run is one in `parts` parts, under
-    /// a gate that lets each piece pass.
+    /// Simulates each class of a job under all of its tests. The run is one in this number of
+    /// stretches, under a gate that lets each piece pass.
     pub fn new<G: Watch + Sync, R: Threads + Wait>(
         rt: &R,
         alloc: Global,
         job: &Job,
-        parts: u32,
+        stretches: u32,
         workers: u32,
         gate: &G,
     ) -> Result<Detections, RunFault>
         requires passing { G.passing gate.now }
-        requires parts { 0 < parts }
+        requires stretches { 0 < stretches }
         ensures classes { IfOk result (λ d. length d.words
             ≡ length job.now.classes.representative) }
         ensures tests { IfOk result (λ d. d.tests ≡ length job.now.tests.tests) }
@@ -67,7 +67,7 @@ impl Detections {
         ensures workers { OnOk result ((0 < workers) × (workers ≤ 64)) }
         ensures refused { IfErr result (IsOpenFault workers) }
     {
-        let found = class_tests(rt, alloc, job, parts, workers, gate)?;
+        let found = class_tests(rt, alloc, job, stretches, workers, gate)?;
         let tests = job.tests().count();
         let ClassTests {
             positions,
@@ -94,10 +94,15 @@ impl Detections {
         self.tests
     }
 
+    /// Returns the number of groups of 128 tests.
+    pub fn groups(&self) -> usize
+        ensures { result ≡ groups self.now.tests }
+    {
+        self.tests.div_ceil(GROUP_SIZE) as usize
+    }
+
     /// Returns whether a test detects a class.
     pub fn detects(&self, class: usize, test: u32) -> bool
-        requires class { class < length self.now.words }
-        requires test { test < self.now.tests }
         ensures { result ≡ detects_by self.now class test }
     {
         bit_of(self.row(class), test)
@@ -106,9 +111,8 @@ impl Detections {
     /// Returns the words of a class, one for each group of 128 tests. A lane is 1 if its test
     /// detects the class.
     pub fn row(&self, class: usize) -> &[u128]
-        requires { class < length self.now.words }
         ensures words { result.now ≡ slice_index_or self.now.words class [] }
-        ensures count { length result.now ≡ groups self.now.tests }
+        ensures count { class < length self.now.words → length result.now ≡ groups self.now.tests }
     {
         row_of(self.positions.as_slice(), self.rows.as_slice(), class)
     }
@@ -116,26 +120,36 @@ impl Detections {
 
 /// Returns the words at the position of a class.
 fn row_of<'r>(positions: &[u32], rows: &'r [Vec<u128>], class: usize) -> &'r [u128]
-    requires { class < length positions.now }
-    ensures { result.now ≡ slice_index_or (map (λ row. row.items) rows.now)
-        (slice_index positions.now class) [] }
+    ensures { result.now ≡ slice_index_or (words_of positions.now rows.now) class [] }
 {
-    match rows.get(positions[class] as usize) {
+    match positions.get(class) {
+        Some(position) => row_at(rows, *position),
+        None => &[],
+    }
+}
+
+/// Returns the words at a position.
+fn row_at<'r>(rows: &'r [Vec<u128>], position: u32) -> &'r [u128]
+    ensures { result.now ≡ slice_index_or (map (λ row. row.items) rows.now) position [] }
+{
+    match rows.get(position as usize) {
         Some(row) => row.as_slice(),
         None => &[],
     }
 }
 
 /// Returns the bit of a test in the words of a class.
-pub(crate) fn bit_of(row: &[u128], test: u32) -> bool
-    requires { test / 128 < length row.now }
+fn bit_of(row: &[u128], test: u32) -> bool
     ensures { result ≡ lane (slice_index_or row.now (test / 128) 0) (test % 128) }
 {
-    lane_bit(row[(test / GROUP_SIZE) as usize], test % GROUP_SIZE)
+    match row.get((test / GROUP_SIZE) as usize) {
+        Some(word) => lane_bit(*word, test % GROUP_SIZE),
+        None => false,
+    }
 }
 
 /// Returns the bit of a word at a lane.
-fn lane_bit(word: u128, place: u32) -> bool
+pub(crate) fn lane_bit(word: u128, place: u32) -> bool
     requires { place < 128 }
     ensures { result ≡ lane word place }
 {

@@ -13,24 +13,24 @@ use std::thread::Threads;
 use workers::{RunFault, Verdicts};
 
 /// Returns for each test of a job whether it is the first to detect some fault. The run is one in
-/// `parts` parts, under a gate that lets each piece pass.
+/// this number of stretches, under a gate that lets each piece pass.
 pub fn finding_tests<G: Watch + Sync, R: Threads + Wait>(
     rt: &R,
     alloc: Global,
     run: &mut RunJob,
-    parts: u32,
+    stretches: u32,
     workers: u32,
     gate: &G,
 ) -> Result<Vec<bool>, RunFault>
     requires passing { G.passing gate.now }
-    requires parts { 0 < parts }
-    ensures marks { IfOk result (λ marks. AreFinding run.old.parts.list.model
-        run.old.parts.circuit run.old.parts.tests.tests marks.items) }
+    requires stretches { 0 < stretches }
+    ensures marks { IfOk result (λ marks. AreFinding run.old.whole.list.model
+        run.old.whole.circuit run.old.whole.tests.tests marks.items) }
     ensures workers { OnOk result ((0 < workers) × (workers ≤ 64)) }
     ensures refused { IfErr result (IsOpenFault workers) }
     ensures same { run.new ≡ run.old }
 {
-    let verdicts = run.run(rt, alloc, parts, workers, gate)?;
+    let verdicts = run.run(rt, alloc, stretches, workers, gate)?;
     Ok(marks_of(alloc, &verdicts, run.tests().count())?)
 }
 

@@ -15,25 +15,25 @@ use std::thread::Threads;
 use workers::RunFault;
 
 /// Returns for each test of a job whether it is the last to detect some fault. The run is one in
-/// `parts` parts, under a gate that lets each piece pass.
+/// this number of stretches, under a gate that lets each piece pass.
 pub fn lasting_tests<G: Watch + Sync, R: Threads + Wait>(
     rt: &R,
     alloc: Global,
     run: &mut RunJob,
-    parts: u32,
+    stretches: u32,
     workers: u32,
     gate: &G,
 ) -> Result<Vec<bool>, RunFault>
     requires passing { G.passing gate.now }
-    requires parts { 0 < parts }
-    ensures marks { IfOk result (λ marks. AreLasting run.old.parts.list.model
-        run.old.parts.circuit run.old.parts.tests.tests marks.items) }
+    requires stretches { 0 < stretches }
+    ensures marks { IfOk result (λ marks. AreLasting run.old.whole.list.model
+        run.old.whole.circuit run.old.whole.tests.tests marks.items) }
     ensures workers { OnOk result ((0 < workers) × (workers ≤ 64)) }
     ensures refused { IfErr result (IsOpenFault workers) }
     ensures same { run.new ≡ run.old }
 {
     let _tests = run.tests();
-    let done = run.run_goal(rt, alloc, parts, workers, &LastTest, gate)?;
+    let done = run.run_goal(rt, alloc, stretches, workers, &LastTest, gate)?;
     let positions = done.positions.as_slice();
     let marks = marks_of_last(alloc, run, positions, done.kept.as_slice())?;
     Ok(marks)
@@ -47,9 +47,9 @@ fn marks_of_last(
     positions: &[u32],
     lasts: &[Option<u32>],
 ) -> Result<Vec<bool>, AllocError>
-    requires { AreLastAt run.now.parts positions.now lasts.now }
-    ensures { IfOk result (λ marks. AreLasting run.now.parts.list.model run.now.parts.circuit
-        run.now.parts.tests.tests marks.items) }
+    requires { AreLastAt run.now.whole positions.now lasts.now }
+    ensures { IfOk result (λ marks. AreLasting run.now.whole.list.model run.now.whole.circuit
+        run.now.whole.tests.tests marks.items) }
 {
     let mut marks = vec![in alloc; false; run.tests().count() as usize]?;
     for class in 0..run.job().classes().count() {
@@ -61,9 +61,9 @@ fn marks_of_last(
 
 /// Returns the last test that detects a class.
 fn last_of(run: &RunJob, positions: &[u32], lasts: &[Option<u32>], class: u32) -> Option<u32>
-    requires class { class < length run.now.parts.classes.representative }
-    requires last { AreLastAt run.now.parts positions.now lasts.now }
-    ensures { IsLastOfClass run.now.parts class result }
+    requires class { class < length run.now.whole.classes.representative }
+    requires last { AreLastAt run.now.whole positions.now lasts.now }
+    ensures { IsLastOfClass run.now.whole class result }
 {
     let _run = run;
     lasts[positions[class as usize] as usize]

@@ -9,6 +9,7 @@ mod ordered;
 mod passes;
 mod rows;
 mod steepest;
+mod tallies;
 
 pub use ordered::compact;
 use patterns::Tests;

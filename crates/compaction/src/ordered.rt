@@ -34,9 +34,10 @@ use workers::RunFault;
 /// before it, so the tests stay in the order of the list. It takes 16 bytes for each class and 128
 /// of the kept tests.
 ///
-/// Each pass is a run in `parts` parts, and window by window if its tests have more blocks than a
-/// window ([`region_runs::window_blocks`]). The gate observes each, and lets each piece pass. The
-/// job keeps its circuit, its faults and its classes; its tests are others afterwards.
+/// Each pass is a run in this number of stretches, and window by window if its tests have more
+/// blocks than a window ([`region_runs::window_blocks`]). The gate observes each, and lets each
+/// piece pass. The job keeps its circuit, its faults and its classes; its tests are others
+/// afterwards.
 ///
 /// # Errors
 ///
@@ -46,27 +47,27 @@ pub fn compact<G: Watch + Sync, R: Threads + Wait>(
     alloc: Global,
     run: &mut RunJob,
     order: TestOrder,
-    parts: u32,
+    stretches: u32,
     workers: u32,
     gate: &G,
 ) -> Result<Kept, RunFault>
     requires passing { G.passing gate.now }
-    requires parts { 0 < parts }
-    ensures ordered { IfOk result (λ kept. IsOrdered order run.old.parts.list.model
-        run.old.parts.circuit run.old.parts.tests.tests kept.tests.tests kept.numbers.items) }
+    requires stretches { 0 < stretches }
+    ensures ordered { IfOk result (λ kept. IsOrdered order run.old.whole.list.model
+        run.old.whole.circuit run.old.whole.tests.tests kept.tests.tests kept.numbers.items) }
     ensures list { IfOk result (λ kept. IsTestList kept.tests) }
-    ensures width { IfOk result (λ kept. kept.tests.width ≡ run.old.parts.tests.width) }
-    ensures job { run.new.parts ≡ with_tests run.old.parts run.new.parts.tests }
+    ensures width { IfOk result (λ kept. kept.tests.width ≡ run.old.whole.tests.width) }
+    ensures job { run.new.whole ≡ with_tests run.old.whole run.new.whole.tests }
     ensures workers { OnOk result ((0 < workers) × (workers ≤ 64)) }
     ensures refused { IfErr result (IsOpenFault workers) }
 {
     let _tests = run.tests();
     match order {
-        TestOrder::AsListed => compact_as_listed(rt, alloc, run, parts, workers, gate),
+        TestOrder::AsListed => compact_as_listed(rt, alloc, run, stretches, workers, gate),
         TestOrder::Steepest => match run.job().faults().model() {
-            Model::Transition => compact_as_listed(rt, alloc, run, parts, workers, gate),
+            Model::Transition => compact_as_listed(rt, alloc, run, stretches, workers, gate),
             Model::StuckAt | Model::TransitionPairs => {
-                compact_steepest(rt, alloc, run, parts, workers, gate)
+                compact_steepest(rt, alloc, run, stretches, workers, gate)
             }
         },
     }
@@ -77,26 +78,26 @@ fn compact_steepest<G: Watch + Sync, R: Threads + Wait>(
     rt: &R,
     alloc: Global,
     run: &mut RunJob,
-    parts: u32,
+    stretches: u32,
     workers: u32,
     gate: &G,
 ) -> Result<Kept, RunFault>
     requires passing { G.passing gate.now }
-    requires job { BelongTogether run.old.parts }
-    requires parts { 0 < parts }
-    requires model { run.old.parts.list.model ≢ model.Transition }
-    ensures compacted { IfOk result (λ kept. IsSteepestCompaction run.old.parts.list.model
-        run.old.parts.circuit run.old.parts.tests.tests kept.tests.tests kept.numbers.items) }
+    requires job { BelongTogether run.old.whole }
+    requires stretches { 0 < stretches }
+    requires model { run.old.whole.list.model ≢ model.Transition }
+    ensures compacted { IfOk result (λ kept. IsSteepestCompaction run.old.whole.list.model
+        run.old.whole.circuit run.old.whole.tests.tests kept.tests.tests kept.numbers.items) }
     ensures list { IfOk result (λ kept. IsTestList kept.tests) }
-    ensures width { IfOk result (λ kept. kept.tests.width ≡ run.old.parts.tests.width) }
-    ensures job { run.new.parts ≡ with_tests run.old.parts run.new.parts.tests }
+    ensures width { IfOk result (λ kept. kept.tests.width ≡ run.old.whole.tests.width) }
+    ensures job { run.new.whole ≡ with_tests run.old.whole run.new.whole.tests }
     ensures workers { OnOk result ((0 < workers) × (workers ≤ 64)) }
     ensures refused { IfErr result (IsOpenFault workers) }
 {
-    let Kept { tests, numbers } = compact_as_listed(rt, alloc, run, parts, workers, gate)?;
+    let Kept { tests, numbers } = compact_as_listed(rt, alloc, run, stretches, workers, gate)?;
     run.set_own_tests(rt, alloc, tests, workers)?;
     let job = run.job();
-    let detections = Detections::new(rt, alloc, job, parts, workers, gate)?;
+    let detections = Detections::new(rt, alloc, job, stretches, workers, gate)?;
     let order = steepest_order(alloc, &detections)?;
     let places = places_of(alloc, job.faults().model(), &order)?;
     Ok(kept_at(alloc, job.tests(), &numbers, &places)?)

@@ -29,36 +29,36 @@ use workers::RunFault;
 /// the test before it. Under [`Model::TransitionPairs`] only the capture test detects a fault, so
 /// pairs are kept and left out whole.
 ///
-/// Each pass is a run in `parts` parts, and fails as [`RunJob::run`] does.
+/// Each pass is a run in this number of stretches, and fails as [`RunJob::run`] does.
 pub(crate) fn compact_as_listed<G: Watch + Sync, R: Threads + Wait>(
     rt: &R,
     alloc: Global,
     run: &mut RunJob,
-    parts: u32,
+    stretches: u32,
     workers: u32,
     gate: &G,
 ) -> Result<Kept, RunFault>
     requires passing { G.passing gate.now }
-    requires parts { 0 < parts }
-    ensures compacted { IfOk result (λ kept. IsNumbered run.old.parts.list.model
-        run.old.parts.circuit run.old.parts.tests.tests kept.tests.tests kept.numbers.items) }
+    requires stretches { 0 < stretches }
+    ensures compacted { IfOk result (λ kept. IsNumbered run.old.whole.list.model
+        run.old.whole.circuit run.old.whole.tests.tests kept.tests.tests kept.numbers.items) }
     ensures list { IfOk result (λ kept. IsTestList kept.tests) }
-    ensures width { IfOk result (λ kept. kept.tests.width ≡ run.old.parts.tests.width) }
-    ensures job { run.new.parts ≡ with_tests run.old.parts run.new.parts.tests }
+    ensures width { IfOk result (λ kept. kept.tests.width ≡ run.old.whole.tests.width) }
+    ensures job { run.new.whole ≡ with_tests run.old.whole run.new.whole.tests }
     ensures workers { OnOk result ((0 < workers) × (workers ≤ 64)) }
     ensures refused { IfErr result (IsOpenFault workers) }
 {
-    let mut found = finding_tests(rt, alloc, run, parts, workers, gate)?;
+    let mut found = finding_tests(rt, alloc, run, stretches, workers, gate)?;
     let numbers = all_numbers(alloc, run.tests().count())?;
     match run.job().faults().model() {
         Model::StuckAt => {
             let kept = kept_tests(alloc, run.tests(), &numbers, &found)?;
-            last_tests(rt, alloc, run, &kept, parts, workers, gate)
+            last_tests(rt, alloc, run, &kept, stretches, workers, gate)
         }
         Model::Transition | Model::TransitionPairs => {
             mark_before(&mut found);
             let kept = kept_tests(alloc, run.tests(), &numbers, &found)?;
-            last_pairs(rt, alloc, run, kept, parts, workers, gate)
+            last_pairs(rt, alloc, run, kept, stretches, workers, gate)
         }
     }
 }
@@ -70,28 +70,28 @@ fn last_tests<G: Watch + Sync, R: Threads + Wait>(
     alloc: Global,
     run: &mut RunJob,
     given: &Kept,
-    parts: u32,
+    stretches: u32,
     workers: u32,
     gate: &G,
 ) -> Result<Kept, RunFault>
     requires passing { G.passing gate.now }
-    requires job { BelongTogether run.old.parts }
-    requires model { run.old.parts.list.model ≡ model.StuckAt }
-    requires width { given.now.tests.width ≡ run.old.parts.tests.width }
-    requires few { length given.now.tests.tests ≤ length run.old.parts.tests.tests }
+    requires job { BelongTogether run.old.whole }
+    requires model { run.old.whole.list.model ≡ model.StuckAt }
+    requires width { given.now.tests.width ≡ run.old.whole.tests.width }
+    requires few { length given.now.tests.tests ≤ length run.old.whole.tests.tests }
     requires numbers { length given.now.numbers.items ≡ length given.now.tests.tests }
-    requires parts { 0 < parts }
+    requires stretches { 0 < stretches }
     requires workers { (0 < workers) × (workers ≤ 64) }
-    ensures last { IfOk result (λ kept. AreLastOf run.old.parts.circuit given.now.tests.tests
+    ensures last { IfOk result (λ kept. AreLastOf run.old.whole.circuit given.now.tests.tests
         kept.tests.tests given.now.numbers.items kept.numbers.items) }
     ensures list { IfOk result (λ kept. IsTestList kept.tests) }
-    ensures width { IfOk result (λ kept. kept.tests.width ≡ run.old.parts.tests.width) }
-    ensures job { run.new.parts ≡ with_tests run.old.parts run.new.parts.tests }
+    ensures width { IfOk result (λ kept. kept.tests.width ≡ run.old.whole.tests.width) }
+    ensures job { run.new.whole ≡ with_tests run.old.whole run.new.whole.tests }
     ensures refused { IfErr result (IsOpenFault workers) }
 {
     let reversed = reversed_tests(alloc, &given.tests)?;
     run.set_tests(rt, alloc, reversed, workers)?;
-    let mut found = finding_tests(rt, alloc, run, parts, workers, gate)?;
+    let mut found = finding_tests(rt, alloc, run, stretches, workers, gate)?;
     found.reverse();
     Ok(kept_tests(alloc, &given.tests, &given.numbers, &found)?)
 }
@@ -102,28 +102,28 @@ fn last_pairs<G: Watch + Sync, R: Threads + Wait>(
     alloc: Global,
     run: &mut RunJob,
     given: Kept,
-    parts: u32,
+    stretches: u32,
     workers: u32,
     gate: &G,
 ) -> Result<Kept, RunFault>
     requires passing { G.passing gate.now }
-    requires job { BelongTogether run.old.parts }
+    requires job { BelongTogether run.old.whole }
     requires list { IsTestList given.tests }
-    requires width { given.tests.width ≡ run.old.parts.tests.width }
+    requires width { given.tests.width ≡ run.old.whole.tests.width }
     requires numbers { length given.numbers.items ≡ length given.tests.tests }
-    requires parts { 0 < parts }
+    requires stretches { 0 < stretches }
     requires workers { (0 < workers) × (workers ≤ 64) }
-    ensures last { IfOk result (λ kept. AreLastPairsOf run.old.parts.list.model
-        run.old.parts.circuit given.tests.tests kept.tests.tests given.numbers.items
+    ensures last { IfOk result (λ kept. AreLastPairsOf run.old.whole.list.model
+        run.old.whole.circuit given.tests.tests kept.tests.tests given.numbers.items
         kept.numbers.items) }
     ensures list { IfOk result (λ kept. IsTestList kept.tests) }
-    ensures width { IfOk result (λ kept. kept.tests.width ≡ run.old.parts.tests.width) }
-    ensures job { run.new.parts ≡ with_tests run.old.parts run.new.parts.tests }
+    ensures width { IfOk result (λ kept. kept.tests.width ≡ run.old.whole.tests.width) }
+    ensures job { run.new.whole ≡ with_tests run.old.whole run.new.whole.tests }
     ensures refused { IfErr result (IsOpenFault workers) }
 {
     let Kept { tests, numbers } = given;
     run.set_tests(rt, alloc, tests, workers)?;
-    let mut last = lasting_tests(rt, alloc, run, parts, workers, gate)?;
+    let mut last = lasting_tests(rt, alloc, run, stretches, workers, gate)?;
     mark_before(&mut last);
     Ok(kept_tests(alloc, run.tests(), &numbers, &last)?)
 }

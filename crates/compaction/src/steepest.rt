@@ -1,53 +1,53 @@
 //! Tests in the order in which each detects the most classes that none before it detects.
 
-ghost use Rattle.std.specs.Prelude.{◌≡◌, ◌≢◌, ◌==◌, ◌+◌, ◌-◌, ◌<◌, ◌^◌, ◌||◌, [], ℕ, IfNone, IfOk};
-ghost use Rattle.std.specs.Prelude.{IfSome, count_by, false, filter, length, not, slice_index_or};
-ghost use Rattle.std.specs.Prelude.{true};
+ghost use Rattle.std.specs.Prelude.{◌≡◌, ◌==◌, ◌+◌, ◌<◌, ◌≤◌, ◌^◌, [], ℕ, All, IfNone, IfOk, IfSome};
+ghost use Rattle.std.specs.Prelude.{count_by, filter, length, not, slice_index_or};
 ghost use Rattle.std.specs.List.{list_any};
 ghost use Rattle.patterns.specs.Least.{below};
-ghost use Rattle.patterns.specs.Tests.{as_number};
-ghost use Rattle.compaction.specs.Detections.{detects_by};
-ghost use Rattle.compaction.specs.News.{AreDetected, AreLeft, AreNews, IsBest};
+ghost use Rattle.compaction.specs.Detections.{detects_by, is_detected};
+ghost use Rattle.compaction.specs.News.{IsBest};
 ghost use Rattle.compaction.specs.Steepest.{IsSteepest};
 
-use crate::detections::{Detections, bit_of};
+use crate::detections::Detections;
+use crate::tallies::{add_words, digits_of, numbers_of, zeros};
 use std::alloc::{AllocError, Global};
+
+/// Some classes, by whether a test detects them.
+#[derive(Drop)]
+struct Split {
+    detected: Vec<usize>,
+    others: Vec<usize>,
+}
 
 /// Returns the numbers of tests in steepest order: each is the test that detects the most classes
 /// that none before it detects, the first of such tests. It leaves out a test that would detect
-/// none. It counts each class once at each test and takes it off once, which is two passes over all
-/// classes and tests. Beside that each test takes time for the classes that some test detects, and
-/// none so far.
+/// none. It counts each class once at all tests, and takes it off once. Beside that each test takes
+/// time for the classes that some test detects, and none so far.
 pub fn steepest_order(alloc: Global, detections: &Detections) -> Result<Vec<u32>, AllocError>
     ensures { IfOk result (λ order. IsSteepest (detects_by detections.now)
         (length detections.now.words) detections.now.tests order.items) }
 {
-    let classes = detections.classes();
-    let mut covered = vec![in alloc; false; classes]?;
-    let mut news = all_news(alloc, detections)?;
     let mut left = detected_classes(alloc, detections)?;
+    let mut news = counts_of(alloc, detections, &left)?;
     let mut order = Vec::new(alloc);
-    for _round in 0..classes {
-        match best_of(&news) {
-            None => return Ok(order),
-            Some(best) => {
-                order.push(best)?;
-                cover(detections, best, &left, &mut covered, &mut news);
-                left = uncovered(alloc, &left, &covered)?;
-            }
-        }
+    while let Some(best) = best_of(&news) {
+        order.push(best)?;
+        let Split { detected, others } = split_by(alloc, detections, &left, best)?;
+        let covered = counts_of(alloc, detections, &detected)?;
+        take_off(&mut news, &covered);
+        left = others;
     }
     Ok(order)
 }
 
 /// Returns the classes that some test detects.
 fn detected_classes(alloc: Global, detections: &Detections) -> Result<Vec<usize>, AllocError>
-    ensures { IfOk result (λ left. AreDetected (detects_by detections.now)
-        (length detections.now.words) left.items) }
+    ensures { IfOk result (λ left. left.items
+        ≡ filter (is_detected detections.now) (below (length detections.now.words))) }
 {
     let mut left = Vec::new(alloc);
     for class in 0..detections.classes() {
-        if is_detected(detections, class) {
+        if has_test(detections, class) {
             left.push(class)?;
         }
     }
@@ -55,80 +55,68 @@ fn detected_classes(alloc: Global, detections: &Detections) -> Result<Vec<usize>
 }
 
 /// Returns whether some test detects a class.
-fn is_detected(detections: &Detections, class: usize) -> bool
-    requires { class < length detections.now.words }
-    ensures { result ≡ list_any (λ word. not (word == 0))
-        (slice_index_or detections.now.words class []) }
+fn has_test(detections: &Detections, class: usize) -> bool
+    ensures { result ≡ is_detected detections.now class }
 {
     detections.row(class).iter().any(|word| *word != 0)
 }
 
-/// Returns those of some classes that are not covered.
-fn uncovered(alloc: Global, classes: &[usize], covered: &[bool]) -> Result<Vec<usize>, AllocError>
-    ensures { IfOk result (λ left. left.items
-        ≡ filter (λ class. not (slice_index_or covered.now class false)) classes.now) }
+/// Returns how many of some classes each test detects.
+fn counts_of(
+    alloc: Global,
+    detections: &Detections,
+    classes: &[usize],
+) -> Result<Vec<usize>, AllocError>
+    requires classes { All (λ class. class < length detections.now.words) classes.now }
+    ensures count { IfOk result (λ counts. length counts.items ≡ detections.now.tests) }
+    ensures few { IfOk result (λ counts. length counts.items < 2 ^ 32) }
+    ensures each { IfOk result (λ counts. (t : ℕ) → t < detections.now.tests
+        → slice_index_or counts.items t 0
+        ≡ count_by (λ class. detects_by detections.now class t) classes.now) }
 {
-    classes
-        .iter()
-        .filter(|class| !is_covered(covered, **class))
-        .copied()
-        .collect(alloc)
-}
-
-/// Returns whether a class is covered.
-fn is_covered(covered: &[bool], class: usize) -> bool
-    ensures { result ≡ slice_index_or covered.now class false }
-{
-    match covered.get(class) {
-        Some(known) => *known,
-        None => false,
+    let digits = digits_of(classes.len());
+    let mut groups = zeros(alloc, detections.groups(), digits)?;
+    for class in classes {
+        add_words(&mut groups, detections.row(*class));
     }
+    numbers_of(alloc, &groups, detections.tests())
 }
 
-/// Returns how many classes each test detects.
-fn all_news(alloc: Global, detections: &Detections) -> Result<Vec<usize>, AllocError>
-    ensures count { IfOk result (λ news. length news.items ≡ detections.now.tests) }
-    ensures few { IfOk result (λ news. length news.items < 2 ^ 32) }
-    ensures each { IfOk result (λ news. (t : ℕ) → t < detections.now.tests
-        → slice_index_or news.items t 0
-        ≡ count_by (λ class. detects_by detections.now class t)
-        (below (length detections.now.words))) }
+/// Splits some classes by whether a test detects them.
+fn split_by(
+    alloc: Global,
+    detections: &Detections,
+    classes: &[usize],
+    test: u32,
+) -> Result<Split, AllocError>
+    ensures detected { IfOk result (λ split. split.detected.items
+        ≡ filter (λ class. detects_by detections.now class test) classes.now) }
+    ensures others { IfOk result (λ split. split.others.items
+        ≡ filter (λ class. not (detects_by detections.now class test)) classes.now) }
 {
-    let mut news = vec![in alloc; 0usize; detections.tests() as usize]?;
-    for class in 0..detections.classes() {
-        add_class(detections, class, &mut news);
+    let mut detected = Vec::new(alloc);
+    let mut others = Vec::new(alloc);
+    for class in classes {
+        if detections.detects(*class, test) {
+            detected.push(*class)?;
+        } else {
+            others.push(*class)?;
+        }
     }
-    Ok(news)
+    Ok(Split { detected, others })
 }
 
-/// Counts a class at each test that detects it.
-fn add_class(detections: &Detections, class: usize, news: &mut [usize])
-    requires class { class < length detections.now.words }
-    requires tests { length news.old ≡ detections.now.tests }
-    requires room { (t : ℕ) → t < length news.old → slice_index_or news.old t 0 < 2 ^ 64 - 1 }
-    ensures count { length news.new ≡ length news.old }
-    ensures each { (t : ℕ) → t < length news.old → slice_index_or news.new t 0
-        ≡ slice_index_or news.old t 0 + as_number (detects_by detections.now class t) }
+/// Takes numbers off others, each from the one at its place.
+fn take_off(numbers: &mut [usize], others: &[usize])
+    requires count { length others.now ≡ length numbers.old }
+    requires less { (t : ℕ) → t < length numbers.old
+        → slice_index_or others.now t 0 ≤ slice_index_or numbers.old t 0 }
+    ensures count { length numbers.new ≡ length numbers.old }
+    ensures each { (t : ℕ) → t < length numbers.old → slice_index_or numbers.new t 0
+        + slice_index_or others.now t 0 ≡ slice_index_or numbers.old t 0 }
 {
-    let row = detections.row(class);
-    for test in 0..detections.tests() {
-        news[test as usize] += usize::from(bit_of(row, test));
-    }
-}
-
-/// Takes a class off each test that detects it.
-fn drop_class(detections: &Detections, class: usize, news: &mut [usize])
-    requires class { class < length detections.now.words }
-    requires tests { length news.old ≡ detections.now.tests }
-    requires some { (t : ℕ) → t < length news.old → detects_by detections.now class t ≡ true
-        → 0 < slice_index_or news.old t 0 }
-    ensures count { length news.new ≡ length news.old }
-    ensures each { (t : ℕ) → t < length news.old → slice_index_or news.new t 0
-        + as_number (detects_by detections.now class t) ≡ slice_index_or news.old t 0 }
-{
-    let row = detections.row(class);
-    for test in 0..detections.tests() {
-        news[test as usize] -= usize::from(bit_of(row, test));
+    for place in 0..numbers.len() {
+        numbers[place] -= others[place];
     }
 }
 
@@ -147,58 +135,4 @@ fn best_of(news: &[usize]) -> Option<u32>
         }
     }
     if most == 0 { None } else { Some(best as u32) }
-}
-
-/// Covers the classes that a test detects, which are among those left.
-fn cover(
-    detections: &Detections,
-    test: u32,
-    left: &[usize],
-    covered: &mut [bool],
-    news: &mut [usize],
-)
-    requires test { test < detections.now.tests }
-    requires left { AreLeft (detects_by detections.now) (length detections.now.words)
-        detections.now.tests covered.old left.now }
-    requires covered { length covered.old ≡ length detections.now.words }
-    requires news { AreNews (detects_by detections.now) covered.old
-        (length detections.now.words) detections.now.tests news.old }
-    ensures count { length covered.new ≡ length covered.old }
-    ensures each { (class : ℕ) → class < length covered.old
-        → slice_index_or covered.new class false
-        ≡ (slice_index_or covered.old class false || detects_by detections.now class test) }
-    ensures news { AreNews (detects_by detections.now) covered.new
-        (length detections.now.words) detections.now.tests news.new }
-{
-    for class in left {
-        cover_class(detections, *class, test, covered, news);
-    }
-}
-
-/// Covers a class if a test detects it.
-fn cover_class(
-    detections: &Detections,
-    class: usize,
-    test: u32,
-    covered: &mut [bool],
-    news: &mut [usize],
-)
-    requires class { class < length detections.now.words }
-    requires test { test < detections.now.tests }
-    requires covered { length covered.old ≡ length detections.now.words }
-    requires news { AreNews (detects_by detections.now) covered.old
-        (length detections.now.words) detections.now.tests news.old }
-    ensures count { length covered.new ≡ length covered.old }
-    ensures own { slice_index_or covered.new class false
-        ≡ (slice_index_or covered.old class false || detects_by detections.now class test) }
-    ensures others { (other : ℕ) → other ≢ class
-        → slice_index_or covered.new other false ≡ slice_index_or covered.old other false }
-    ensures news { AreNews (detects_by detections.now) covered.new
-        (length detections.now.words) detections.now.tests news.new }
-{
-    if covered[class] || !detections.detects(class, test) {
-        return;
-    }
-    covered[class] = true;
-    drop_class(detections, class, news);
 }

@@ -21,7 +21,7 @@ use std::alloc::Global;
 /// The site of a fault: a line of the circuit, and the bit at which it is stuck. All numbers count
 /// from 0.
 #[repr(C)]
-#[derive(Clone, Copy, Debug, PartialEq, Eq)]
+#[derive(Clone, Copy, PartialEq)]
 pub struct FsSite {
     /// 0 for the stem of a signal, 1 for a pin of a gate, 2 for the data pin of a flip-flop, and 3
     /// for an OUTPUT line.

@@ -51,7 +51,7 @@ use std::alloc::Global;
 
 /// The sizes of a job.
 #[repr(C)]
-#[derive(Clone, Copy, Debug)]
+#[derive(Clone, Copy)]
 pub struct FsSizes {
     /// Primary inputs and scan cells.
     pub sources: u32,

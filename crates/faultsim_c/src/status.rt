@@ -6,7 +6,6 @@ ghost use Rattle.faultsim_c.specs.Statuses.{error_numbers, status_number};
 use bench_net::{BenchFault, Limit};
 use patterns::{TestFault, WordsFault};
 use std::alloc::{AllocError, AllocFailed};
-use thiserror::Error;
 
 /// The number that stands for no first test.
 pub(crate) const NONE: u32 = u32::MAX;
@@ -26,7 +25,7 @@ pub(crate) const SHARED: u32 = 5;
 
 /// The error of a file or of words: a kind, and a place that depends on it.
 #[repr(C)]
-#[derive(Clone, Copy, Debug)]
+#[derive(Clone, Copy)]
 pub struct FsFault {
     /// One of the kinds of `faultsim.h`, from 1.
     pub kind: u32,
@@ -35,17 +34,13 @@ pub struct FsFault {
 }
 
 /// The reason why a call isn't done.
-#[derive(Clone, Copy, Debug, PartialEq, Eq, Error)]
+#[derive(Clone, Copy)]
 pub(crate) enum Refusal {
-    #[error("{0}")]
     Bench(BenchFault),
-    #[error("{0}")]
     Tests(TestFault),
-    #[error("{0}")]
     Words(WordsFault),
-    #[error("another handle shares the job")]
+    /// Another handle shares the job.
     Shared,
-    #[error("out of memory")]
     Memory,
 }
 

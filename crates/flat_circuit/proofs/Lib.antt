@@ -26,6 +26,7 @@ mod ReorderedReaders
 mod ArrangedRows
 mod Groups
 mod PinFolds
+mod TurnedPins
 mod FourWords
 mod ArrangedFaults
 mod ObservedLines

@@ -12,6 +12,7 @@ pub use Rattle.flat_circuit.proofs.PinFolds.{all_first, all_last, all_more, odd_
 pub use Rattle.flat_circuit.proofs.PinFolds.{odd_more, odd_only}
 pub use Rattle.flat_circuit.proofs.GateLanes.{at_last, chosen_lane, turned_lane}
 pub use Rattle.flat_circuit.proofs.FourWords.{of_four}
+pub use Rattle.flat_circuit.proofs.TurnedPins.{turned_pins}
 -- ---- words and the solutions of a circuit
 pub use Rattle.flat_circuit.proofs.WordsToSolutions.{lane_same, pins_named}
 pub use Rattle.flat_circuit.proofs.Equations.{gate_at, nothing, pins_few, pins_some, pins_within}

@@ -1,6 +1,7 @@
 -- Words of 128 lanes: the bits of a group, two blocks side by side, one word for each signal.
 use Rattle.std.specs.Prelude.{◌≡◌, ℕ, ◌+◌, ◌*◌, ◌<◌, ◌==◌, Bool, true, false, List, [], length, map}
 use Rattle.std.specs.Prelude.{Contains, Option, Some, None, slice_get, slice_index_or, bit_xor}
+use Rattle.std.specs.Prelude.{if◌then◌else◌}
 use Rattle.std.specs.Int.{bit_at}
 use Rattle.std.specs.List.{enumerate_from}
 use Rattle.bench_net.specs.declared.Kind.{Kind}
@@ -59,6 +60,11 @@ pub record IsSignalWord (c : List Statement) (tests : List Test) (group : ℕ) (
 -- the word of a signal: its known word, complemented in the lanes in which the signal differs
 abbrev pub word_over : List ℕ → List ℕ → ℕ → ℕ
 word_over words delta s = bit_xor (slice_index_or words s 0) (slice_index_or delta s 0)
+
+-- the word of a signal if one signal is complemented in some lanes, and no other differs
+abbrev pub turned_word : List ℕ → ℕ → ℕ → ℕ → ℕ
+turned_word words turned lanes s =
+    if s == turned then bit_xor (slice_index_or words s 0) lanes else slice_index_or words s 0
 
 -- the bits that the pins of a gate, given by the signals that they read, see in a lane
 abbrev pub pin_bits : Option Fault → ℕ → List ℕ → List ℕ → List ℕ → ℕ → List Bool

@@ -1,6 +1,6 @@
 //! The fault-free words of all signals, computed in one thread or in several.
 
-ghost use Rattle.std.specs.Prelude.{◌≡◌, ◌+◌, ◌<◌, ◌≤◌, All, IfOk, length, map};
+ghost use Rattle.std.specs.Prelude.{◌≡◌, ◌+◌, ◌<◌, ◌≤◌, All, IfOk, length, map, vec_len};
 ghost use Rattle.bench_net.specs.Scan.{sources};
 ghost use Rattle.flat_circuit.specs.GroupRows.{AreOwnRows, AreRowsFrom, HasRows, AreFaultFree};
 ghost use Rattle.flat_circuit.specs.BlockSpans.{groups};
@@ -35,11 +35,13 @@ struct GroupRows {
     rows: Vec<Vec<u128>>,
 }
 
-/// Returns the fault-free words of every group of two blocks, one row for each group.
+/// Returns the fault-free words of every group of two blocks, one row for each group. The rows take
+/// the memory of spare rows, as far as these are as long.
 pub fn fault_free_rows(
     alloc: Global,
     circuit: &FlatCircuit,
     tests: &Tests,
+    spare: Vec<Vec<u128>>,
 ) -> Result<Vec<Vec<u128>>, AllocError>
     requires width { tests.now.width ≡ length (sources circuit.now.statements) }
     ensures count { IfOk result (λ rows. length (map (λ row. row.items) rows.items)
@@ -47,7 +49,8 @@ pub fn fault_free_rows(
     ensures rows { IfOk result (λ rows. AreFaultFree circuit.now.arranged tests.now.tests
         (map (λ row. row.items) rows.items)) }
 {
-    rows_between(alloc, circuit, tests, 0, groups_of(tests))
+    let mut spare = spare;
+    rows_between(alloc, circuit, tests, &mut spare, 0, groups_of(tests))
 }
 
 /// Returns the rows of [`fault_free_rows`], computed by at most as many threads as there are
@@ -59,6 +62,7 @@ pub fn fault_free_rows_in_threads<R: Threads + Wait>(
     alloc: Global,
     circuit: &FlatCircuit,
     tests: &Tests,
+    spare: Vec<Vec<u128>>,
     workers: u32,
 ) -> Result<Vec<Vec<u128>>, AllocError>
     requires width { tests.now.width ≡ length (sources circuit.now.statements) }
@@ -69,9 +73,10 @@ pub fn fault_free_rows_in_threads<R: Threads + Wait>(
 {
     let threads = threads_for(circuit.signals(), groups_of(tests), workers);
     if threads < 2 {
-        return fault_free_rows(alloc, circuit, tests);
+        return fault_free_rows(alloc, circuit, tests, spare);
     }
-    let parts = share_groups(rt, alloc, circuit, tests, threads)?;
+    let shares = shares_of(alloc, spare, threads)?;
+    let parts = share_groups(rt, alloc, circuit, tests, threads, shares)?;
     let parts = in_order(alloc, circuit, tests, parts)?;
     join_rows(alloc, circuit, tests, parts)
 }
@@ -98,12 +103,25 @@ fn step_of(groups: u32, threads: u32) -> u32
     groups.div_ceil(threads.max(1)).clamp(1, GROUPS_OF_A_PASS)
 }
 
-/// Returns the words of the groups from one up to another, which is not included. One pass computes
-/// four groups. Each of up to three groups at the end has a pass of its own.
+/// Returns a row of this many words, whatever they are. It takes the last spare row, unless that has
+/// another length.
+fn row_for(alloc: Global, spare: &mut Vec<Vec<u128>>, words: usize) -> Result<Vec<u128>, AllocError>
+    ensures len { IfOk result (λ row. vec_len row ≡ words) }
+{
+    match spare.pop() {
+        Some(row) if row.len() == words => Ok(row),
+        _ => vec![in alloc; 0u128; words],
+    }
+}
+
+/// Returns the words of the groups from one up to another, which is not included, in spare rows as
+/// far as there are some. One pass computes four groups. Each of up to three groups at the end has a
+/// pass of its own.
 fn rows_between(
     alloc: Global,
     circuit: &FlatCircuit,
     tests: &Tests,
+    spare: &mut Vec<Vec<u128>>,
     first: u32,
     end: u32,
 ) -> Result<Vec<Vec<u128>>, AllocError>
@@ -118,10 +136,10 @@ fn rows_between(
     let fours = (end - first) / GROUPS_OF_A_PASS;
     let mut rows = Vec::with_capacity(alloc, (end - first) as usize)?;
     for four in 0..fours {
-        let mut more = four_rows(alloc, circuit, tests, first + 4 * four)?;
+        let mut more = four_rows(alloc, circuit, tests, spare, first + 4 * four)?;
         rows.append(&mut more)?;
     }
-    let mut rest = single_rows(alloc, circuit, tests, first + 4 * fours, end)?;
+    let mut rest = single_rows(alloc, circuit, tests, spare, first + 4 * fours, end)?;
     rows.append(&mut rest)?;
     Ok(rows)
 }
@@ -131,6 +149,7 @@ fn four_rows(
     alloc: Global,
     circuit: &FlatCircuit,
     tests: &Tests,
+    spare: &mut Vec<Vec<u128>>,
     group: u32,
 ) -> Result<Vec<Vec<u128>>, AllocError>
     requires width { tests.now.width ≡ length (sources circuit.now.statements) }
@@ -140,10 +159,10 @@ fn four_rows(
         (map (λ row. row.items) rows.items)) }
 {
     let signals = circuit.signals() as usize;
-    let mut first = vec![in alloc; 0u128; signals]?;
-    let mut second = vec![in alloc; 0u128; signals]?;
-    let mut third = vec![in alloc; 0u128; signals]?;
-    let mut fourth = vec![in alloc; 0u128; signals]?;
+    let mut first = row_for(alloc, spare, signals)?;
+    let mut second = row_for(alloc, spare, signals)?;
+    let mut third = row_for(alloc, spare, signals)?;
+    let mut fourth = row_for(alloc, spare, signals)?;
     evaluate_four(
         circuit,
         tests,
@@ -167,6 +186,7 @@ fn single_rows(
     alloc: Global,
     circuit: &FlatCircuit,
     tests: &Tests,
+    spare: &mut Vec<Vec<u128>>,
     first: u32,
     end: u32,
 ) -> Result<Vec<Vec<u128>>, AllocError>
@@ -181,7 +201,7 @@ fn single_rows(
     let signals = circuit.signals() as usize;
     let mut rows = Vec::new(alloc);
     for group in first..end {
-        let mut row = vec![in alloc; 0u128; signals]?;
+        let mut row = row_for(alloc, spare, signals)?;
         evaluate(circuit, tests, group, &mut row);
         rows.push(row)?;
     }
@@ -207,6 +227,7 @@ fn take_groups(
     alloc: Global,
     circuit: &FlatCircuit,
     tests: &Tests,
+    spare: Vec<Vec<u128>>,
     next: &AtomicU32,
     step: u32,
 ) -> Result<Vec<GroupRows>, AllocError>
@@ -215,6 +236,7 @@ fn take_groups(
     ensures { HasRows circuit.now.arranged tests.now.tests result }
 {
     let count = groups_of(tests);
+    let mut spare = spare;
     let mut taken = Vec::new(alloc);
     for _pass in 0..count.div_ceil(step) {
         let first = next.fetch_add(step, Ordering::Relaxed);
@@ -222,20 +244,38 @@ fn take_groups(
             break;
         }
         let end = first + step.min(count - first);
-        let rows = rows_between(alloc, circuit, tests, first, end)?;
+        let rows = rows_between(alloc, circuit, tests, &mut spare, first, end)?;
         taken.push(GroupRows { first, rows })?;
     }
     Ok(taken)
 }
 
-/// Computes the words of the groups in this number of threads, which take some groups at a time, so
-/// that all end at about the same time. If a thread doesn't start, no further one is started.
+/// Returns shares of spare rows, one for each thread.
+fn shares_of(
+    alloc: Global,
+    spare: Vec<Vec<u128>>,
+    threads: u32,
+) -> Result<Vec<Vec<Vec<u128>>>, AllocError> {
+    let share = spare.len() / threads.max(1) as usize;
+    let mut spare = spare;
+    let mut shares = Vec::with_capacity(alloc, threads as usize)?;
+    for _thread in 0..threads {
+        let left = spare.len().saturating_sub(share);
+        shares.push(spare.split_off(left)?)?;
+    }
+    Ok(shares)
+}
+
+/// Computes the words of the groups in threads, one for each share of spare rows. They take some
+/// groups at a time, so that all end at about the same time. If a thread doesn't start, no further
+/// one is started.
 fn share_groups<R: Threads + Wait>(
     rt: &R,
     alloc: Global,
     circuit: &FlatCircuit,
     tests: &Tests,
     threads: u32,
+    shares: Vec<Vec<Vec<u128>>>,
 ) -> Result<Vec<Result<Vec<GroupRows>, AllocError>>, AllocError>
     requires width { tests.now.width ≡ length (sources circuit.now.statements) }
     ensures { IfOk result (λ parts. All (HasRows circuit.now.arranged tests.now.tests)
@@ -254,14 +294,14 @@ fn share_groups<R: Threads + Wait>(
                 tests.entry.now.tests) parts.items) }
         {
             let mut handles = Vec::with_capacity(alloc, threads as usize)?;
-            for _thread in 0..threads {
+            for spare in shares {
                 let promised = WordsOf {
                     circuit: Snapshot::of(circuit),
                     tests: Snapshot::of(tests),
                 };
                 let Ok(handle) = scope.spawn_with(
                     promised,
-                    move || take_groups(alloc, circuit, tests, next, step),
+                    move || take_groups(alloc, circuit, tests, spare, next, step),
                 ) else {
                     break;
                 };
@@ -317,7 +357,8 @@ fn join_rows(
             all.append(&mut rows)?;
         }
     }
-    let mut rest = rows_between(alloc, circuit, tests, all.len() as u32, count)?;
+    let mut spare = Vec::new(alloc);
+    let mut rest = rows_between(alloc, circuit, tests, &mut spare, all.len() as u32, count)?;
     all.append(&mut rest)?;
     Ok(all)
 }

@@ -20,7 +20,7 @@ ghost use Rattle.flat_circuit.specs.BlockSpans.{groups};
 ghost use Rattle.flat_circuit.specs.Flat.{HasEnds};
 ghost use Rattle.flat_circuit.specs.GateForms.{IsFormOf, inverted_if};
 ghost use Rattle.flat_circuit.specs.Words.{lane, word_over, pin_bits, AreWords, IsGroupWord};
-ghost use Rattle.flat_circuit.specs.Words.{IsSignalWord};
+ghost use Rattle.flat_circuit.specs.Words.{IsSignalWord, turned_word};
 ghost use Rattle.flat_circuit.specs.Stuck.{fault_of, stuck_fault};
 
 use crate::block_lanes::{group_word, in_each_lane};
@@ -337,6 +337,86 @@ fn odd_of(gate: FlatGate<'_>, words: &[u128]) -> u128
         return odd;
     }
     odd ^ words[gate.last as usize]
+}
+
+/// Returns the word that a pin of a gate reads if one signal is complemented in some lanes.
+#[inline(always)]
+fn word_turned(read: u32, turned: u32, lanes: u128, words: &[u128]) -> u128
+    requires { read < length words.now }
+    ensures { result ≡ turned_word words.now turned lanes read }
+{
+    let word = words[read as usize];
+    if read == turned { word ^ lanes } else { word }
+}
+
+/// Returns what [`all_of`] does if one signal is complemented in some lanes.
+#[inline(always)]
+fn all_turned(gate: FlatGate<'_>, turned: u32, lanes: u128, words: &[u128]) -> u128
+    requires some { 0 < length gate.pins.now }
+    requires pins_in { All (λ p. p < length words.now) gate.pins.now }
+    requires ends { HasEnds gate.pins.now gate.first gate.last }
+    ensures { (k : ℕ) → k < 128 → lane result k
+        ≡ list_all (λ b. inverted_if gate.entry.form.inverts_inputs b)
+        (map (λ s. lane (turned_word words.now turned lanes s) k) gate.entry.pins.now) }
+{
+    let inverted = in_each_lane(gate.form.inverts_inputs);
+    let last = gate.pins.len() - 1;
+    let mut all = word_turned(gate.first, turned, lanes, words) ^ inverted;
+    for place in 1..last {
+        let word = word_turned(gate.pins[place], turned, lanes, words);
+        all &= word ^ inverted;
+    }
+    let word = word_turned(gate.last, turned, lanes, words);
+    all & (word ^ inverted)
+}
+
+/// Returns what [`odd_of`] does if one signal is complemented in some lanes.
+#[inline(always)]
+fn odd_turned(gate: FlatGate<'_>, turned: u32, lanes: u128, words: &[u128]) -> u128
+    requires some { 0 < length gate.pins.now }
+    requires pins_in { All (λ p. p < length words.now) gate.pins.now }
+    requires ends { HasEnds gate.pins.now gate.first gate.last }
+    ensures { (k : ℕ) → k < 128 → lane result k
+        ≡ is_odd (map (λ s. lane (turned_word words.now turned lanes s) k) gate.entry.pins.now) }
+{
+    let last = gate.pins.len() - 1;
+    let mut odd = word_turned(gate.first, turned, lanes, words);
+    for place in 1..last {
+        let word = word_turned(gate.pins[place], turned, lanes, words);
+        odd ^= word;
+    }
+    if last == 0 {
+        return odd;
+    }
+    odd ^ word_turned(gate.last, turned, lanes, words)
+}
+
+/// Evaluates a gate on a word with one signal complemented in some lanes, while no other differs,
+/// and counts it.
+#[inline(always)]
+pub fn evaluate_turned(
+    gate: FlatGate<'_>,
+    turned: u32,
+    lanes: u128,
+    words: &[u128],
+    evaluations: &mut u64,
+) -> u128
+    requires form { IsFormOf gate.kind gate.form }
+    requires some { 0 < length gate.pins.now }
+    requires pins_in { All (λ p. p < length words.now) gate.pins.now }
+    requires ends { HasEnds gate.pins.now gate.first gate.last }
+    ensures value { (k : ℕ) → k < 128 → lane result k ≡ value gate.entry.kind
+        (map (λ s. lane (turned_word words.now turned lanes s) k) gate.entry.pins.now) }
+    ensures grown { evaluations.old ≤ evaluations.new }
+    ensures counted { evaluations.new ≡ min (evaluations.old + 1) (2 ^ 64 - 1) }
+{
+    count_evaluation(evaluations);
+    let word = if gate.form.is_xor {
+        odd_turned(gate, turned, lanes, words)
+    } else {
+        all_turned(gate, turned, lanes, words)
+    };
+    word ^ in_each_lane(gate.form.inverts_output)
 }
 
 /// Returns the fault-free word of a gate's signal, from those of the signals that it reads.

@@ -1,6 +1,6 @@
 -- Held inputs, one after another.
 use Rattle.std.proofs.Common.{◌≡◌, ◌<◌, ◌≤◌, ◌+◌, ◌∙◌, ◌++◌, ◌⊎◌, inl, inr, ℕ, zero, suc, Bool}
-use Rattle.std.proofs.Common.{List, [], ◌∷◌, Option, Some, None, ap, arith, length, map, refl}
+use Rattle.std.proofs.Common.{List, [], ◌∷◌, Option, Some, ap, arith, length, map, refl}
 use Rattle.std.proofs.Common.{set, subst, sym}
 use Rattle.std.specs.Prelude.{slice_get, unwrap_or}
 use Rattle.std.proofs.lemmas.Bool.{cases_lt}
@@ -11,7 +11,6 @@ use Rattle.bench_net.specs.Scan.{cells, inputs, names, sources}
 use Rattle.bench_net.specs.Statement.{Input, Name, Statement}
 use Rattle.bench_net.proofs.Public.{defined_among, of_input}
 use Rattle.generator.specs.declared.held.Held.{Held}
-use Rattle.generator.specs.declared.held.HeldFault.{HeldFault}
 use Rattle.generator.specs.declared.held.HeldReason.{HeldReason}
 use Rattle.generator.specs.declared.held.HeldReason.TheVariants.{Undefined, Gate, FlipFlop, Twice}
 use Rattle.generator.specs.Held.{AreHeldBits, AreHolding, AreAllowed, IsColumn, IsHeldAt}
@@ -39,12 +38,6 @@ front_at : (front more : List Name) (k : ℕ) (name : Name) → k < length front
 front_at [] more k name lt at = absurd (omega (arith, lt))
 front_at (x ∷ front) more zero name lt at = at
 front_at (x ∷ front) more (suc k) name lt at = front_at front more k name (omega (arith, lt)) at
-
-in_front : (front more : List Name) (k : ℕ) (name : Name) → slice_get front k ≡ Some name
-    → slice_get (front ++ more) k ≡ Some name
-in_front [] more k name at = let bad : None ≡ Some name = at in absurd (cc)
-in_front (x ∷ front) more zero name at = at
-in_front (x ∷ front) more (suc k) name at = in_front front more k name at
 
 of_inputs : (c : List Statement) (name : Name) (place : ℕ) → IsInputColumn c name place
     → Stands name (inputs c)

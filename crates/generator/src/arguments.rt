@@ -24,12 +24,12 @@ pub fn run_arguments<
 {
     match read_arguments(rt) {
         Ok(arguments) => run_on_files(rt, &arguments, input, out, err),
-        Err(fault) => answer(&fault, err),
+        Err(fault) => answer(fault, None, err),
     }
 }
 
 /// Returns the arguments of the process.
-fn read_arguments<R: Env + AllocGlobal>(rt: &R) -> Result<Vec<String>, CommandError<'static>> {
+fn read_arguments<R: Env + AllocGlobal>(rt: &R) -> Result<Vec<String>, CommandError> {
     let arguments = match env::args(rt) {
         Ok(arguments) => arguments,
         Err(error) if error.kind() == ErrorKind::OutOfMemory => return Err(NO_MEMORY),
@@ -53,7 +53,7 @@ fn run_on_files<R: HasFiles<File = File> + Clock + AllocGlobal + Threads + Wait,
 {
     match words_of(rt.alloc(), arguments) {
         Ok(words) => run_words(rt, rt.alloc(), &words, &mut Files::new(rt, input), out, err),
-        Err(AllocError) => answer(&NO_MEMORY, err),
+        Err(AllocError) => answer(NO_MEMORY, None, err),
     }
 }
 

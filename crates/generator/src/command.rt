@@ -3,7 +3,7 @@
 ghost use Rattle.std.specs.Prelude.{◌≤◌};
 
 use crate::options::command_line;
-use crate::{GeneratorFault, Held, HeldFault, HeldReason, Settings, generate};
+use crate::{Generated, GeneratorFault, Held, HeldFault, HeldReason, Settings, generate};
 use bench_net::read::MAX_BYTES;
 use byte_output::put_all;
 use clap::error::ErrorKind;
@@ -15,25 +15,50 @@ use std::fmt::Write;
 use std::sync::Wait;
 use std::thread::Threads;
 
-/// The reason why nothing was written, or only a part.
+/// The reason why nothing was written, or only a part. It holds no words of the command line:
+/// [`answer`] looks them up.
 #[derive(Clone, Copy)]
-pub(crate) enum CommandError<'a> {
+pub(crate) enum CommandError {
     /// An argument of the process is no text.
     NoText,
-    /// The command line lacks an option.
-    Misused(&'a str),
-    /// The words of a `--hold` hold no input, and why.
-    NotHeld(&'a str, &'static str),
-    /// The file at a path cannot be read.
-    Unreadable(&'a str, SourceFault),
+    /// An option lacks the value that its parser requires.
+    Unset,
+    /// The words of the `--hold` at this place, from 0, hold no input.
+    NotHeld(usize, Hold),
+    /// The bench file cannot be read.
+    Unreadable(SourceFault),
     /// The output fails.
     Unwritten,
     /// The circuit has an error, or the work on it failed.
     Sim(SimFault),
 }
 
+/// Why words of `--hold` hold no input.
+#[derive(Clone, Copy)]
+pub(crate) enum Hold {
+    /// They give no name with its bit.
+    Malformed,
+    /// No input has the name, or two words have it.
+    Refused(HeldReason),
+}
+
+impl Hold {
+    /// Returns the reason.
+    fn words(self) -> &'static str {
+        match self {
+            Hold::Malformed => "give NAME=0 or NAME=1",
+            Hold::Refused(HeldReason::Undefined) => "no line of the circuit defines this name",
+            Hold::Refused(HeldReason::Gate) => "this is a gate: give the name of an input",
+            Hold::Refused(HeldReason::FlipFlop) => {
+                "this is a flip-flop: give the name of an input"
+            }
+            Hold::Refused(HeldReason::Twice) => "give this name once",
+        }
+    }
+}
+
 /// Memory ran out.
-pub(crate) const NO_MEMORY: CommandError<'static> = CommandError::Sim(SimFault::Memory);
+pub(crate) const NO_MEMORY: CommandError = CommandError::Sim(SimFault::Memory);
 
 /// Runs words and returns the status. `words[0]` is the program's name. The tests go to `out`, and
 /// their coverage line to `err`.
@@ -51,7 +76,7 @@ pub fn run_words<'a, R: Threads + Wait, S: Source, W: Out, E: Out>(
     ensures { result ≤ 3 }
 {
     let Ok(command) = command_line(alloc) else {
-        return answer(&NO_MEMORY, err);
+        return answer(NO_MEMORY, None, err);
     };
     match command.try_get_matches_from(words) {
         Ok(matches) => run_matched(rt, alloc, &matches, files, out, err),
@@ -60,10 +85,10 @@ pub fn run_words<'a, R: Threads + Wait, S: Source, W: Out, E: Out>(
 }
 
 /// Runs a command line.
-fn run_matched<'a, R: Threads + Wait, S: Source, W: Out, E: Out>(
+fn run_matched<R: Threads + Wait, S: Source, W: Out, E: Out>(
     rt: &R,
     alloc: Global,
-    matches: &ArgMatches<'a>,
+    matches: &ArgMatches<'_>,
     files: &mut S,
     out: &mut W,
     err: &mut E,
@@ -72,28 +97,37 @@ fn run_matched<'a, R: Threads + Wait, S: Source, W: Out, E: Out>(
 {
     match make_tests(rt, alloc, matches, files, out, err) {
         Ok(()) => DONE,
-        Err(fault) => answer(&fault, err),
+        Err(fault) => answer(fault, Some(matches), err),
     }
 }
 
 /// Makes tests, writes them, and prints their coverage.
-fn make_tests<'a, R: Threads + Wait, S: Source, W: Out, E: Out>(
+fn make_tests<R: Threads + Wait, S: Source, W: Out, E: Out>(
     rt: &R,
     alloc: Global,
-    matches: &ArgMatches<'a>,
+    matches: &ArgMatches<'_>,
     files: &mut S,
     out: &mut W,
     err: &mut E,
-) -> Result<(), CommandError<'a>> {
-    let settings = read_settings(matches)?;
-    let words = matches.get_strs("hold").unwrap_or(&[]);
-    let held = read_held(alloc, words)?;
+) -> Result<(), CommandError> {
+    let settings = read_settings(matches).ok_or(CommandError::Unset)?;
+    let held = read_held(alloc, matches.get_strs("hold").unwrap_or(&[]))?;
     let bench = read_bench(alloc, matches, files)?;
-    let made = match generate(rt, alloc, &bench, &held, settings) {
-        Ok(made) => made,
-        Err(GeneratorFault::Sim(fault)) => return Err(CommandError::Sim(fault)),
-        Err(GeneratorFault::Held(fault)) => return Err(not_held(words, fault)),
-    };
+    match generate(rt, alloc, &bench, &held, settings) {
+        Ok(made) => write_made(&made, out, err),
+        Err(GeneratorFault::Sim(fault)) => Err(CommandError::Sim(fault)),
+        Err(GeneratorFault::Held(HeldFault { place, reason })) => {
+            Err(CommandError::NotHeld(place, Hold::Refused(reason)))
+        }
+    }
+}
+
+/// Writes tests, and prints their coverage.
+fn write_made<W: Out, E: Out>(
+    made: &Generated,
+    out: &mut W,
+    err: &mut E,
+) -> Result<(), CommandError> {
     if put_all(&made.tests, out).is_err() {
         return Err(CommandError::Unwritten);
     }
@@ -102,35 +136,23 @@ fn make_tests<'a, R: Threads + Wait, S: Source, W: Out, E: Out>(
 }
 
 /// Returns the settings that a command line names.
-fn read_settings<'a>(matches: &ArgMatches<'a>) -> Result<Settings, CommandError<'a>> {
-    let Some(model) = matches.get_str("model").and_then(|name| model_named(name)) else {
-        return Err(CommandError::Misused("--model"));
-    };
-    let Some(seed) = matches.get_one::<u64>("seed") else {
-        return Err(CommandError::Misused("--seed"));
-    };
-    let Some(most) = matches.get_one::<u32>("most") else {
-        return Err(CommandError::Misused("--most"));
-    };
-    let Some(workers) = matches.get_one::<u32>("workers") else {
-        return Err(CommandError::Misused("--workers"));
-    };
-    Ok(Settings {
-        model,
-        seed,
-        most,
-        workers,
+fn read_settings(matches: &ArgMatches<'_>) -> Option<Settings> {
+    Some(Settings {
+        model: model_named(matches.get_str("model")?)?,
+        seed: matches.get_one::<u64>("seed")?,
+        most: matches.get_one::<u32>("most")?,
+        workers: matches.get_one::<u32>("workers")?,
     })
 }
 
 /// Reads the words of each `--hold`, `NAME=0` or `NAME=1`.
-fn read_held<'a>(alloc: Global, words: &[&'a str]) -> Result<Vec<Held<'a>>, CommandError<'a>> {
+fn read_held<'a>(alloc: Global, words: &[&'a str]) -> Result<Vec<Held<'a>>, CommandError> {
     let mut held = Vec::new(alloc);
-    for word in words {
+    for (place, word) in words.iter().enumerate() {
         let (name, bit) = match word.as_bytes() {
             [name @ .., b'=', b'0'] => (name, false),
             [name @ .., b'=', b'1'] => (name, true),
-            _ => return Err(CommandError::NotHeld(word, "give NAME=0 or NAME=1")),
+            _ => return Err(CommandError::NotHeld(place, Hold::Malformed)),
         };
         if held.push(Held { name, bit }).is_err() {
             return Err(NO_MEMORY);
@@ -139,33 +161,17 @@ fn read_held<'a>(alloc: Global, words: &[&'a str]) -> Result<Vec<Held<'a>>, Comm
     Ok(held)
 }
 
-/// Returns the error of words of `--hold`.
-fn not_held<'a>(words: &[&'a str], fault: HeldFault) -> CommandError<'a> {
-    let reason = match fault.reason {
-        HeldReason::Undefined => "no line of the circuit defines this name",
-        HeldReason::Gate => "this is a gate: give the name of an input",
-        HeldReason::FlipFlop => "this is a flip-flop: give the name of an input",
-        HeldReason::Twice => "give this name once",
-    };
-    match words.get(fault.place) {
-        Some(word) => CommandError::NotHeld(word, reason),
-        None => CommandError::Misused("--hold"),
-    }
-}
-
 /// Reads the file of the circuit.
-fn read_bench<'a, S: Source>(
+fn read_bench<S: Source>(
     alloc: Global,
-    matches: &ArgMatches<'a>,
+    matches: &ArgMatches<'_>,
     files: &mut S,
-) -> Result<Vec<u8>, CommandError<'a>> {
-    let Some(path) = matches.get_str("bench") else {
-        return Err(CommandError::Misused("--bench"));
-    };
+) -> Result<Vec<u8>, CommandError> {
+    let path = matches.get_str("bench").ok_or(CommandError::Unset)?;
     match files.read_up_to(alloc, path, MAX_BYTES as u64) {
         Ok(text) => Ok(text),
         Err(SourceFault::Memory) => Err(NO_MEMORY),
-        Err(fault) => Err(CommandError::Unreadable(path, fault)),
+        Err(fault) => Err(CommandError::Unreadable(fault)),
     }
 }
 
@@ -174,38 +180,61 @@ fn answer_error<W: Out, E: Out>(error: &Error, out: &mut W, err: &mut E) -> u8
     ensures { result ≤ 3 }
 {
     if error.kind() == ErrorKind::OutOfMemory {
-        return answer(&NO_MEMORY, err);
+        return answer(NO_MEMORY, None, err);
     }
     if error.use_stderr() {
         let _ = write!(Formatted(err), "{error}");
         return MISUSED;
     }
     if write!(Formatted(out), "{error}").is_err() {
-        return answer(&CommandError::Unwritten, err);
+        return answer(CommandError::Unwritten, None, err);
     }
     DONE
 }
 
-/// Prints an error in one line, and returns its status.
-pub(crate) fn answer<E: Out>(fault: &CommandError<'_>, err: &mut E) -> u8
+/// Returns the word of a command line that an error names.
+fn named<'a>(fault: CommandError, matches: &ArgMatches<'a>) -> &'a str {
+    let word = match fault {
+        CommandError::NotHeld(place, _) => match matches.get_strs("hold") {
+            Some(words) => words.get(place).copied(),
+            None => None,
+        },
+        _ => matches.get_str("bench"),
+    };
+    word.unwrap_or("")
+}
+
+/// Prints an error in one line, and returns its status. The words of the command line are there if
+/// it could be parsed.
+pub(crate) fn answer<E: Out>(
+    fault: CommandError,
+    matches: Option<&ArgMatches<'_>>,
+    err: &mut E,
+) -> u8
     ensures { result ≤ 3 }
 {
+    let named = match matches {
+        Some(matches) => named(fault, matches),
+        None => "",
+    };
     let mut text = Formatted(err);
     let _ = match fault {
         CommandError::NoText => writeln!(text, "faultgen: an argument is no text"),
-        CommandError::Misused(option) => writeln!(text, "faultgen: cannot use {option}"),
-        CommandError::NotHeld(word, reason) => {
-            writeln!(text, "faultgen: cannot use --hold {word}\n    {reason}")
+        CommandError::Unset => writeln!(text, "faultgen: cannot use the command line"),
+        CommandError::NotHeld(_, hold) => {
+            writeln!(
+                text,
+                "faultgen: cannot use --hold {named}\n    {}",
+                hold.words()
+            )
         }
-        CommandError::Unreadable(path, fault) => {
-            writeln!(text, "faultgen: cannot read {path}{fault}")
-        }
+        CommandError::Unreadable(fault) => writeln!(text, "faultgen: cannot read {named}{fault}"),
         CommandError::Unwritten => writeln!(text, "faultgen: cannot write"),
         CommandError::Sim(fault) => writeln!(text, "faultgen: {fault}"),
     };
     match fault {
-        CommandError::NoText | CommandError::Misused(_) | CommandError::NotHeld(..) => MISUSED,
-        CommandError::Unreadable(..) | CommandError::Unwritten => FAILED,
-        CommandError::Sim(fault) => status_of(fault),
+        CommandError::NoText | CommandError::Unset | CommandError::NotHeld(..) => MISUSED,
+        CommandError::Unreadable(_) | CommandError::Unwritten => FAILED,
+        CommandError::Sim(fault) => status_of(&fault),
     }
 }

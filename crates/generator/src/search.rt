@@ -1,12 +1,14 @@
 //! Rounds of random tests, and the classes that remain.
 
-ghost use Rattle.std.specs.Prelude.{◌≡◌, ◌⊎◌, ◌*◌, ◌<◌, ◌≤◌, ℕ, All, IfErr, IfOk, OnOk, Some};
-ghost use Rattle.std.specs.Prelude.{filter, is_none, length, map, slice_get, zip};
+ghost use Rattle.std.specs.Prelude.{◌≡◌, ◌⊎◌, ◌*◌, ◌<◌, ◌≤◌, All, IfErr, IfOk, OnOk, Some};
+ghost use Rattle.std.specs.Prelude.{filter, is_none, length, map, zip};
 ghost use Rattle.bench_net.specs.Scan.{sources};
 ghost use Rattle.patterns.specs.Making.{IsMadeOf};
 ghost use Rattle.patterns.specs.Tests.{IsTestList, max_pieces, max_tests};
 ghost use Rattle.block_sim.specs.Parts.{piece_count};
 ghost use Rattle.region_sim.specs.ClassOrder.{AreAllByRegion};
+ghost use Rattle.workers.specs.Verdict.{AreClassFirsts};
+ghost use Rattle.region_runs.specs.Refused.{IsOpenFault};
 ghost use Rattle.generator.specs.Generated.{AreFewPieces, DetectsEarly, FindsNone, IsWorkFault};
 ghost use Rattle.generator.specs.Held.{AreAllowed};
 ghost use Rattle.generator.specs.Keeping.{AreLeft};
@@ -20,12 +22,14 @@ use patterns::{BLOCK_SIZE, MAX_PIECES, MAX_TESTS, Tests};
 use rand::SeedableRng;
 use rand::rngs::SmallRng;
 use rand_core::Rng;
-use region_runs::run_classes;
+use region_runs::run_list;
+use region_sim::FirstTest;
 use region_sim::class_order::{ClassOrder, class_order};
 use report::SimFault;
 use std::alloc::{AllocError, Global};
 use std::sync::Wait;
 use std::thread::Threads;
+use workers::{OpenGate, RunFault};
 
 /// The search ends after this number of blocks in a row that detect nothing new.
 const QUIET_BLOCKS: u32 = 20;
@@ -67,7 +71,7 @@ pub(crate) fn search<R: Threads + Wait>(
         }
         take_random_tests(alloc, job, blocks, bits, &mut rng)?;
         let _tests = job.tests();
-        let firsts = run_classes(rt, alloc, job, &left, settings.workers)?;
+        let firsts = class_firsts(rt, alloc, job, &left, settings.workers)?;
         keep_tests(alloc, job, &left, &firsts, room, &mut kept)?;
         let still = undetected(alloc, &left, &firsts)?;
         quiet = if still.len() < left.len() {
@@ -78,6 +82,26 @@ pub(crate) fn search<R: Threads + Wait>(
         left = still;
     }
     Ok(kept)
+}
+
+/// Returns the first test that detects each class of a list, in its order, or none.
+fn class_firsts<R: Threads + Wait>(
+    rt: &R,
+    alloc: Global,
+    job: &Job,
+    classes: &[u32],
+    workers: u32,
+) -> Result<Vec<Option<u32>>, RunFault>
+    requires few { length classes.now ≤ length job.now.classes.representative }
+    requires within { All (λ class. class < length job.now.classes.representative) classes.now }
+    ensures firsts { IfOk result (λ firsts. AreClassFirsts job.now.list.model job.now.circuit
+        job.now.tests.tests classes.now firsts.items) }
+    ensures workers { OnOk result ((0 < workers) × (workers ≤ 64)) }
+    ensures refused { IfErr result (IsOpenFault workers) }
+{
+    let _tests = job.tests();
+    let firsts = run_list(rt, alloc, job, classes, workers, &FirstTest, &OpenGate)?;
+    Ok(firsts)
 }
 
 /// Returns the number of tests that a job takes.

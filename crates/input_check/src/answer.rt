@@ -12,7 +12,7 @@ use crate::summary::{Excess, count_circuit, count_tests, excess_of};
 use crate::tests::{TestCheck, check_tests};
 use bench_net::Circuit;
 use fault_model::Model;
-use input_errors::{Findings, Warning, circuit_warnings, pair_warnings, test_warnings};
+use input_errors::{Findings, add_circuit_warnings, add_pair_warnings, add_test_warnings};
 use patterns::Tests;
 use std::alloc::{AllocError, Global};
 
@@ -62,7 +62,7 @@ fn answer_for<'a>(
         None => {
             let counts = count_circuit(alloc, model, circuit)?;
             let mut warnings = Vec::new(alloc);
-            add_words(&mut warnings, alloc, &circuit_warnings(alloc, circuit)?)?;
+            add_circuit_warnings(&mut warnings, alloc, circuit)?;
             Ok(Answer::Accepted(Sizes {
                 counts,
                 tests_a_run: counts.tests_a_run(),
@@ -114,31 +114,20 @@ fn answer_for_tests<'a>(
     }
 }
 
-/// Returns the words of each warning of a circuit and of tests for it.
+/// Returns the warnings of a circuit and of tests for it.
 fn warnings_of(
     alloc: Global,
     model: Model,
     circuit: &Circuit,
     tests: &Tests,
 ) -> Result<Vec<String>, AllocError> {
-    let mut words = Vec::new(alloc);
-    add_words(&mut words, alloc, &circuit_warnings(alloc, circuit)?)?;
-    let warnings = match model {
-        Model::StuckAt | Model::Transition => test_warnings(alloc, circuit, tests)?,
-        Model::TransitionPairs => pair_warnings(alloc, circuit, tests)?,
-    };
-    add_words(&mut words, alloc, &warnings)?;
-    Ok(words)
-}
-
-/// Adds the words of each warning.
-fn add_words(
-    words: &mut Vec<String>,
-    alloc: Global,
-    warnings: &[Warning<'_>],
-) -> Result<(), AllocError> {
-    for warning in warnings {
-        words.push(format!(in alloc; "{warning}")?)?;
+    let mut warnings = Vec::new(alloc);
+    add_circuit_warnings(&mut warnings, alloc, circuit)?;
+    match model {
+        Model::StuckAt | Model::Transition => {
+            add_test_warnings(&mut warnings, alloc, circuit, tests)?;
+        }
+        Model::TransitionPairs => add_pair_warnings(&mut warnings, alloc, circuit, tests)?,
     }
-    Ok(())
+    Ok(warnings)
 }

@@ -76,10 +76,11 @@ fn column_of(finding: &Finding<'_>) -> Option<u64>
 }
 
 /// Returns the words of a note, if it has any.
-fn hint_of(alloc: Global, note: &Note<'_>) -> Result<Option<String>, AllocError> {
+fn hint_of(alloc: Global, note: &Note) -> Result<Option<String>, AllocError> {
     match note {
         Note::Nothing => Ok(None),
-        _ => Ok(Some(format!(in alloc; "{note}")?)),
+        Note::Foreign(kind) => Ok(Some(format!(in alloc; "{kind}")?)),
+        Note::Words(words) => Ok(Some(words.clone()?)),
     }
 }
 

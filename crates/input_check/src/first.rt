@@ -2,7 +2,7 @@
 
 ghost use Rattle.std.specs.Prelude.{◌≡◌};
 
-use input_errors::{Finding, Findings, Foreign, Found, InputError, Note, Place};
+use input_errors::{Finding, Findings, Foreign, Found, InputError, Note};
 use std::alloc::Global;
 
 /// Returns the errors of a file with this error first.
@@ -27,7 +27,7 @@ fn first_of<'a>(first: Option<Finding<'a>>, fault: InputError) -> Finding<'a>
 {
     match first {
         Some(finding) if finding.fault == fault => Finding { fault, ..finding },
-        _ => whole(fault, Note::Nothing),
+        _ => Finding::whole(fault, Note::Nothing),
     }
 }
 
@@ -36,20 +36,8 @@ pub(crate) fn foreign_findings<'a>(alloc: Global, kind: Foreign, fault: InputErr
     ensures { result.first.fault ≡ fault }
 {
     Findings {
-        first: whole(fault, Note::Foreign(kind)),
+        first: Finding::whole(fault, Note::Foreign(kind)),
         others: Vec::new(alloc),
         more: 0,
-    }
-}
-
-/// Returns the finding of an error of a whole file.
-fn whole<'a>(fault: InputError, note: Note<'a>) -> Finding<'a>
-    ensures { result.fault ≡ fault }
-{
-    Finding {
-        fault,
-        text: &[],
-        place: Place { start: 0, len: 0 },
-        note,
     }
 }

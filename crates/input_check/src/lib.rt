@@ -20,7 +20,7 @@ mod tests;
 pub use answer::{Answer, check_texts};
 pub use bench::{BenchCheck, check_bench};
 pub use errors::{ErrorRow, errors_object};
-pub use input_errors::{Finding, Findings, InputError, Located, Note, Place, Token};
+pub use input_errors::{Finding, Findings, InputError, Located, Note, Place};
 pub use object::answer_object;
 pub use sizes::Sizes;
 pub use summary::{Counts, Excess, TestCounts, count_circuit, count_tests};

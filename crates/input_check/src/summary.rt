@@ -18,7 +18,7 @@ use test_threads::LARGE_PIECE;
 pub(crate) const USUAL_WORKERS: u32 = 4;
 
 /// The sizes of a circuit.
-#[derive(Clone, Copy, Debug, PartialEq, Eq)]
+#[derive(Clone, Copy)]
 pub struct Counts {
     pub model: Model,
     pub inputs: usize,
@@ -63,7 +63,8 @@ pub fn count_circuit(alloc: Global, model: Model, circuit: &Circuit) -> Result<C
 }
 
 impl Counts {
-    /// Returns the most tests of a run without `--parts`: 64 times 16,777,216 div classes, and 65,536 at most.
+    /// Returns the most tests of a run without `--parts`: 64 times 16,777,216 div classes, and
+    /// 65,536 at most.
     pub(crate) fn tests_a_run(&self) -> u32
         ensures { result ≡ tests_a_run self.now.classes }
     {
@@ -136,7 +137,7 @@ fn groups_of(tests: u32) -> u32 {
 }
 
 /// The size of a run of tests.
-#[derive(Clone, Copy, Debug, PartialEq, Eq)]
+#[derive(Clone, Copy)]
 pub struct TestCounts {
     pub tests: u32,
     /// Blocks of 64 tests.
@@ -162,7 +163,7 @@ pub fn count_tests(counts: &Counts, tests: &Tests) -> TestCounts
 }
 
 /// Tests that are too many for one run.
-#[derive(Clone, Copy, Debug, PartialEq, Eq)]
+#[derive(Clone, Copy)]
 pub struct Excess {
     /// Classes of the faults.
     pub classes: u32,

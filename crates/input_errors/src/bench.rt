@@ -2,10 +2,10 @@
 
 use crate::cycle::{Cycle, cycles};
 use crate::finding::{Finding, Found, InputError};
-use crate::look::{Look, Name, Statement, line_at, look_at};
-use crate::note::Note;
+use crate::look::{Form, Look, Statement, Wrong, line_at, look_at, meant_by};
+use crate::note::{Note, cycle_words, defined_words, fed_words, line_words, not_defined_words};
 use crate::suggest::nearest_name;
-use crate::tokens::Place;
+use crate::tokens::{Place, word_at};
 use bench_net::{BenchFault, Limit};
 use indexmap::IndexSet;
 use std::alloc::{AllocError, Global};
@@ -21,33 +21,30 @@ pub fn find_in_bench<'a>(
 ) -> Result<Found<'a>, AllocError> {
     let mut found = Found::new(alloc);
     match fault {
-        BenchFault::TooLarge(Limit::Bytes) => found.push(whole(fault, Note::Nothing))?,
+        BenchFault::TooLarge(Limit::Bytes) => {
+            found.push(Finding::whole(InputError::Bench(fault), Note::Nothing))?;
+        }
         _ => look_through(alloc, text, fault, &mut found)?,
     }
     Ok(found)
 }
 
-/// Returns an error of a whole file.
-fn whole<'a>(fault: BenchFault, note: Note<'a>) -> Finding<'a> {
-    Finding {
-        fault: InputError::Bench(fault),
-        text: &[],
-        place: Place { start: 0, len: 0 },
-        note,
-    }
-}
-
-/// Returns the note on a number that is past its limit.
-fn too_many<'a>(found: usize, what: &'static str) -> Note<'a> {
-    Note::TooMany { found, what }
-}
-
-/// A name on a line of the file, and the gate that reads it.
+/// A name on a line of the file.
 #[derive(Clone, Copy)]
 pub(crate) struct Use<'a> {
-    pub(crate) name: Name<'a>,
+    pub(crate) name: &'a str,
     /// The number of the line, from 1.
-    pub(crate) line: u64,
+    line: u64,
+    place: Place,
+}
+
+/// The first definition of a name.
+#[derive(Clone, Copy)]
+pub(crate) struct Definition<'a> {
+    at: Use<'a>,
+    /// Of a gate the numbers of its first read and of the one after its last; else none lies
+    /// between them.
+    pub(crate) pins: (usize, usize),
 }
 
 /// The names of a file.
@@ -56,10 +53,7 @@ pub(crate) struct Names<'a> {
     /// The defined names, in the order of their first lines.
     pub(crate) defined: IndexSet<&'a str>,
     /// For each its first definition.
-    pub(crate) definitions: Vec<Use<'a>>,
-    /// For the name of a gate the numbers of its first read and of the one after its last; none for
-    /// other names.
-    pub(crate) pins: Vec<(usize, usize)>,
+    pub(crate) definitions: Vec<Definition<'a>>,
     /// All reads, in the order of the file.
     pub(crate) reads: Vec<Use<'a>>,
     /// The further definitions of names.
@@ -74,35 +68,63 @@ impl<'a> Names<'a> {
         Names {
             defined: IndexSet::new(alloc),
             definitions: Vec::new(alloc),
-            pins: Vec::new(alloc),
             reads: Vec::new(alloc),
             again: Vec::new(alloc),
             meant: IndexSet::new(alloc),
         }
     }
 
-    /// Adds the names of a statement.
-    fn add(&mut self, line: u64, statement: &Statement<'a>) -> Result<(), AllocError> {
-        let start = self.reads.len();
-        for name in &statement.reads {
-            self.reads.push(Use { name: *name, line })?;
-        }
-        let end = if statement.is_gate {
-            self.reads.len()
-        } else {
-            start
-        };
-        let Some(name) = statement.defines else {
+    /// Adds the names of a statement on a line of this number.
+    fn add(
+        &mut self,
+        number: u64,
+        line: &'a [u8],
+        statement: &Statement,
+    ) -> Result<(), AllocError> {
+        let pins = self.add_reads(number, line, statement)?;
+        let Some(place) = statement.defines() else {
             return Ok(());
         };
-        let (_, is_new) = self.defined.insert_full(name.text)?;
+        let at = use_at(number, line, place);
+        let (_, is_new) = self.defined.insert_full(at.name)?;
         if is_new {
-            self.definitions.push(Use { name, line })?;
-            self.pins.push((start, end))?;
+            self.definitions.push(Definition { at, pins })?;
         } else {
-            self.again.push(Use { name, line })?;
+            self.again.push(at)?;
         }
         Ok(())
+    }
+
+    /// Adds the names that a statement reads, and returns the numbers of the pins that they are.
+    fn add_reads(
+        &mut self,
+        number: u64,
+        line: &'a [u8],
+        statement: &Statement,
+    ) -> Result<(usize, usize), AllocError> {
+        let start = self.reads.len();
+        for place in statement.reads() {
+            self.reads.push(use_at(number, line, *place))?;
+        }
+        match statement.form {
+            Form::Gate => Ok((start, self.reads.len())),
+            _ => Ok((start, start)),
+        }
+    }
+
+    /// Returns the number of the line that first defines a name.
+    fn line_of(&self, name: &str) -> Option<u64> {
+        let number = self.defined.get_index_of(name)?;
+        Some(self.definitions.get(number)?.at.line)
+    }
+}
+
+/// Returns the name at a place of a line of this number.
+fn use_at<'a>(number: u64, line: &'a [u8], place: Place) -> Use<'a> {
+    Use {
+        name: word_at(line, place),
+        line: number,
+        place,
     }
 }
 
@@ -113,7 +135,8 @@ fn look_through<'a>(
     fault: BenchFault,
     found: &mut Found<'a>,
 ) -> Result<(), AllocError> {
-    let names = look_at_lines(alloc, text, found)?;
+    let mut names = Names::new(alloc);
+    add_lines(alloc, text, &mut names, found)?;
     report_names(alloc, text, fault, &names, found)
 }
 
@@ -125,34 +148,33 @@ fn report_names<'a>(
     names: &Names<'a>,
     found: &mut Found<'a>,
 ) -> Result<(), AllocError> {
-    match fault {
-        BenchFault::TooLarge(Limit::Signals) => {
-            let count = names.definitions.len().saturating_add(names.again.len());
-            found.push(whole(fault, too_many(count, "signals")))?;
-        }
-        BenchFault::TooLarge(_) => {
-            found.push(whole(fault, too_many(names.reads.len(), "sinks")))?;
-        }
-        BenchFault::Empty => found.push(whole(fault, Note::NoStatement))?,
-        _ => (),
+    if let Some(note) = whole_note(alloc, fault, names)? {
+        found.push(Finding::whole(InputError::Bench(fault), note))?;
     }
-    report_redefined(text, names, found)?;
+    report_redefined(alloc, text, names, found)?;
     report_undefined(alloc, text, names, found)?;
     report_cycles(alloc, text, names, found)
 }
 
-/// Checks each line of a file, and reports each one that is no statement.
-fn look_at_lines<'a>(
+/// Returns the note on an error of a whole file, if it is one.
+fn whole_note(
     alloc: Global,
-    text: &'a [u8],
-    found: &mut Found<'a>,
-) -> Result<Names<'a>, AllocError> {
-    let mut names = Names::new(alloc);
-    add_lines(alloc, text, &mut names, found)?;
-    Ok(names)
+    fault: BenchFault,
+    names: &Names<'_>,
+) -> Result<Option<Note>, AllocError> {
+    let words = match fault {
+        BenchFault::TooLarge(Limit::Signals) => {
+            let count = names.definitions.len().saturating_add(names.again.len());
+            format!(in alloc; "found {count} signals")?
+        }
+        BenchFault::TooLarge(_) => format!(in alloc; "found {} sinks", names.reads.len())?,
+        BenchFault::Empty => format!(in alloc; "no line has a statement")?,
+        _ => return Ok(None),
+    };
+    Ok(Some(Note::Words(words)))
 }
 
-/// Adds the names of each line.
+/// Adds the names of each line, and reports each one that is no statement.
 fn add_lines<'a>(
     alloc: Global,
     text: &'a [u8],
@@ -177,33 +199,51 @@ fn add_line<'a>(
 ) -> Result<(), AllocError> {
     match look_at(alloc, line)? {
         Look::Nothing => Ok(()),
-        Look::Stated(statement) => names.add(number, &statement),
-        Look::Wrong(wrong) => {
-            if let Some(name) = wrong.meant {
+        Look::Stated(statement) => names.add(number, line, &statement),
+        Look::Wrong(place, wrong) => {
+            if let Some(name) = meant_by(line) {
                 names.meant.insert(name)?;
             }
-            found.push(Finding {
-                fault: InputError::Bench(BenchFault::Syntax(number)),
-                text: line,
-                place: wrong.place,
-                note: wrong.note,
-            })
+            report_line(alloc, number, line, place, wrong, found)
         }
     }
 }
 
+/// Reports a line that is no statement.
+fn report_line<'a>(
+    alloc: Global,
+    number: u64,
+    line: &'a [u8],
+    place: Place,
+    wrong: Wrong,
+    found: &mut Found<'a>,
+) -> Result<(), AllocError> {
+    if found.is_full() {
+        found.count();
+        return Ok(());
+    }
+    let words = line_words(alloc, line, place, wrong)?;
+    found.push(Finding {
+        fault: InputError::Bench(BenchFault::Syntax(number)),
+        text: line,
+        place,
+        note: Note::Words(words),
+    })
+}
+
 /// Returns a finding at a name.
-fn at_name<'a>(text: &'a [u8], at: Use<'a>, fault: BenchFault, note: Note<'a>) -> Finding<'a> {
+fn at_name<'a>(text: &'a [u8], at: Use<'a>, fault: BenchFault, words: String) -> Finding<'a> {
     Finding {
         fault: InputError::Bench(fault),
         text: line_at(text, at.line),
-        place: at.name.place,
-        note,
+        place: at.place,
+        note: Note::Words(words),
     }
 }
 
 /// Reports the lines that define a name again.
 fn report_redefined<'a>(
+    alloc: Global,
     text: &'a [u8],
     names: &Names<'a>,
     found: &mut Found<'a>,
@@ -211,21 +251,23 @@ fn report_redefined<'a>(
     for again in &names.again {
         if found.is_full() {
             found.count();
-            continue;
+        } else {
+            found.push(redefined(alloc, text, *again, names)?)?;
         }
-        let name = again.name.text;
-        let first = names
-            .defined
-            .get_index_of(name)
-            .and_then(|number| names.definitions.get(number));
-        let line = match first {
-            Some(first) => first.line,
-            None => again.line,
-        };
-        let note = Note::DefinedAt { name, line };
-        found.push(at_name(text, *again, BenchFault::Redefined(again.line), note))?;
     }
     Ok(())
+}
+
+/// Returns the error of a line that defines a name again.
+fn redefined<'a>(
+    alloc: Global,
+    text: &'a [u8],
+    again: Use<'a>,
+    names: &Names<'a>,
+) -> Result<Finding<'a>, AllocError> {
+    let first = names.line_of(again.name).unwrap_or(again.line);
+    let words = defined_words(alloc, again.name, first)?;
+    Ok(at_name(text, again, BenchFault::Redefined(again.line), words))
 }
 
 /// Returns whether a name is defined, or a line with an error seems to define it.
@@ -253,19 +295,28 @@ fn report_undefined<'a>(
     found: &mut Found<'a>,
 ) -> Result<(), AllocError> {
     for read in &names.reads {
-        let name = read.name.text;
-        if is_known(names, name) {
+        if is_known(names, read.name) {
             continue;
         }
         if found.is_full() {
             found.count();
-            continue;
+        } else {
+            found.push(undefined(alloc, text, *read, names)?)?;
         }
-        let near = near_name(alloc, name, names)?;
-        let note = Note::NotDefined { name, near };
-        found.push(at_name(text, *read, BenchFault::Undefined(read.line), note))?;
     }
     Ok(())
+}
+
+/// Returns the error of a read of a name that no line defines.
+fn undefined<'a>(
+    alloc: Global,
+    text: &'a [u8],
+    read: Use<'a>,
+    names: &Names<'a>,
+) -> Result<Finding<'a>, AllocError> {
+    let near = near_name(alloc, read.name, names)?;
+    let words = not_defined_words(alloc, read.name, near)?;
+    Ok(at_name(text, read, BenchFault::Undefined(read.line), words))
 }
 
 /// Reports the cycles of gates.
@@ -279,33 +330,39 @@ fn report_cycles<'a>(
     for cycle in &reported {
         if found.is_full() {
             found.count();
-            continue;
+        } else if let Some(definition) = names.definitions.get(cycle.at) {
+            found.push(on_cycle(alloc, text, definition.at, names, cycle)?)?;
         }
-        let Some(at) = names.definitions.get(cycle.at) else {
-            continue;
-        };
-        let note = cycle_note(alloc, names, cycle, at.name.text)?;
-        found.push(at_name(text, *at, BenchFault::Cycle(at.line), note))?;
     }
     Ok(())
 }
 
-/// Returns the note on a cycle at the gate of this name.
-fn cycle_note<'a>(
+/// Returns the error of a gate that is on a cycle, or fed by it.
+fn on_cycle<'a>(
+    alloc: Global,
+    text: &'a [u8],
+    gate: Use<'a>,
+    names: &Names<'a>,
+    cycle: &Cycle,
+) -> Result<Finding<'a>, AllocError> {
+    let mut words = cycle_words(alloc, &names_on(alloc, names, cycle)?)?;
+    if !cycle.gates.contains(&cycle.at) {
+        words = fed_words(alloc, gate.name, &words)?;
+    }
+    Ok(at_name(text, gate, BenchFault::Cycle(gate.line), words))
+}
+
+/// Returns the names of the gates on a cycle.
+fn names_on<'a>(
     alloc: Global,
     names: &Names<'a>,
     cycle: &Cycle,
-    name: &'a str,
-) -> Result<Note<'a>, AllocError> {
+) -> Result<Vec<&'a str>, AllocError> {
     let mut round = Vec::new(alloc);
     for gate in &cycle.gates {
         if let Some(definition) = names.definitions.get(*gate) {
-            round.push(definition.name.text)?;
+            round.push(definition.at.name)?;
         }
     }
-    if cycle.gates.contains(&cycle.at) {
-        Ok(Note::Cycle { names: round })
-    } else {
-        Ok(Note::FedByCycle { name, names: round })
-    }
+    Ok(round)
 }

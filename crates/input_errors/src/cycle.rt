@@ -41,16 +41,23 @@ struct Search {
     found: Vec<Cycle>,
 }
 
+impl Search {
+    /// Makes a search among this number of names.
+    fn new(alloc: Global, count: usize) -> Result<Search, AllocError> {
+        Ok(Search {
+            states: vec![in alloc; State::New; count]?,
+            reported: vec![in alloc; false; count]?,
+            path: Vec::new(alloc),
+            found: Vec::new(alloc),
+        })
+    }
+}
+
 /// Returns cycles of gates, at least one of several cycles with a gate in common. The first is
 /// reported at the first gate of the file that is on a cycle or fed by one.
 pub(crate) fn cycles(alloc: Global, names: &Names<'_>) -> Result<Vec<Cycle>, AllocError> {
-    let count = names.pins.len();
-    let mut search = Search {
-        states: vec![in alloc; State::New; count]?,
-        reported: vec![in alloc; false; count]?,
-        path: Vec::new(alloc),
-        found: Vec::new(alloc),
-    };
+    let count = names.definitions.len();
+    let mut search = Search::new(alloc, count)?;
     for gate in 0..count {
         search_from(alloc, names, gate, &mut search)?;
     }
@@ -67,7 +74,9 @@ fn search_from(
     enter(names, root, search)?;
     // Each read is visited once, and each gate is entered and left once.
     let reads = names.reads.len();
-    let steps = reads.saturating_add(names.pins.len()).saturating_add(1);
+    let steps = reads
+        .saturating_add(names.definitions.len())
+        .saturating_add(1);
     for _ in 0..steps {
         let Some(visit) = search.path.pop() else {
             break;
@@ -86,7 +95,8 @@ fn enter(names: &Names<'_>, gate: usize, search: &mut Search) -> Result<(), Allo
         return Ok(());
     }
     *state = State::Open;
-    if let Some((next, end)) = names.pins.get(gate).copied() {
+    if let Some(definition) = names.definitions.get(gate) {
+        let (next, end) = definition.pins;
         search.path.push(Visit { gate, next, end })?;
     }
     Ok(())
@@ -106,7 +116,7 @@ fn step(
         }
         return Ok(());
     }
-    let read = names.reads.get(visit.next).map(|read| read.name.text);
+    let read = names.reads.get(visit.next).map(|read| read.name);
     let next = visit.next.saturating_add(1);
     search.path.push(Visit { next, ..visit })?;
     let Some(gate) = read.and_then(|name| names.defined.get_index_of(name)) else {

@@ -11,7 +11,7 @@ use std::alloc::{AllocError, Global};
 use std::fmt::{self, Display, Formatter};
 
 /// An error of a file.
-#[derive(Clone, Copy, Debug, PartialEq, Eq)]
+#[derive(Clone, Copy, PartialEq)]
 pub enum InputError {
     Bench(BenchFault),
     Tests(TestFault),
@@ -82,7 +82,7 @@ fn test_words(fault: TestFault) -> &'static str
 }
 
 /// An error of a file with its line and place, and a note on it.
-#[derive(Debug, Drop)]
+#[derive(Drop)]
 pub struct Finding<'a> {
     /// The error, which names the line.
     pub fault: InputError,
@@ -90,12 +90,26 @@ pub struct Finding<'a> {
     pub text: &'a [u8],
     /// The place on the line.
     pub place: Place,
-    /// The note: what was found and expected.
-    pub note: Note<'a>,
+    /// What was found and expected.
+    pub note: Note,
+}
+
+impl Finding<'_> {
+    /// Returns an error of a whole file.
+    pub fn whole(fault: InputError, note: Note) -> Self
+        ensures { result.fault ≡ fault }
+    {
+        Finding {
+            fault,
+            text: &[],
+            place: Place { start: 0, len: 0 },
+            note,
+        }
+    }
 }
 
 /// All errors of a file: the first, then others, and how many more there are.
-#[derive(Debug, Drop)]
+#[derive(Drop)]
 pub struct Findings<'a> {
     /// The error that the reader reports.
     pub first: Finding<'a>,
@@ -185,22 +199,19 @@ fn fmt_finding<W: fmt::Write>(
     f: &mut Formatter<W>,
 ) -> fmt::Result {
     let fault = finding.fault;
-    if let Note::Foreign(kind) = finding.note {
+    if let Note::Foreign(kind) = &finding.note {
         return writeln!(f, "{path}: {kind}");
     }
     match fault.line() {
-        Some(line) => writeln!(f, "{path}:{line}: {fault}")?,
+        Some(line) => {
+            writeln!(f, "{path}:{line}: {fault}")?;
+            fmt_mark(finding.text, finding.place, f)?;
+        }
         None => writeln!(f, "{path}: {fault}")?,
     }
-    if fault.line().is_some() {
-        fmt_mark(finding.text, finding.place, f)?;
-    }
-    match finding.note {
-        Note::Nothing => Ok(()),
-        _ => {
-            let note = &finding.note;
-            writeln!(f, "    {note}")
-        }
+    match &finding.note {
+        Note::Words(words) => writeln!(f, "    {words}"),
+        Note::Nothing | Note::Foreign(_) => Ok(()),
     }
 }
 

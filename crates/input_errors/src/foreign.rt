@@ -3,7 +3,7 @@
 use std::fmt::{self, Display, Formatter};
 
 /// A kind of file that is neither a bench file nor a test file.
-#[derive(Clone, Copy, Debug, PartialEq, Eq)]
+#[derive(Clone, Copy)]
 pub enum Foreign {
     /// A file that a program, or one of its name, has compressed.
     Compressed(&'static str),

@@ -22,5 +22,5 @@ pub use finding::{Finding, Findings, Found, InputError, Located};
 pub use foreign::{Foreign, foreign_kind};
 pub use note::Note;
 pub use tests::find_in_tests;
-pub use tokens::{Place, Token};
-pub use warning::{NameList, Warning, circuit_warnings, pair_warnings, test_warnings};
+pub use tokens::Place;
+pub use warning::{add_circuit_warnings, add_pair_warnings, add_test_warnings};

@@ -2,164 +2,222 @@
 //!
 //! Only `bench_net::read_bench` decides whether a file is accepted.
 
-use crate::note::{Note, OfAbc};
-use crate::suggest::{nearest_gate, nearest_port};
-use crate::tokens::{Place, Token, token_from};
+use crate::tokens::{Place, Spot, Token, token_from, word_at};
 use std::alloc::{AllocError, AllocFailed, Global};
 use text_lines::{are_bits, without_carriage_return};
 
-/// A name with its place.
+/// What comes next in a statement.
 #[derive(Clone, Copy)]
-pub(crate) struct Name<'a> {
-    pub(crate) text: &'a str,
-    pub(crate) place: Place,
+pub(crate) enum Next {
+    Name,
+    OpenOrEquals,
+    Kind,
+    Open,
+    Argument,
+    CommaOrClose,
+    End,
+    /// Nothing: it is whole.
+    Nothing,
 }
 
-/// The statement of a line.
-#[derive(Drop)]
-pub(crate) struct Statement<'a> {
-    pub(crate) defines: Option<Name<'a>>,
-    pub(crate) is_gate: bool,
-    pub(crate) reads: Vec<Name<'a>>,
+impl Next {
+    /// Returns what comes after this token, if it is the one that comes next.
+    fn after(self, token: Token) -> Option<Next> {
+        match (self, token) {
+            (Next::Name, Token::Word) => Some(Next::OpenOrEquals),
+            (Next::OpenOrEquals, Token::Equals) => Some(Next::Kind),
+            (Next::Kind, Token::Word) => Some(Next::Open),
+            (Next::OpenOrEquals | Next::Open, Token::Open) => Some(Next::Argument),
+            (Next::CommaOrClose, Token::Comma) => Some(Next::Argument),
+            (Next::Argument, Token::Word) => Some(Next::CommaOrClose),
+            (Next::CommaOrClose, Token::Close) => Some(Next::End),
+            (Next::End, Token::End) => Some(Next::Nothing),
+            _ => None,
+        }
+    }
+
+    /// Returns the words for it.
+    pub(crate) fn words(self) -> &'static str {
+        match self {
+            Next::Name => "a name, INPUT or OUTPUT",
+            Next::OpenOrEquals => "`(` or `=`",
+            Next::Kind => "the kind of a gate",
+            Next::Open => "`(`",
+            Next::Argument => "a name",
+            Next::CommaOrClose => "`,` or `)`",
+            Next::End | Next::Nothing => "the end of the line",
+        }
+    }
+}
+
+/// A statement that ABC writes into a netlist, and no bench file has.
+#[derive(Clone, Copy)]
+pub(crate) enum OfAbc {
+    /// `n = vdd` or `n = gnd`.
+    Constant,
+    /// `n = LUT 0x8 ( a, b )`.
+    Table,
+    /// `q = DFFRSE( d, gnd, gnd, gnd, gnd )`.
+    FlipFlop,
 }
 
 /// The reason why a line is no statement.
+#[derive(Clone, Copy)]
+pub(crate) enum Wrong {
+    /// Another token than comes next.
+    Expected(Next),
+    /// The word before the parenthesis is no gate.
+    UnknownGate,
+    /// The word before the parenthesis is neither INPUT nor OUTPUT.
+    UnknownStatement,
+    /// Only ABC writes such a statement.
+    OfAbc(OfAbc),
+    /// Another number of arguments than one.
+    OneArgument(usize),
+    /// It looks like a test.
+    TestRow,
+}
+
+/// The form of a statement.
+#[derive(Clone, Copy)]
+pub(crate) enum Form {
+    Input,
+    Output,
+    Gate,
+    FlipFlop,
+}
+
+/// A statement, with the places of its words in their order.
 #[derive(Drop)]
-pub(crate) struct Wrong<'a> {
-    pub(crate) place: Place,
-    pub(crate) note: Note<'a>,
-    /// The name that it seems to define.
-    pub(crate) meant: Option<&'a str>,
+pub(crate) struct Statement {
+    pub(crate) form: Form,
+    words: Vec<Place>,
+}
+
+impl Statement {
+    /// Returns the place of the name that it defines.
+    pub(crate) fn defines(&self) -> Option<Place> {
+        let word = match self.form {
+            Form::Input => 1,
+            Form::Output => return None,
+            Form::Gate | Form::FlipFlop => 0,
+        };
+        self.words.get(word).copied()
+    }
+
+    /// Returns the places of the names that it reads.
+    pub(crate) fn reads(&self) -> &[Place] {
+        let from = match self.form {
+            Form::Input => return &[],
+            Form::Output => 1,
+            Form::Gate | Form::FlipFlop => 2,
+        };
+        self.words.get(from..).unwrap_or(&[])
+    }
 }
 
 /// The result of looking at a line.
 #[derive(Drop)]
-pub(crate) enum Look<'a> {
+pub(crate) enum Look {
     Nothing,
-    Stated(Statement<'a>),
-    Wrong(Wrong<'a>),
+    Stated(Statement),
+    Wrong(Place, Wrong),
 }
 
 /// The reason why the look at a line ends early.
-#[derive(Drop)]
-enum Stop<'a> {
-    Wrong(Place, Note<'a>),
+#[derive(Clone, Copy)]
+enum Stop {
+    Wrong(Place, Wrong),
     Memory,
 }
 
-impl From<AllocError> for Stop<'_> {
+impl From<AllocError> for Stop {
     fn from(_: AllocError) -> Self {
         Stop::Memory
     }
 }
 
-impl<T: Drop> From<AllocFailed<T>> for Stop<'_> {
+impl<T: Drop> From<AllocFailed<T>> for Stop {
     fn from(_: AllocFailed<T>) -> Self {
         Stop::Memory
     }
 }
 
-/// Returns the stop at a place with another token than is expected.
-fn unexpected<'a>(found: Token<'a>, place: Place, expected: &'static str) -> Stop<'a> {
-    Stop::Wrong(place, Note::Expected { found, expected })
-}
-
-/// Returns the name at a place of a line.
-fn name_from<'a>(line: &'a [u8], at: usize, expected: &'static str) -> Result<Name<'a>, Stop<'a>> {
-    let spot = token_from(line, at);
-    match spot.token {
-        Token::Word(text) => Ok(Name {
-            text,
-            place: spot.place,
-        }),
-        found => Err(unexpected(found, spot.place, expected)),
+/// Returns what comes after a token that follows this word, if it is the one that comes next.
+fn after(line: &[u8], word: Place, next: Next, spot: Spot) -> Result<Next, Stop> {
+    if let (Next::Open, Some(what)) = (next, of_abc(word_at(line, word), spot.token)) {
+        return Err(Stop::Wrong(word, Wrong::OfAbc(what)));
+    }
+    match next.after(spot.token) {
+        Some(more) => Ok(more),
+        None => Err(Stop::Wrong(spot.place, Wrong::Expected(next))),
     }
 }
 
-/// Returns the place after an opening parenthesis.
-fn open_from<'a>(line: &'a [u8], at: usize) -> Result<usize, Stop<'a>> {
-    let spot = token_from(line, at);
-    match spot.token {
-        Token::Open => Ok(spot.place.end()),
-        found => Err(unexpected(found, spot.place, "`(`")),
+/// Returns the statement of ABC that a word after `=` and the token after it begin, if bench files
+/// don't have it.
+fn of_abc(word: &str, token: Token) -> Option<OfAbc> {
+    match token {
+        Token::End if is_in(word, &CONSTANTS) => Some(OfAbc::Constant),
+        Token::Word if word.eq_ignore_ascii_case("LUT") => Some(OfAbc::Table),
+        Token::Open if word.eq_ignore_ascii_case("DFFRSE") => Some(OfAbc::FlipFlop),
+        _ => None,
     }
 }
 
-/// Checks that a line ends at a place.
-fn end_from<'a>(line: &'a [u8], at: usize) -> Result<(), Stop<'a>> {
-    let spot = token_from(line, at);
-    match spot.token {
-        Token::End => Ok(()),
-        found => Err(unexpected(found, spot.place, "the end of the line")),
-    }
-}
-
-/// Returns the arguments from a place up to the parenthesis that ends the line.
-fn arguments<'a>(alloc: Global, line: &'a [u8], from: usize) -> Result<Vec<Name<'a>>, Stop<'a>> {
-    let mut names = Vec::new(alloc);
-    let mut at = from;
-    for _ in 0..line.len() {
-        let name = name_from(line, at, "a name")?;
-        names.push(name)?;
-        let spot = token_from(line, name.place.end());
-        at = spot.place.end();
-        match spot.token {
-            Token::Comma => (),
-            Token::Close => {
-                end_from(line, at)?;
-                return Ok(names);
-            }
-            found => return Err(unexpected(found, spot.place, "`,` or `)`")),
+/// Adds the places of the words of a line, and returns whether it has a `=`. It stops at the first
+/// token that doesn't come next.
+fn read_words(line: &[u8], words: &mut Vec<Place>) -> Result<bool, Stop> {
+    let mut spot = token_from(line, 0);
+    let mut word = spot.place;
+    let mut next = Next::Name;
+    let mut is_driven = false;
+    for _ in 0..=line.len() {
+        next = after(line, word, next, spot)?;
+        if matches!(spot.token, Token::Word) {
+            word = spot.place;
+            words.push(word)?;
         }
-    }
-    Err(unexpected(Token::End, Place { start: at, len: 0 }, "a name"))
-}
-
-/// Returns the only argument of a word that takes one.
-fn only<'a>(word: Name<'a>, arguments: &[Name<'a>]) -> Result<Name<'a>, Stop<'a>> {
-    match arguments {
-        [name] => Ok(*name),
-        _ => {
-            let found = arguments.len();
-            let word_text = word.text;
-            let note = Note::OneArgument {
-                word: word_text,
-                found,
-            };
-            Err(Stop::Wrong(word.place, note))
+        is_driven |= matches!(next, Next::Kind);
+        if matches!(next, Next::Nothing) {
+            break;
         }
+        spot = token_from(line, spot.place.end());
     }
+    Ok(is_driven)
 }
 
-/// Returns `INPUT ( n )` or `OUTPUT ( n )`, made of the word before the parenthesis and the
-/// arguments.
-fn port<'a>(
-    alloc: Global,
-    word: Name<'a>,
-    arguments: Vec<Name<'a>>,
-) -> Result<Statement<'a>, Stop<'a>> {
-    if word.text.eq_ignore_ascii_case("INPUT") {
-        let name = only(word, arguments.as_slice())?;
-        return Ok(Statement {
-            defines: Some(name),
-            is_gate: false,
-            reads: Vec::new(alloc),
-        });
-    }
-    if word.text.eq_ignore_ascii_case("OUTPUT") {
-        only(word, arguments.as_slice())?;
-        return Ok(Statement {
-            defines: None,
-            is_gate: false,
-            reads: arguments,
-        });
-    }
-    let near = nearest_port(alloc, word.text)?;
-    let note = Note::UnknownStatement {
-        word: word.text,
-        near,
+/// Returns the form of a statement with these words.
+fn form_of(line: &[u8], words: &[Place], is_driven: bool) -> Result<Form, Stop> {
+    let (place, form) = match words {
+        [_, kind, pins @ ..] if is_driven => (*kind, gate_form(word_at(line, *kind), pins.len())),
+        [word, names @ ..] => (*word, port_form(word_at(line, *word), names.len())),
+        [] => return Err(Stop::Wrong(Place { start: 0, len: 0 }, Wrong::Expected(Next::Name))),
     };
-    Err(Stop::Wrong(word.place, note))
+    match form {
+        Ok(form) => Ok(form),
+        Err(wrong) => Err(Stop::Wrong(place, wrong)),
+    }
+}
+
+/// Returns a form that has one argument, if there are as many.
+fn only(form: Form, arguments: usize) -> Result<Form, Wrong> {
+    if arguments == 1 {
+        Ok(form)
+    } else {
+        Err(Wrong::OneArgument(arguments))
+    }
+}
+
+/// Returns the form of `INPUT ( n )` or `OUTPUT ( n )`, by the word before the parenthesis.
+fn port_form(word: &str, arguments: usize) -> Result<Form, Wrong> {
+    if word.eq_ignore_ascii_case("INPUT") {
+        only(Form::Input, arguments)
+    } else if word.eq_ignore_ascii_case("OUTPUT") {
+        only(Form::Output, arguments)
+    } else {
+        Err(Wrong::UnknownStatement)
+    }
 }
 
 /// The words of gates that take one argument or more.
@@ -168,136 +226,68 @@ static MANY: [&str; 6] = ["AND", "NAND", "OR", "NOR", "XOR", "XNOR"];
 /// The words of gates that take one argument.
 static ONE: [&str; 3] = ["NOT", "BUFF", "BUF"];
 
+/// The words of ABC's constants.
+static CONSTANTS: [&str; 2] = ["vdd", "gnd"];
+
 /// Returns whether a word in any case is in a list.
 fn is_in(word: &str, list: &[&str]) -> bool {
     list.iter().any(|known| word.eq_ignore_ascii_case(*known))
 }
 
-/// Returns `q = DFF ( d )` or `n = KIND ( a , b , .. )`, made of the name, the word and the
-/// arguments.
-fn driven<'a>(
-    alloc: Global,
-    name: Name<'a>,
-    word: Name<'a>,
-    arguments: Vec<Name<'a>>,
-) -> Result<Statement<'a>, Stop<'a>> {
-    let is_gate = !word.text.eq_ignore_ascii_case("DFF");
-    if !is_gate || is_in(word.text, &ONE) {
-        only(word, arguments.as_slice())?;
-    } else if !is_in(word.text, &MANY) {
-        let near = nearest_gate(alloc, word.text)?;
-        let note = Note::UnknownGate {
-            word: word.text,
-            near,
-        };
-        return Err(Stop::Wrong(word.place, note));
-    }
-    Ok(Statement {
-        defines: Some(name),
-        is_gate,
-        reads: arguments,
-    })
-}
-
-/// The words of ABC's constants.
-static CONSTANTS: [&str; 2] = ["vdd", "gnd"];
-
-/// Returns the statement of ABC that the word after `=` begins, if bench files don't have it.
-fn of_abc(line: &[u8], word: Name<'_>) -> Option<OfAbc> {
-    match token_from(line, word.place.end()).token {
-        Token::End if is_in(word.text, &CONSTANTS) => Some(OfAbc::Constant),
-        Token::Word(_) if word.text.eq_ignore_ascii_case("LUT") => Some(OfAbc::Table),
-        Token::Open if word.text.eq_ignore_ascii_case("DFFRSE") => Some(OfAbc::FlipFlop),
-        _ => None,
-    }
-}
-
-/// Checks that the word after `=` isn't one that only ABC writes.
-fn no_abc<'a>(line: &'a [u8], word: Name<'a>) -> Result<(), Stop<'a>> {
-    match of_abc(line, word) {
-        Some(what) => Err(Stop::Wrong(word.place, Note::OfAbc(what))),
-        None => Ok(()),
-    }
-}
-
-/// Returns the statement of a line that begins with a name.
-fn stated_behind<'a>(
-    alloc: Global,
-    line: &'a [u8],
-    first: Name<'a>,
-) -> Result<Statement<'a>, Stop<'a>> {
-    let spot = token_from(line, first.place.end());
-    let at = spot.place.end();
-    match spot.token {
-        Token::Open => {
-            let names = arguments(alloc, line, at)?;
-            port(alloc, first, names)
-        }
-        Token::Equals => {
-            let word = name_from(line, at, "the kind of a gate")?;
-            no_abc(line, word)?;
-            let from = open_from(line, word.place.end())?;
-            let names = arguments(alloc, line, from)?;
-            driven(alloc, first, word, names)
-        }
-        found => Err(unexpected(found, spot.place, "`(` or `=`")),
-    }
-}
-
-/// Returns the name that a line seems to define.
-fn meant_by<'a>(line: &'a [u8]) -> Option<&'a str> {
-    let first = token_from(line, 0);
-    let mark = token_from(line, first.place.end());
-    let next = token_from(line, mark.place.end());
-    match (first.token, mark.token, next.token) {
-        (Token::Word(name), Token::Equals, _) => Some(name),
-        (Token::Word(_), Token::Open, Token::Word(name)) => Some(name),
-        _ => None,
-    }
-}
-
-/// Returns whether a line has only bits.
-fn is_test_row(line: &[u8]) -> bool {
-    let spot = token_from(line, 0);
-    let Token::Word(word) = spot.token else {
-        return false;
-    };
-    are_bits(word.as_bytes()) && matches!(token_from(line, spot.place.end()).token, Token::End)
-}
-
-/// Returns the reason why a line is no statement.
-fn nothing_stated<'a>(line: &'a [u8], place: Place, note: Note<'a>) -> Wrong<'a> {
-    if is_test_row(line) {
-        let spot = token_from(line, 0);
-        return Wrong {
-            place: spot.place,
-            note: Note::TestRow,
-            meant: None,
-        };
-    }
-    Wrong {
-        place,
-        note,
-        meant: meant_by(line),
-    }
-}
-
-/// Looks at a line, without its end.
-pub(crate) fn look_at<'a>(alloc: Global, line: &'a [u8]) -> Result<Look<'a>, AllocError> {
-    if matches!(token_from(line, 0).token, Token::End) {
-        return Ok(Look::Nothing);
-    }
-    match stated_from(alloc, line) {
-        Ok(stated) => Ok(Look::Stated(stated)),
-        Err(Stop::Wrong(place, note)) => Ok(Look::Wrong(nothing_stated(line, place, note))),
-        Err(Stop::Memory) => Err(AllocError),
+/// Returns the form of `q = DFF ( d )` or `n = KIND ( a , b , .. )`, by the word before the
+/// parenthesis.
+fn gate_form(word: &str, arguments: usize) -> Result<Form, Wrong> {
+    if word.eq_ignore_ascii_case("DFF") {
+        only(Form::FlipFlop, arguments)
+    } else if is_in(word, &ONE) {
+        only(Form::Gate, arguments)
+    } else if is_in(word, &MANY) {
+        Ok(Form::Gate)
+    } else {
+        Err(Wrong::UnknownGate)
     }
 }
 
 /// Returns the statement of a line that has a token.
-fn stated_from<'a>(alloc: Global, line: &'a [u8]) -> Result<Statement<'a>, Stop<'a>> {
-    let first = name_from(line, 0, "a name, INPUT or OUTPUT")?;
-    stated_behind(alloc, line, first)
+fn statement_of(alloc: Global, line: &[u8]) -> Result<Statement, Stop> {
+    let mut words = Vec::new(alloc);
+    let is_driven = read_words(line, &mut words)?;
+    let form = form_of(line, &words, is_driven)?;
+    Ok(Statement { form, words })
+}
+
+/// Returns the name that a line seems to define.
+pub(crate) fn meant_by<'a>(line: &'a [u8]) -> Option<&'a str> {
+    let first = token_from(line, 0);
+    let mark = token_from(line, first.place.end());
+    let next = token_from(line, mark.place.end());
+    match (first.token, mark.token, next.token) {
+        (Token::Word, Token::Equals, _) => Some(word_at(line, first.place)),
+        (Token::Word, Token::Open, Token::Word) => Some(word_at(line, next.place)),
+        _ => None,
+    }
+}
+
+/// Returns whether a line has only bits from its first token, a word, on.
+fn is_test_row(line: &[u8], first: Place) -> bool {
+    are_bits(word_at(line, first).as_bytes())
+        && matches!(token_from(line, first.end()).token, Token::End)
+}
+
+/// Looks at a line, without its end.
+pub(crate) fn look_at(alloc: Global, line: &[u8]) -> Result<Look, AllocError> {
+    let Spot { token, place } = token_from(line, 0);
+    if matches!(token, Token::End) {
+        return Ok(Look::Nothing);
+    }
+    if matches!(token, Token::Word) && is_test_row(line, place) {
+        return Ok(Look::Wrong(place, Wrong::TestRow));
+    }
+    match statement_of(alloc, line) {
+        Ok(statement) => Ok(Look::Stated(statement)),
+        Err(Stop::Wrong(place, wrong)) => Ok(Look::Wrong(place, wrong)),
+        Err(Stop::Memory) => Err(AllocError),
+    }
 }
 
 /// Returns the line of this number, from 1, of a file, without its end.

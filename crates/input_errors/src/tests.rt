@@ -2,7 +2,7 @@
 
 use crate::finding::{Finding, Found, InputError};
 use crate::look::{Look, line_at, look_at};
-use crate::note::Note;
+use crate::note::{Note, SWAPPED, no_bit_words, width_words};
 use crate::tokens::Place;
 use patterns::{MAX_TESTS, TestFault};
 use std::alloc::{AllocError, Global};
@@ -44,38 +44,10 @@ fn look_at_rows<'a>(
         report_row(alloc, text, row, width, found)?;
     }
     if rows > MAX_TESTS {
-        report_too_many(rows, found)?;
+        let note = Note::Words(format!(in alloc; "found {rows} rows")?);
+        found.push(Finding::whole(InputError::Tests(TestFault::TooMany), note))?;
     }
     Ok(())
-}
-
-/// Reports that there are too many rows.
-fn report_too_many<'a>(rows: u32, found: &mut Found<'a>) -> Result<(), AllocError> {
-    found.push(Finding {
-        fault: InputError::Tests(TestFault::TooMany),
-        text: &[],
-        place: Place { start: 0, len: 0 },
-        note: Note::TooMany {
-            found: rows as usize,
-            what: "rows",
-        },
-    })
-}
-
-/// A row with its line.
-#[derive(Clone, Copy)]
-struct PlacedRow<'a> {
-    row: Row<'a>,
-    line: &'a [u8],
-    /// The place of the row's first byte on the line.
-    start: usize,
-}
-
-/// Returns a row of a file with its line.
-fn placed<'a>(text: &'a [u8], row: Row<'a>) -> PlacedRow<'a> {
-    let line = line_at(text, row.line);
-    let start = line.iter().take_while(|byte| is_blank(**byte)).count();
-    PlacedRow { row, line, start }
 }
 
 /// Reports the error of a row, if it has one.
@@ -97,64 +69,43 @@ fn report_row<'a>(
         found.count();
         return Ok(());
     }
-    let placed = placed(text, row);
-    let finding = match bad {
-        Some(at) => bad_byte(alloc, placed, at)?,
-        None => bad_width(placed, width),
-    };
-    found.push(finding)
-}
-
-/// Returns the error of a row of a wrong width.
-fn bad_width<'a>(placed: PlacedRow<'a>, width: Width) -> Finding<'a> {
-    let len = placed.row.bytes.len();
-    Finding {
-        fault: InputError::Tests(TestFault::BadWidth(placed.row.line)),
-        text: placed.line,
-        place: Place {
-            start: placed.start,
-            len,
+    let line = line_at(text, row.line);
+    let start = line.iter().take_while(|byte| is_blank(**byte)).count();
+    let len = row.bytes.len();
+    found.push(match bad {
+        Some(at) => Finding {
+            fault: InputError::Tests(TestFault::BadByte(row.line)),
+            text: line,
+            place: Place {
+                start: start.saturating_add(at),
+                len: 1,
+            },
+            note: byte_note(alloc, line, row.bytes, at)?,
         },
-        note: Note::Width {
-            found: len,
-            inputs: width.inputs,
-            cells: width.cells,
+        None => Finding {
+            fault: InputError::Tests(TestFault::BadWidth(row.line)),
+            text: line,
+            place: Place { start, len },
+            note: Note::Words(width_words(alloc, len, width.inputs, width.cells)?),
         },
-    }
-}
-
-/// Returns the error of a row with a byte at this place that is no bit.
-fn bad_byte<'a>(
-    alloc: Global,
-    placed: PlacedRow<'a>,
-    at: usize,
-) -> Result<Finding<'a>, AllocError> {
-    Ok(Finding {
-        fault: InputError::Tests(TestFault::BadByte(placed.row.line)),
-        text: placed.line,
-        place: Place {
-            start: placed.start.saturating_add(at),
-            len: 1,
-        },
-        note: byte_note(alloc, placed, at)?,
     })
 }
 
-/// Returns the note on the first byte of a row that is no bit.
-fn byte_note<'a>(alloc: Global, placed: PlacedRow<'a>, at: usize) -> Result<Note<'a>, AllocError> {
-    if matches!(look_at(alloc, placed.line)?, Look::Stated(_)) {
-        return Ok(Note::BenchLine);
-    }
-    let bytes = placed.row.bytes;
-    let digits = bytes
-        .iter()
-        .take_while(|byte| byte.is_ascii_digit())
-        .count();
-    if digits > 0 && bytes.get(digits).copied() == Some(b':') {
-        return Ok(Note::NumberedRow);
-    }
-    match bytes.get(at).copied() {
-        Some(byte) => Ok(Note::NoBit(byte)),
-        None => Ok(Note::Nothing),
-    }
+/// The words on a row with a number and a colon before its bits.
+const NUMBERED: &str =
+    "looks like numbered rows of another tool; docs/VERILOG.md has a line that makes tests of them";
+
+/// Returns the note on a row of these bytes on a line, with a byte at this place that is no bit.
+fn byte_note(alloc: Global, line: &[u8], row: &[u8], at: usize) -> Result<Note, AllocError> {
+    let digits = row.iter().take_while(|byte| byte.is_ascii_digit()).count();
+    let words = if matches!(look_at(alloc, line)?, Look::Stated(_)) {
+        format!(in alloc; "looks like a line of a circuit; {SWAPPED}")?
+    } else if digits > 0 && row.get(digits).copied() == Some(b':') {
+        format!(in alloc; "{NUMBERED}")?
+    } else if let Some(byte) = row.get(at) {
+        no_bit_words(alloc, *byte)?
+    } else {
+        return Ok(Note::Nothing);
+    };
+    Ok(Note::Words(words))
 }

@@ -2,18 +2,18 @@
 
 ghost use Rattle.std.specs.Prelude.{◌<◌};
 
-use crate::tokens::Short;
+use crate::note::listed;
 use bench_net::{Circuit, Sink};
 use patterns::Tests;
 use std::alloc::{AllocError, Global};
-use std::fmt::{self, Display, Formatter};
+use std::fmt::Write;
 
 /// The number of names of a list that are printed.
 const MAX_NAMES: usize = 5;
 
 /// Names of signals; of many only the first ones.
-#[derive(Debug, Drop)]
-pub struct NameList<'a> {
+#[derive(Drop)]
+struct NameList<'a> {
     names: Vec<&'a str>,
     more: u64,
 }
@@ -36,132 +36,65 @@ impl<'a> NameList<'a> {
         self.names.push(name)?;
         Ok(())
     }
-
-    /// Returns whether there is none.
-    fn is_empty(&self) -> bool {
-        self.names.is_empty()
-    }
 }
 
-impl Display for NameList<'_> {
-    fn fmt<W: fmt::Write>(&self, f: &mut Formatter<W>) -> fmt::Result {
-        for (place, name) in self.names.iter().enumerate() {
-            if place > 0 {
-                f.write_str(", ")?;
-            }
-            write!(f, "{}", Short(*name))?;
-        }
-        match self.more {
-            0 => Ok(()),
-            more => write!(f, " and {more} more"),
-        }
-    }
-}
-
-/// An oddity that is no error.
-#[derive(Debug, Drop)]
-pub enum Warning<'a> {
-    /// The circuit has no OUTPUT line and no flip-flop, so no test detects anything.
-    Unobserved,
-    /// Signals that nothing reads.
-    Unread(NameList<'a>),
-    /// Signals that two OUTPUT lines or more observe.
-    OutputTwice(NameList<'a>),
-    /// There is no test.
-    NoTest,
-    /// A test that equals an earlier one, both counted from 0, and how many more there are.
-    SameTest { test: u32, as_test: u32, more: u64 },
-    /// A pair of tests that equals an earlier one, each with the number of its first test, and how
-    /// many more there are.
-    SamePair { test: u32, as_test: u32, more: u64 },
-    /// The last test, if tests are pairs and their number is odd.
-    NoSecond { test: u32 },
-    /// Inputs and flip-flops that have the same bit in all tests.
-    ConstantSources(NameList<'a>),
-}
-
-impl Display for Warning<'_> {
-    fn fmt<W: fmt::Write>(&self, f: &mut Formatter<W>) -> fmt::Result {
-        match self {
-            Warning::Unobserved => {
-                f.write_str("no output and no flip-flop: no test detects any fault")
-            }
-            Warning::Unread(names) => write!(f, "nothing reads {names}"),
-            Warning::OutputTwice(names) => write!(f, "more than one OUTPUT line has {names}"),
-            Warning::NoTest => f.write_str("no test"),
-            Warning::SameTest {
-                test,
-                as_test,
-                more,
-            } => {
-                write!(f, "test {test} is the same as test {as_test}")?;
-                match more {
-                    0 => Ok(()),
-                    more => write!(f, ", and {more} more are as one before them"),
-                }
-            }
-            Warning::SamePair {
-                test,
-                as_test,
-                more,
-            } => fmt_same_pair(*test, *as_test, *more, f),
-            Warning::NoSecond { test } => {
-                write!(
-                    f,
-                    "an odd number of tests: test {test} has no second and detects nothing"
-                )
-            }
-            Warning::ConstantSources(names) => write!(f, "no test turns {names}"),
-        }
-    }
-}
-
-/// Writes that a pair equals an earlier one.
-fn fmt_same_pair<W: fmt::Write>(
-    test: u32,
-    as_test: u32,
-    more: u64,
-    f: &mut Formatter<W>,
-) -> fmt::Result {
-    let second = u64::from(test) + 1;
-    let as_second = u64::from(as_test) + 1;
-    write!(
-        f,
-        "tests {test} and {second} are the same pair as tests {as_test} and {as_second}"
-    )?;
-    match more {
-        0 => Ok(()),
-        more => write!(f, ", and {more} more are as one before them"),
-    }
-}
-
-/// Returns the warnings of a circuit. Only memory can make it fail.
-pub fn circuit_warnings<'a>(
+/// Adds a warning of these words and names, if there is a name.
+fn add_named(
+    warnings: &mut Vec<String>,
     alloc: Global,
-    circuit: &'a Circuit,
-) -> Result<Vec<Warning<'a>>, AllocError> {
-    let mut warnings = Vec::new(alloc);
+    front: &str,
+    list: &NameList<'_>,
+) -> Result<(), AllocError> {
+    if list.names.is_empty() {
+        return Ok(());
+    }
+    let names = listed(alloc, &list.names, ", ")?;
+    warnings.push(match list.more {
+        0 => format!(in alloc; "{front} {names}")?,
+        more => format!(in alloc; "{front} {names} and {more} more")?,
+    })?;
+    Ok(())
+}
+
+/// Adds the warnings of a circuit. Only memory can make it fail.
+pub fn add_circuit_warnings(
+    warnings: &mut Vec<String>,
+    alloc: Global,
+    circuit: &Circuit,
+) -> Result<(), AllocError> {
     if circuit.outputs().is_empty() && circuit.scan_cells().is_empty() {
-        warnings.push(Warning::Unobserved)?;
+        let words = format!(in alloc; "no output and no flip-flop: no test detects any fault")?;
+        warnings.push(words)?;
     }
-    let mut unread = NameList::new(alloc);
-    let mut twice = NameList::new(alloc);
+    add_named(warnings, alloc, "nothing reads", &unread(alloc, circuit)?)?;
+    add_named(
+        warnings,
+        alloc,
+        "more than one OUTPUT line has",
+        &output_twice(alloc, circuit)?,
+    )
+}
+
+/// Returns the signals that nothing reads.
+fn unread<'a>(alloc: Global, circuit: &'a Circuit) -> Result<NameList<'a>, AllocError> {
+    let mut names = NameList::new(alloc);
     for signal in 0..circuit.signals() {
-        let sinks = circuit.sinks_of(signal);
-        if sinks.is_empty() {
-            unread.push(circuit.name_of(signal))?;
-        }
-        if output_lines(sinks) > 1 {
-            twice.push(circuit.name_of(signal))?;
+        if circuit.sinks_of(signal).is_empty() {
+            names.push(circuit.name_of(signal))?;
         }
     }
-    if !unread.is_empty() {
-        warnings.push(Warning::Unread(unread))?;
+    Ok(names)
+}
+
+/// Returns the signals that two OUTPUT lines or more observe.
+fn output_twice<'a>(alloc: Global, circuit: &'a Circuit) -> Result<NameList<'a>, AllocError> {
+    let mut names = NameList::new(alloc);
+    for signal in 0..circuit.signals() {
+        if output_lines(circuit.sinks_of(signal)) > 1 {
+            names.push(circuit.name_of(signal))?;
+        }
     }
-    if !twice.is_empty() {
-        warnings.push(Warning::OutputTwice(twice))?;
-    }
-    Ok(warnings)
+    Ok(names)
 }
 
 /// Returns the number of sinks that are OUTPUT lines.
@@ -172,81 +105,79 @@ fn output_lines(sinks: &[Sink]) -> usize {
         .count()
 }
 
-/// Returns the warnings of tests for a circuit. Only memory can make it fail.
-pub fn test_warnings<'a>(
+/// Adds the warnings of tests for a circuit. Only memory can make it fail.
+pub fn add_test_warnings(
+    warnings: &mut Vec<String>,
     alloc: Global,
-    circuit: &'a Circuit,
+    circuit: &Circuit,
     tests: &Tests,
-) -> Result<Vec<Warning<'a>>, AllocError> {
-    let mut warnings = Vec::new(alloc);
+) -> Result<(), AllocError> {
     if tests.count() == 0 {
-        warnings.push(Warning::NoTest)?;
-        return Ok(warnings);
+        warnings.push(format!(in alloc; "no test")?)?;
+        return Ok(());
     }
-    if let Some(
-        Same {
-            test,
-            as_test,
-            more,
-        },
-    ) = first_same(alloc, tests, Unit::Test)?
-    {
-        warnings.push(Warning::SameTest {
-            test,
-            as_test,
-            more,
-        })?;
-    }
-    add_constant_sources(&mut warnings, alloc, circuit, tests)?;
-    Ok(warnings)
+    add_same(warnings, alloc, tests, Unit::Test)?;
+    add_constant_sources(warnings, alloc, circuit, tests)
 }
 
-/// Returns the warnings of a list of launch/capture pairs for a circuit: tests 0 and 1 are a pair,
+/// Adds the warnings of a list of launch/capture pairs for a circuit: tests 0 and 1 are a pair,
 /// 2 and 3, and so on. Only memory can make it fail.
-pub fn pair_warnings<'a>(
+pub fn add_pair_warnings(
+    warnings: &mut Vec<String>,
     alloc: Global,
-    circuit: &'a Circuit,
+    circuit: &Circuit,
     tests: &Tests,
-) -> Result<Vec<Warning<'a>>, AllocError> {
-    let mut warnings = Vec::new(alloc);
+) -> Result<(), AllocError> {
     let count = tests.count();
     if count == 0 {
-        warnings.push(Warning::NoTest)?;
-        return Ok(warnings);
+        warnings.push(format!(in alloc; "no test")?)?;
+        return Ok(());
     }
     if count % 2 == 1 {
-        warnings.push(Warning::NoSecond { test: count - 1 })?;
+        let last = count - 1;
+        warnings.push(format!(in alloc;
+            "an odd number of tests: test {last} has no second and detects nothing"
+        )?)?;
     }
-    if let Some(
-        Same {
-            test,
-            as_test,
-            more,
-        },
-    ) = first_same(alloc, tests, Unit::Pair)?
-    {
-        warnings.push(Warning::SamePair {
-            test: test.saturating_mul(2),
-            as_test: as_test.saturating_mul(2),
-            more,
-        })?;
+    add_same(warnings, alloc, tests, Unit::Pair)?;
+    add_constant_sources(warnings, alloc, circuit, tests)
+}
+
+/// Adds the warning of units that equal an earlier one.
+fn add_same(
+    warnings: &mut Vec<String>,
+    alloc: Global,
+    tests: &Tests,
+    unit: Unit,
+) -> Result<(), AllocError> {
+    let same = same_as_before(alloc, tests, unit)?;
+    let Some((number, before)) = same.iter().copied().min() else {
+        return Ok(());
+    };
+    let mut words = unit.same_words(alloc, number, before)?;
+    if same.len() > 1 {
+        write!(
+            words,
+            ", and {} more are as one before them",
+            same.len() - 1
+        )?;
     }
-    add_constant_sources(&mut warnings, alloc, circuit, tests)?;
-    Ok(warnings)
+    warnings.push(words)?;
+    Ok(())
 }
 
 /// Adds the warning of sources that have the same bit in all of two or more tests.
-fn add_constant_sources<'a>(
-    warnings: &mut Vec<Warning<'a>>,
+fn add_constant_sources(
+    warnings: &mut Vec<String>,
     alloc: Global,
-    circuit: &'a Circuit,
+    circuit: &Circuit,
     tests: &Tests,
 ) -> Result<(), AllocError> {
-    let constant = constant_sources(alloc, circuit, tests)?;
-    if tests.count() > 1 && !constant.is_empty() {
-        warnings.push(Warning::ConstantSources(constant))?;
+    if tests.count() < 2 {
+        return Ok(());
     }
-    Ok(())
+    let constant = constant_sources(alloc, circuit, tests)?;
+    add_named(warnings, alloc, "no test turns", &constant)
 }
 
 /// Returns the sources that have the same bit in all tests.
@@ -323,6 +254,22 @@ impl Unit {
         }
     }
 
+    /// Returns the words on a unit that equals an earlier one, both by their numbers.
+    fn same_words(self, alloc: Global, number: u32, before: u32) -> Result<String, AllocError> {
+        match self {
+            Unit::Test => format!(in alloc; "test {number} is the same as test {before}"),
+            Unit::Pair => {
+                let test = 2 * u64::from(number);
+                let as_test = 2 * u64::from(before);
+                format!(in alloc;
+                    "tests {test} and {} are the same pair as tests {as_test} and {}",
+                    test + 1,
+                    as_test + 1
+                )
+            }
+        }
+    }
+
     /// Adds the bits of the unit of this number to a row.
     fn push_row(self, tests: &Tests, number: u32, row: &mut Vec<u8>) -> Result<(), AllocError> {
         match self {
@@ -344,49 +291,34 @@ fn push_test(tests: &Tests, test: u32, row: &mut Vec<u8>) -> Result<(), AllocErr
     Ok(())
 }
 
-/// The first unit that equals an earlier one, both by their numbers, and how many more there are.
-#[derive(Clone, Copy)]
-struct Same {
-    test: u32,
-    as_test: u32,
-    more: u64,
-}
-
-/// Returns the first unit that equals an earlier one.
-fn first_same(alloc: Global, tests: &Tests, unit: Unit) -> Result<Option<Same>, AllocError> {
-    let same = same_as_before(alloc, tests, unit)?;
-    let Some(first) = same.iter().copied().min() else {
-        return Ok(None);
-    };
-    Ok(Some(Same {
-        test: first.0,
-        as_test: first.1,
-        more: (same.len() as u64).saturating_sub(1),
-    }))
-}
-
 /// Returns each unit that equals an earlier one, with the earlier one.
 fn same_as_before(alloc: Global, tests: &Tests, unit: Unit) -> Result<Vec<(u32, u32)>, AllocError> {
     let sums = sums_of(alloc, tests, unit)?;
     let mut same = Vec::new(alloc);
-    let mut row = Vec::new(alloc);
-    let mut other = Vec::new(alloc);
     for pair in sums.windows(2) {
-        let [first, second] = pair else {
-            continue;
-        };
-        if first.0 != second.0 {
-            continue;
-        }
-        row.clear();
-        other.clear();
-        unit.push_row(tests, first.1, &mut row)?;
-        unit.push_row(tests, second.1, &mut other)?;
-        if row.as_slice() == other.as_slice() {
-            same.push((second.1, first.1))?;
+        if let [(sum, first), (other, second)] = pair
+            && sum == other
+            && are_equal(alloc, tests, unit, *first, *second)?
+        {
+            same.push((*second, *first))?;
         }
     }
     Ok(same)
+}
+
+/// Returns whether two units have the same bits.
+fn are_equal(
+    alloc: Global,
+    tests: &Tests,
+    unit: Unit,
+    first: u32,
+    second: u32,
+) -> Result<bool, AllocError> {
+    let mut row = Vec::new(alloc);
+    let mut other = Vec::new(alloc);
+    unit.push_row(tests, first, &mut row)?;
+    unit.push_row(tests, second, &mut other)?;
+    Ok(row.as_slice() == other.as_slice())
 }
 
 /// Returns the numbers of all units, sorted by a sum that equal units share, and then by number.

@@ -49,7 +49,8 @@ summed_more known (Some rest) (Some more) before after bytes s read took = recor
 }
 
 -- nothing is left, so the hasher holds the text
-pub summed_all : (known left : Option (List ℕ)) (hasher : Option Sha256) (text : List ℕ) (h : Sha256)
+pub summed_all : (known left : Option (List ℕ)) (hasher : Option Sha256) (text : List ℕ)
+    (h : Sha256)
     → IsSummed known left hasher → known ≡ Some text → left ≡ Some [] → hasher ≡ Some h
     → ∥ Holds256 h text ∥₁
 summed_all known left hasher text h s e ended is =

@@ -35,8 +35,8 @@ pub enum Limit {
 /// a part of them.
 ///
 /// It reads the files as [`crate::read_inputs_in_threads`] does. Only with [`Limit::Pieces`] does
-/// it check the number of pieces. If `apart` is set, the tests may stand apart, so that the run goes
-/// window by window.
+/// it check the number of pieces. If `apart` is set, the tests may stand apart, so that the run
+/// goes window by window.
 pub fn read_run<R: Threads + Wait>(
     rt: &R,
     alloc: Global,
@@ -47,8 +47,8 @@ pub fn read_run<R: Threads + Wait>(
     apart: bool,
     workers: u32,
 ) -> Result<RunJob, SimFault>
-    ensures job { IfOk result (λ run. IsJobOf model bench.now tests.now run.parts) }
-    ensures within { IfOk result (λ run. IsWithinLimit limit run.parts) }
+    ensures job { IfOk result (λ run. IsJobOf model bench.now tests.now run.whole) }
+    ensures within { IfOk result (λ run. IsWithinLimit limit run.whole) }
     ensures apart { IfOk result (λ run. run.apart ≡ true → apart ≡ true) }
     ensures refused { IfErr result (IsLimitFault model bench.now tests.now limit) }
 {
@@ -68,8 +68,8 @@ fn run_for<R: Threads + Wait>(
     workers: u32,
 ) -> Result<RunJob, SimFault>
     requires tests { AreTestsFor circuit tests }
-    ensures job { IfOk result (λ run. IsJobUnder model circuit tests run.parts) }
-    ensures within { IfOk result (λ run. IsWithinLimit limit run.parts) }
+    ensures job { IfOk result (λ run. IsJobUnder model circuit tests run.whole) }
+    ensures within { IfOk result (λ run. IsWithinLimit limit run.whole) }
     ensures apart { IfOk result (λ run. run.apart ≡ true → apart ≡ true) }
     ensures refused { IfErr result (IsLimitFaultFor model circuit tests limit) }
 {
@@ -100,14 +100,14 @@ pub fn read_run_in_pieces<R: Threads + Wait, F: Read + Send>(
 where
     F: Drop,
     ensures job { IfSome (F.remaining tests) (λ text. IfSome result (λ read.
-        IfOk read (λ made. IsJobOf model bench.now text made.0.parts))) }
+        IfOk read (λ made. IsJobOf model bench.now text made.0.whole))) }
     ensures circuit { IfSome result (λ read. IfOk read (λ made.
-        IsAccepted bench.now made.0.parts.circuit)) }
+        IsAccepted bench.now made.0.whole.circuit)) }
     ensures model { IfSome result (λ read. IfOk read (λ made.
-        made.0.parts.list.model ≡ model)) }
-    ensures together { IfSome result (λ read. IfOk read (λ made. BelongTogether made.0.parts)) }
+        made.0.whole.list.model ≡ model)) }
+    ensures together { IfSome result (λ read. IfOk read (λ made. BelongTogether made.0.whole)) }
     ensures within { IfSome result (λ read. IfOk read (λ made.
-        IsWithinLimit limit made.0.parts)) }
+        IsWithinLimit limit made.0.whole)) }
     ensures apart { IfSome result (λ read. IfOk read (λ made.
         made.0.apart ≡ true → apart ≡ true)) }
     ensures sum { IfSome (F.remaining tests) (λ text. IfSome result (λ read.
@@ -139,8 +139,8 @@ fn run_within<R: Threads + Wait>(
     workers: u32,
 ) -> Result<RunJob, SimFault>
     requires tests { AreTestsFor job.circuit tests }
-    ensures job { IfOk result (λ run. IsJobUnder job.list.model job.circuit tests run.parts) }
-    ensures within { IfOk result (λ run. IsWithinLimit limit run.parts) }
+    ensures job { IfOk result (λ run. IsJobUnder job.list.model job.circuit tests run.whole) }
+    ensures within { IfOk result (λ run. IsWithinLimit limit run.whole) }
     ensures apart { IfOk result (λ run. run.apart ≡ true → apart ≡ true) }
     ensures refused { IfErr result (IsLimitFaultFor job.list.model job.circuit tests limit) }
 {
@@ -162,8 +162,8 @@ fn run_with_tests<R: Threads + Wait>(
     workers: u32,
 ) -> Result<RunJob, AllocError>
     requires { AreTestsFor job.circuit tests }
-    ensures job { IfOk result (λ run. IsJobUnder job.list.model job.circuit tests run.parts) }
-    ensures kept { IfOk result (λ run. run.parts ≡ with_tests job tests) }
+    ensures job { IfOk result (λ run. IsJobUnder job.list.model job.circuit tests run.whole) }
+    ensures kept { IfOk result (λ run. run.whole ≡ with_tests job tests) }
     ensures apart { IfOk result (λ run. run.apart ≡ true → apart ≡ true) }
 {
     let mut run = RunJob::whole(job);

@@ -1,6 +1,6 @@
 //! Sums of the bytes of files, by which part files and summaries name their inputs.
 
-ghost use Rattle.std.specs.Prelude.{◌≡◌, ℕ, List, IfErr, IfOk, IfSome, IsSome, string_bytes, true};
+ghost use Rattle.std.specs.Prelude.{◌≡◌, ℕ, List, IfOk, IfSome, string_bytes};
 ghost use Rattle.std.specs.Prelude.{is_some};
 ghost use Rattle.test_threads.specs.Pieces.{IsEnded};
 ghost use Rattle.job_loading.specs.Sums.{IsSummed, sum_text};

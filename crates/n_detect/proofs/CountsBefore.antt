@@ -1,6 +1,6 @@
 -- Counts on the first tests of a list, and those that a run keeps.
 use Rattle.std.proofs.Common.{◌≡◌, ◌<◌, ◌≤◌, ◌+◌, ◌-◌, ◌*◌, ℕ, suc, Bool, List, length, map}
-use Rattle.std.proofs.Common.{min, Option, None, ap, ◌∙◌, arith, cond, refl, subst}
+use Rattle.std.proofs.Common.{min, Option, None, ap, ◌∙◌, arith, cond, subst}
 use Rattle.std.specs.Prelude.{Some, count_by, nat_lt, slice_get, slice_index}
 use Rattle.std.specs.Bool.{Decides}
 use Rattle.std.proofs.lemmas.List.{length-map}

@@ -1,8 +1,8 @@
 -- The number of numbers of a range with a property, and the number of set bits of a word.
-use Rattle.std.proofs.Common.{◌≡◌, ◌<◌, ◌≤◌, ◌+◌, ◌-◌, ◌*◌, ◌/◌, ◌%◌, ◌^◌, ◌==◌, ℕ, zero, suc, Bool}
+use Rattle.std.proofs.Common.{◌≡◌, ◌<◌, ◌≤◌, ◌+◌, ◌-◌, ◌/◌, ◌%◌, ◌^◌, ◌==◌, ℕ, zero, suc, Bool}
 use Rattle.std.proofs.Common.{true, false, List, length, cond, refl, sym, ap, ◌∙◌, arith}
 use Rattle.std.specs.Prelude.{count_by, count_ones}
-use Rattle.std.specs.Bool.{Decides, one_answer}
+use Rattle.std.specs.Bool.{Decides}
 use Rattle.std.specs.Int.Count.{ones_step}
 use Rattle.std.proofs.lemmas.Nat.{ones_le_self}
 use Rattle.std.proofs.lemmas.Nat.Bits.{bit_at-suc, bit_at_lowest}
@@ -44,21 +44,6 @@ ones_lanes (suc k) w a p few same =
 
 module _ (c : List Statement) (tests : List Test) (f : Fault) (detects : ℕ → Bool)
     (decides : (t : ℕ) → Decides (detects t) (DetectsAt c tests f t)) where
-  -- one block more
-  pub one_block : (block word : ℕ) → word < 2 ^ 64
-      → ((k : ℕ) → k < 64 → Decides (lane word k) (DetectsAt c tests f (64 * block + k)))
-      → count_by detects (below (64 * (block + 1)))
-      ≡ count_by detects (below (64 * block)) + count_ones word
-  one_block block word few told =
-      let all : 64 * (block + 1) ≡ 64 * block + 64 = omega arith in
-      let start : 0 + 64 * block ≡ 64 * block = omega arith in
-      let own = ones_lanes 64 word (64 * block) detects few
-      (λ j lt. one_answer (lane word j) (detects (64 * block + j)) (told j lt)
-      (decides (64 * block + j))) in
-      ap (λ n. count_by detects (below n)) all ∙ count_parts detects 0 (64 * block) 64
-      ∙ ap (λ a. count_by detects (below (64 * block)) + count_by detects (from_up a 64)) start
-      ∙ ap (λ n. count_by detects (below (64 * block)) + n) (sym own)
-
   -- no test past the last detects
   past : (t : ℕ) → length tests ≤ t → detects t ≡ false
   past t le = go (detects t) refl

@@ -1,6 +1,6 @@
 //! The number of tests that detect a class, as the goal of a simulation.
 
-ghost use Rattle.std.specs.Prelude.{◌≡◌, ◌^◌, ◌≤◌, ◌<◌, IfOk, map, min, nat_lt, true};
+ghost use Rattle.std.specs.Prelude.{◌≡◌, ◌^◌, ◌<◌, IfOk, map, min, nat_lt, true};
 ghost use Rattle.n_detect.specs.CountLaws.{count_agrees, count_stays, count_unchanged};
 ghost use Rattle.n_detect.specs.HitCounts.{IsHitCount, one_of};
 

@@ -23,7 +23,7 @@ pub struct ClassTests {
     pub words: Vec<Vec<u128>>,
 }
 
-/// Returns the tests that detect each class of a job. The run is one in `parts` parts
+/// Returns the tests that detect each class of a job. The run is one in this number of stretches
 /// ([`run_goal`]), under a gate that lets each piece pass. Beside the rooms of the workers it takes
 /// 16 bytes for each class and group of 128 tests.
 ///
@@ -35,12 +35,12 @@ pub fn class_tests<G: Watch + Sync, R: Threads + Wait>(
     rt: &R,
     alloc: Global,
     job: &Job,
-    parts: u32,
+    stretches: u32,
     workers: u32,
     gate: &G,
 ) -> Result<ClassTests, RunFault>
     requires passing { G.passing gate.now }
-    requires parts { 0 < parts }
+    requires stretches { 0 < stretches }
     ensures tests { IfOk result (λ tests.
         AreClassTests job.now tests.positions.items tests.words.items) }
     ensures workers { OnOk result ((0 < workers) × (workers ≤ 64)) }
@@ -50,7 +50,7 @@ pub fn class_tests<G: Watch + Sync, R: Threads + Wait>(
         groups: job.tests().blocks().div_ceil(2),
     };
     gate.starts(job.classes().count(), job.tests().blocks());
-    let done = run_goal(rt, alloc, job, parts, workers, &goal, gate)?;
+    let done = run_goal(rt, alloc, job, stretches, workers, &goal, gate)?;
     gate.ends();
     let GoalRun {
         classes: _classes,

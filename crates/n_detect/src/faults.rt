@@ -30,27 +30,27 @@ pub fn detections<G: Watch + Sync, R: Threads + Wait>(
     alloc: Global,
     run: &mut RunJob,
     most: u32,
-    parts: u32,
+    stretches: u32,
     workers: u32,
     gate: &G,
 ) -> Result<Vec<u32>, RunFault>
     requires passing { G.passing gate.now }
-    requires parts { 0 < parts }
-    ensures counts { IfOk result (λ counts. AreCounts run.old.parts.list.model
-        run.old.parts.circuit run.old.parts.tests.tests most counts.items) }
+    requires stretches { 0 < stretches }
+    ensures counts { IfOk result (λ counts. AreCounts run.old.whole.list.model
+        run.old.whole.circuit run.old.whole.tests.tests most counts.items) }
     ensures workers { OnOk result ((0 < workers) × (workers ≤ 64)) }
     ensures refused { IfErr result (IsOpenFault workers) }
     ensures same { run.new ≡ run.old }
 {
     let _tests = run.tests();
     if most < 2 {
-        let done = run.run_goal(rt, alloc, parts, workers, &FirstTest, gate)?;
+        let done = run.run_goal(rt, alloc, stretches, workers, &FirstTest, gate)?;
         let ones = ones_of(alloc, done.kept.as_slice(), most)?;
         let positions = done.positions.as_slice();
         let counts = by_fault(alloc, run, most, positions, ones.as_slice())?;
         return Ok(counts);
     }
-    let done = run.run_goal(rt, alloc, parts, workers, &Count { most }, gate)?;
+    let done = run.run_goal(rt, alloc, stretches, workers, &Count { most }, gate)?;
     let positions = done.positions.as_slice();
     let counts = by_fault(alloc, run, most, positions, done.kept.as_slice())?;
     Ok(counts)
@@ -65,9 +65,9 @@ fn by_fault(
     positions: &[u32],
     kept: &[u32],
 ) -> Result<Vec<u32>, AllocError>
-    requires { AreCountsAt run.now.parts most positions.now kept.now }
-    ensures { IfOk result (λ counts. AreCounts run.now.parts.list.model run.now.parts.circuit
-        run.now.parts.tests.tests most counts.items) }
+    requires { AreCountsAt run.now.whole most positions.now kept.now }
+    ensures { IfOk result (λ counts. AreCounts run.now.whole.list.model run.now.whole.circuit
+        run.now.whole.tests.tests most counts.items) }
 {
     let _tests = run.tests();
     let job = run.job();
@@ -82,9 +82,9 @@ fn by_fault(
 
 /// Returns the count of a class.
 fn count_of(run: &RunJob, most: u32, positions: &[u32], kept: &[u32], class: u32) -> u32
-    requires class { class < length run.now.parts.classes.representative }
-    requires counted { AreCountsAt run.now.parts most positions.now kept.now }
-    ensures { IsClassCount run.now.parts most class result }
+    requires class { class < length run.now.whole.classes.representative }
+    requires counted { AreCountsAt run.now.whole most positions.now kept.now }
+    ensures { IsClassCount run.now.whole most class result }
 {
     let (_run, _most) = (run, most);
     kept[positions[class as usize] as usize]

@@ -50,14 +50,14 @@ pub fn write_part_of_run<R: Threads + Wait, G: Watch + Sync, W: Out>(
     gate: &G,
     out: &mut W,
 ) -> Result<(), SimFault>
-    requires job { BelongTogether run.old.parts }
+    requires job { BelongTogether run.old.whole }
     requires gate { run.old.apart ≡ true → G.passing gate.now }
     requires part { part < parts }
-    ensures written { WritesOneOf (IsPartTextOfJob (head_with run.old.parts.list.model
-        sums.entry.bench.now sums.entry.tests.now part parts) run.old.parts) result
+    ensures written { WritesOneOf (IsPartTextOfJob (head_with run.old.whole.list.model
+        sums.entry.bench.now sums.entry.tests.now part parts) run.old.whole) result
         (W.seen out.old) (W.seen out.new) }
     ensures refused { IfErr result (IsJobReportFault workers
-        (IsPartFault run.old.parts parts part workers (G.passing gate.now)
+        (IsPartFault run.old.whole parts part workers (G.passing gate.now)
         (G.stops gate.now))) }
     ensures workers { OnOk result ((0 < workers) × (workers ≤ 64)) }
     ensures kept { run.new ≡ run.old }
@@ -109,13 +109,13 @@ fn report_part<R: Threads + Wait, G: Watch + Sync, W: Out>(
     gate: &G,
     out: &mut W,
 ) -> Result<(), SimFault>
-    requires job { BelongTogether run.old.parts }
+    requires job { BelongTogether run.old.whole }
     requires gate { run.old.apart ≡ true → G.passing gate.now }
     requires part { head.now.part < head.now.parts }
-    ensures written { WritesOneOf (IsPartTextOfJob (said_by head.now) run.old.parts) result
+    ensures written { WritesOneOf (IsPartTextOfJob (said_by head.now) run.old.whole) result
         (W.seen out.old) (W.seen out.new) }
     ensures refused { IfErr result (IsJobReportFault workers
-        (IsPartFault run.old.parts head.now.parts head.now.part workers (G.passing gate.now)
+        (IsPartFault run.old.whole head.now.parts head.now.part workers (G.passing gate.now)
         (G.stops gate.now))) }
     ensures workers { OnOk result ((0 < workers) × (workers ≤ 64)) }
     ensures kept { run.new ≡ run.old }

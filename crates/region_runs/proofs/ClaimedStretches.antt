@@ -1,7 +1,7 @@
--- Parts that workers took, and the results for them.
+-- Stretches that workers claimed, and the results for them.
 use Rattle.std.proofs.Common.{◌≡◌, ◌<◌, ℕ, List, length, All, Option, Some, None, ◌∙◌}
-use Rattle.std.proofs.Common.{subst, get_or, ap, arith}
-use Rattle.std.specs.Prelude.{Result, Ok, Err, IfOk}
+use Rattle.std.proofs.Common.{subst, get_or, ap, arith, [], ◌∷◌, ◌++◌}
+use Rattle.std.specs.Prelude.{Result, Ok, Err, IfOk, slice_get}
 use Rattle.std.proofs.lemmas.List.Elements.{All-weaker}
 use Rattle.std.proofs.lemmas.Option.{get_or_from_slice_get, slice_get_within}
 use Rattle.patterns.proofs.Public.{length-map-below, get_or-map-below}
@@ -13,8 +13,9 @@ use Rattle.region_runs.specs.declared.stretches.Cut.{Cut}
 use Rattle.region_runs.specs.declared.stretch_workers.Done.{Done}
 use Rattle.region_runs.specs.declared.stretch_workers.Served.{Served}
 use Rattle.region_runs.specs.StretchRuns.{AreKeptUpTo, HasEnded, IsDone}
-use Rattle.region_runs.specs.Part.{stretch}
+use Rattle.region_runs.specs.Part.{stretch_at}
 use Rattle.region_runs.specs.Stretches.{HasServed}
+use Rattle.region_runs.proofs.PushedLists.{push_each}
 use Rattle.region_runs.proofs.StretchRuns.{kept_at_first}
 use Rattle.region_runs.specs.Tasks.{IsAtFirst, Task}
 
@@ -39,8 +40,8 @@ done_along {K} task size classes w P P' S S' done q t v is = record {
   passed = λ p. is.passed (q p);
 }
   where
-    go : (stop : Option Stop) → HasEnded task (stretch size classes done.part) w S stop
-        done.kept.items → HasEnded task (stretch size classes done.part) w S' stop
+    go : (stop : Option Stop) → HasEnded task (stretch_at size classes done.stretch) w S stop
+        done.kept.items → HasEnded task (stretch_at size classes done.stretch) w S' stop
         done.kept.items
     go None e =
         (e.0, λ k class b at up lt still must. e.1 k class b at up lt still (v w class b must))
@@ -115,3 +116,17 @@ newcomer_at seats p k d e lt =
     let n = seats_count seats p e in
     ap (λ (l : List Sitter). get_or l k d) e
     ∙ get_or-map-below (newcomer p) p.shape.workers k d (omega (arith, n, lt))
+
+-- one worker more came back
+pub served_more : {K E : Type 0} (task : Task K) (size : ℕ) (classes : List ℕ) (place : Place)
+    (P : Type 0) (S : Stops) (back : List (Result (Served K) E)) (one : Result (Served K) E)
+    (n : ℕ) → n ≡ length back
+    → IfOk one (λ s. HasServed task size classes place n P S s.seat s.dones.items)
+    → ((w : ℕ) (r : Result (Served K) E) → slice_get back w ≡ Some r
+    → IfOk r (λ s. HasServed task size classes place w P S s.seat s.dones.items))
+    → (w : ℕ) (r : Result (Served K) E) → slice_get (back ++ one ∷ []) w ≡ Some r
+    → IfOk r (λ s. HasServed task size classes place w P S s.seat s.dones.items)
+served_more {K} {E} task size classes place P S back one n count found was = push_each
+    (λ (v : ℕ) (r : Result (Served K) E). IfOk r (λ s. HasServed task size classes place v P S
+    s.seat s.dones.items)) back one was (subst (λ v. IfOk one (λ s. HasServed task size classes
+    place v P S s.seat s.dones.items)) count found)

@@ -1,6 +1,6 @@
 -- The classes of a part, in the order of all classes.
-use Rattle.std.proofs.Common.{◌≡◌, ◌<◌, ◌≤◌, ◌+◌, ◌⊎◌, inl, inr, ℕ, zero, suc}
-use Rattle.std.proofs.Common.{List, [], ◌∷◌, ◌++◌, length, Some, None, refl, sym, ap}
+use Rattle.std.proofs.Common.{◌≡◌, ◌<◌, ◌≤◌, ◌+◌, ◌⊎◌, inl, inr, ℕ}
+use Rattle.std.proofs.Common.{List, [], ◌∷◌, ◌++◌, length, Some, sym, ap}
 use Rattle.std.proofs.Common.{◌∙◌, subst, arith, length-append}
 use Rattle.std.specs.Prelude.{slice_get}
 use Rattle.std.proofs.lemmas.Bool.{cases_lt}
@@ -8,34 +8,7 @@ use Rattle.std.proofs.lemmas.Option.{slice_get_within}
 use Rattle.block_sim.specs.Parts.{Parts}
 use Rattle.region_sim.specs.ClassOrder.{AreAllByRegion}
 use Rattle.region_runs.specs.Part.{ArePartOf, IsOfPart}
-
--- ---- lists
-
--- one element more at the end
-pub pushed : {X : Type 0} (xs : List X) (x y : X) (i : ℕ) → slice_get (xs ++ x ∷ []) i ≡ Some y
-    → (slice_get xs i ≡ Some y) ⊎ ((i ≡ length xs) × (x ≡ y))
-pushed [] x y zero e = inr (refl, cc)
-pushed [] x y (suc i) e = let bad : None ≡ Some y = e in absurd (cc)
-pushed (z ∷ xs) x y zero e = inl e
-pushed (z ∷ xs) x y (suc i) e = go (pushed xs x y i e)
-  where
-    go : (slice_get xs i ≡ Some y) ⊎ ((i ≡ length xs) × (x ≡ y)) → (slice_get xs i ≡ Some y)
-        ⊎ ((suc i ≡ suc (length xs)) × (x ≡ y))
-    go (inl h) = inl h
-    go (inr h) = inr (ap suc h.0, h.1)
-
--- the others stay, and it stands at the end
-kept : {X : Type 0} (xs : List X) (x y : X) (i : ℕ) → slice_get xs i ≡ Some y
-    → slice_get (xs ++ x ∷ []) i ≡ Some y
-kept [] x y i e = let bad : None ≡ Some y = e in absurd (cc)
-kept (z ∷ xs) x y zero e = e
-kept (z ∷ xs) x y (suc i) e = kept xs x y i e
-
-at_end : {X : Type 0} (xs : List X) (x : X) → slice_get (xs ++ x ∷ []) (length xs) ≡ Some x
-at_end [] x = refl
-at_end (z ∷ xs) x = at_end xs x
-
--- ---- the classes of a part
+use Rattle.region_runs.proofs.PushedLists.{kept, last_of, pushed}
 
 -- the classes of a part among the first n of a list
 pub record AreOwnUpTo (job : Parts) (parts part : ℕ) (classes : List ℕ) (n : ℕ)
@@ -75,11 +48,12 @@ own_more job parts part classes n class own was here of = record {
 
     all : (j c : ℕ) → j < n + 1 → slice_get classes j ≡ Some c → IsOfPart job parts part c
         → (j < n) ⊎ (n ≤ j) → (k : ℕ) × (slice_get (own ++ class ∷ []) k ≡ Some c)
-    all j c lt at is (inl low) = let x = was.all j c low at is in (x.0, kept own class c x.0 x.1)
+    all j c lt at is (inl low) =
+        let x = was.all j c low at is in (x.0, kept own (class ∷ []) x.0 c x.1)
     all j c lt at is (inr high) =
         let last : n ≡ j = omega (arith, lt, high) in
         let same : Some class ≡ Some c = sym here ∙ ap (λ k. slice_get classes k) last ∙ at in
-        (length own, at_end own class ∙ same)
+        (length own, last_of own class ∙ same)
 
     ordered : (i k first second : ℕ) → i < k
         → (slice_get own i ≡ Some first) ⊎ ((i ≡ length own) × (class ≡ first))

@@ -24,7 +24,7 @@ use Rattle.counting_sort.specs.SortedPlaces.{ArePositions}
 use Rattle.region_runs.proofs.PartsOfClasses.{behind_within}
 use Rattle.region_runs.proofs.SumsInOrder.{sum_in_order}
 
--- ---- stretches of faults
+-- ---- shares of faults
 
 -- one fault more
 pub follow_more : (class_of positions : List ℕ) (firsts : List (Option ℕ)) (start fault class : ℕ)
@@ -43,7 +43,7 @@ follow_more class_of positions firsts start fault class found long was at =
     ∙ take_more g class_of fault class at
     ∙ ap (λ n. map g (take n class_of)) (sym (add-one fault))
 
--- two adjacent stretches
+-- two adjacent shares
 pub firsts_append : (class_of positions : List ℕ) (firsts before more : List (Option ℕ)) (start : ℕ)
     → AreFirstsFrom class_of positions firsts 0 before → start ≡ length before
     → AreFirstsFrom class_of positions firsts start more
@@ -60,7 +60,7 @@ firsts_append class_of positions firsts before more start left is right = record
       ap (λ l. l ++ more) known ∙ right.follow ∙ ap (λ n. map g (take n class_of)) long;
 }
 
--- the stretch of all faults
+-- the share of all faults
 pub firsts_whole : (job : Parts) (positions : List ℕ) (firsts found : List (Option ℕ))
     → AreFirstsFrom job.classes.class_of positions firsts 0 found
     → length found ≡ length job.classes.class_of → found ≡ firsts_of_faults job positions firsts

@@ -219,18 +219,13 @@ pub record AreJoinedUpTo {K : Type 0} (wants : K → Bool)
 
 module _ {K : Type 0} (wants : K → Bool) (means : (ℕ → Bool) → ℕ → ℕ → K → Type 0) (start : ℕ)
     (before found : List K) where
-  pub joined_none : AreJoinedUpTo wants means start before found before 0 0
-  joined_none = record {
-    count = refl;
-    next_is = refl;
-    each = λ k old new lt. absurd (omega (arith, lt));
-    rest = λ k le. refl;
-  }
-
   -- the value at the next place is what it was
   module _ (now : List K) (place next : ℕ) (one : K)
       (were : AreJoinedUpTo wants means start before found now place next)
-      (here : slice_get now place ≡ Some one) where
+      (within : place < length now) (one_at : one ≡ get_or now place one) where
+    here : slice_get now place ≡ Some one
+    here = slice_get-get_or now place one within ∙ ap Some (sym one_at)
+
     was_here : slice_get before place ≡ Some one
     was_here = sym (were.rest place (omega arith)) ∙ here
 

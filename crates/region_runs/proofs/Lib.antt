@@ -1,4 +1,5 @@
 mod PartsOfClasses
+mod PushedLists
 mod ClassOrders
 mod SumsInOrder
 mod FaultFirsts
@@ -10,8 +11,8 @@ mod DeadClasses
 mod StretchSeats
 mod ClaimedStretches
 mod StretchTables
-mod RunsOfParts
-mod ReturnsByPart
+mod RunsOfStretches
+mod ReturnsByStretch
 mod SharedStretches
 mod WindowTests
 mod WindowWords
@@ -19,7 +20,7 @@ mod FittingWords
 mod Joins
 mod WindowValues
 mod WindowSteps
-mod PartRefusals
+mod RunRefusals
 mod GivenTests
 mod ReadWords
 mod PartsInView

@@ -1,7 +1,7 @@
 -- Places that are left out of a list: those at which nothing is open.
 use Rattle.std.proofs.Common.{◌≡◌, ◌≢◌, ◌<◌, ◌≤◌, ◌+◌, ◌⊎◌, inl, inr, ℕ, Bool, false, sym}
 use Rattle.std.proofs.Common.{◌∙◌}
-use Rattle.std.proofs.Common.{List, Option, Some, None, ap, refl, subst, length, set, arith}
+use Rattle.std.proofs.Common.{List, Some, ap, subst, length, set, arith}
 use Rattle.std.specs.Prelude.{slice_get, unwrap_or}
 use Rattle.std.proofs.lemmas.Bool.{cases_eq, cases_lt, false≢true}
 use Rattle.std.proofs.lemmas.List.{get_or-set_same, get_or-set_other, length-set}
@@ -25,28 +25,6 @@ get_set_other xs i k x y ne e =
     let lt = slice_get_within (set xs i x) k y e in
     slice_get-get_or xs k y (omega (arith, lt, long))
     ∙ ap Some (sym (get_or-set_other xs i k x y ne) ∙ get_or_from_slice_get (set xs i x) k y y e)
-
-get_set_still : {X : Type 0} (xs : List X) (i k : ℕ) (x y : X) → k ≢ i
-    → slice_get xs k ≡ Some y → slice_get (set xs i x) k ≡ Some y
-get_set_still xs i k x y ne e =
-    let long = length-set xs i x in
-    let lt = slice_get_within xs k y e in
-    slice_get-get_or (set xs i x) k y (omega (arith, lt, long))
-    ∙ ap Some (get_or-set_other xs i k x y ne ∙ get_or_from_slice_get xs k y y e)
-
-pub set_other : {X : Type 0} (xs : List X) (i k : ℕ) (x : X) → k ≢ i
-    → slice_get (set xs i x) k ≡ slice_get xs k
-set_other {X = X} xs i k x ne = go (slice_get xs k) refl
-  where
-    go : (o : Option X) → slice_get xs k ≡ o → slice_get (set xs i x) k ≡ slice_get xs k
-    go (Some y) e = get_set_still xs i k x y ne e ∙ sym e
-    go None e = none (slice_get (set xs i x) k) refl
-      where
-        none : (o : Option X) → slice_get (set xs i x) k ≡ o
-            → slice_get (set xs i x) k ≡ slice_get xs k
-        none None f = f ∙ sym e
-        none (Some y) f =
-            let bad : None ≡ Some y = sym e ∙ get_set_other xs i k x y ne f in absurd (cc)
 
 -- two stretches of settled places, with a place between them that is settled too
 pub settled_over : {K : Type 0} (is_open : K → Bool) (kept : List K) (from place to : ℕ) (one : K)

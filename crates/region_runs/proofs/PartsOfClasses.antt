@@ -1,10 +1,9 @@
 -- Parts are a partition, and the verdicts of runs over them.
-use Rattle.std.proofs.Common.{◌≡◌, ◌≢◌, ◌<◌, ◌≤◌, ◌+◌, ◌*◌, ◌%◌, ◌^◌, ◌⊎◌, inl, inr, ℕ, Bool, zero}
+use Rattle.std.proofs.Common.{◌≡◌, ◌<◌, ◌≤◌, ◌+◌, ◌*◌, ◌%◌, ◌^◌, inl, inr, ℕ, Bool, zero}
 use Rattle.std.proofs.Common.{suc, List, [], ◌∷◌, ◌++◌, map, take, drop, length, get_or, All}
 use Rattle.std.proofs.Common.{Option, Some, None, refl, sym, ap, ◌∙◌, subst, arith, replicate}
 use Rattle.std.proofs.Common.{add-one}
 use Rattle.std.specs.Prelude.{slice_get}
-use Rattle.block_sim.specs.First.{IsFirst}
 use Rattle.flat_circuit.specs.Regions.{IsStemOfClass}
 use Rattle.flat_circuit.proofs.Public.{class_has_stem, one_class_stem}
 use Rattle.std.proofs.Math.Nat.{mod-lt, mul_comm, mul-le-mul_left, suc-mul}
@@ -25,9 +24,8 @@ use Rattle.workers.proofs.Public.{class_count, class_in}
 use Rattle.region_runs.specs.declared.parts.PartVerdict.{PartVerdict}
 use Rattle.region_runs.specs.declared.parts.PartVerdict.TheVariants.{First, OtherPart}
 use Rattle.region_runs.specs.Part.{AreClassVerdicts, ArePartOf, ArePartVerdicts, IsClassVerdict}
-use Rattle.region_sim.specs.ClassOrder.{AreAllByRegion}
 use Rattle.region_runs.specs.Part.{IsInOnePart, IsOfPart, IsPartVerdict}
-use Rattle.region_runs.specs.Part.{stretch, stretch_size}
+use Rattle.region_runs.specs.Part.{stretch_at, stretch_size}
 use Rattle.region_runs.specs.Cut.{IsCutOf}
 use Rattle.region_runs.specs.Tasks.{AreKept, Task}
 use Rattle.region_sim.specs.Goals.{AreHits}
@@ -151,7 +149,7 @@ append_kept {K} task (x ∷ xs) ys (y ∷ f) g a b =
     at rest hits zero class one e v h = a.each hits 0 class one e v h
     at rest hits (suc k) class one e v h = rest.each hits k class one e v h
 
--- what is kept of the classes up to the start of a part
+-- what is kept of the classes up to the start of a stretch
 abbrev pub AreKeptBelow : {K : Type 0} → Task K → List ℕ → ℕ → List K → Type 0
 AreKeptBelow task classes start kept = AreKept task (take start classes) kept
 
@@ -162,41 +160,46 @@ kept_none {K} task classes = record {
 }
 
 -- one stretch more
-pub kept_more : {K : Type 0} (task : Task K) (classes : List ℕ) (size part : ℕ) (kept more : List K)
-    → AreKeptBelow task classes (part * size) kept → AreKept task (stretch size classes part) more
-    → AreKeptBelow task classes ((part + 1) * size) (kept ++ more)
-kept_more {K} task classes size part kept more was found =
+pub kept_more : {K : Type 0} (task : Task K) (classes : List ℕ) (size stretch : ℕ)
+    (kept more : List K)
+    → AreKeptBelow task classes (stretch * size) kept
+    → AreKept task (stretch_at size classes stretch) more
+    → AreKeptBelow task classes ((stretch + 1) * size) (kept ++ more)
+kept_more {K} task classes size stretch kept more was found =
     subst (λ l. AreKept task l (kept ++ more)) joined
-    (append_kept task (take (part * size) classes) (stretch size classes part) kept more was found)
+    (append_kept task (take (stretch * size) classes)
+    (stretch_at size classes stretch) kept more was found)
   where
-    joined : take (part * size) classes ++ stretch size classes part
-        ≡ take ((part + 1) * size) classes
-    joined = sym (take-add (part * size) size classes)
-        ∙ ap (λ n. take n classes) (let next = suc-mul part size in
-        let same : part + 1 ≡ suc part = add-one part in
+    joined : take (stretch * size) classes ++ stretch_at size classes stretch
+        ≡ take ((stretch + 1) * size) classes
+    joined = sym (take-add (stretch * size) size classes)
+        ∙ ap (λ n. take n classes) (let next = suc-mul stretch size in
+        let same : stretch + 1 ≡ suc stretch = add-one stretch in
         omega (arith, next, ap (λ n. n * size) same))
 
 -- all stretches have all classes
-pub kept_all : {K : Type 0} (task : Task K) (parts size : ℕ) (classes : List ℕ) (kept : List K)
-    → IsCutOf task.job task.from parts size classes → AreKeptBelow task classes (parts * size) kept
+pub kept_all : {K : Type 0} (task : Task K) (stretches size : ℕ) (classes : List ℕ) (kept : List K)
+    → IsCutOf task.job task.from stretches size classes
+    → AreKeptBelow task classes (stretches * size) kept
     → AreKept task classes kept
-kept_all {K} task parts size classes kept cut found =
-    subst (λ l. AreKept task l kept) (take_all (parts * size) classes long) found
+kept_all {K} task stretches size classes kept cut found =
+    subst (λ l. AreKept task l kept) (take_all (stretches * size) classes long) found
   where
-    long : length classes ≤ parts * size
+    long : length classes ≤ stretches * size
     long =
-        let high = (div_ceil_times (length classes) parts cut.some).0 in
-        let same : parts * size ≡ stretch_size (length classes) parts * parts =
-        mul_comm parts size ∙ ap (λ k. k * parts) cut.size_is in
+        let high = (div_ceil_times (length classes) stretches cut.some).0 in
+        let same : stretches * size ≡ stretch_size (length classes) stretches * stretches =
+        mul_comm stretches size ∙ ap (λ k. k * stretches) cut.size_is in
         omega (arith, high, same)
 
 -- a stretch of classes of the job has such classes
-pub stretch_within : (job : Parts) (size part : ℕ) (classes : List ℕ)
+pub stretch_within : (job : Parts) (size stretch : ℕ) (classes : List ℕ)
     → All (λ class. class < length job.classes.representative) classes
-    → All (λ class. class < length job.classes.representative) (stretch size classes part)
-stretch_within job size part classes are =
-    All-take (λ class. class < length job.classes.representative) size (drop (part * size) classes)
-    (All-drop (λ class. class < length job.classes.representative) (part * size) classes are)
+    → All (λ class. class < length job.classes.representative) (stretch_at size classes stretch)
+stretch_within job size stretch classes are =
+    All-take (λ class. class < length job.classes.representative) size (drop
+    (stretch * size) classes)
+    (All-drop (λ class. class < length job.classes.representative) (stretch * size) classes are)
 
 -- each verdict of a part that is not of another part is the first test of a class of its list
 pub part_verdict_there : (job : Parts) (classes : List ℕ) (firsts : List (Option ℕ))

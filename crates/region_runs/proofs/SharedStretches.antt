@@ -7,9 +7,9 @@ use Rattle.std.specs.Int.{div_ceil}
 use Rattle.std.specs.declared.vec.Vec.{Vec}
 use Rattle.std.proofs.lemmas.Bool.{cases_lt}
 use Rattle.std.proofs.lemmas.Grind.{div_ceil_times}
-use Rattle.std.proofs.lemmas.List.{length-drop, length-take}
+use Rattle.std.proofs.lemmas.List.{get_or-drop, get_or-take, length-drop, length-take}
 use Rattle.std.proofs.lemmas.List.Sums.{count_by-le-length, length-filter}
-use Rattle.std.proofs.lemmas.Option.{get_or_from_slice_get, slice_get_within}
+use Rattle.std.proofs.lemmas.Option.{get_or_from_slice_get, slice_get-get_or, slice_get_within}
 use Rattle.std.proofs.Math.Nat.{div-add-mod, div-zero, mul-le-mul_right, mul-one, mul-zero}
 use Rattle.std.proofs.Math.Nat.{mul_comm, suc-mul, zero-mul}
 use Rattle.patterns.specs.Tests.{max_pieces}
@@ -42,14 +42,14 @@ use Rattle.region_runs.specs.declared.stretch_workers.Served.{Served}
 use Rattle.region_runs.specs.StretchRuns.{AreGivenBack, HasEnded, IsDone}
 use Rattle.region_runs.specs.StretchRuns.{IsLowest, IsOpenIn, IsStopAt, IsStoppedAmong}
 use Rattle.region_runs.specs.StretchRuns.{run_at, runs_from}
-use Rattle.region_runs.specs.Part.{stretch, stretch_count, stretch_size}
+use Rattle.region_runs.specs.Part.{stretch_at, stretch_count, stretch_size}
 use Rattle.region_runs.specs.Cut.{IsCutOf}
 use Rattle.region_runs.specs.Stretches.{AreApart, AreByStretches, AreServed, AreShared}
 use Rattle.region_runs.specs.Stretches.{EachClaim, StandsFor}
 use Rattle.region_runs.specs.Stretches.{EndsServing, HasServed, IsAmong, Stands, crew_of}
 use Rattle.region_runs.specs.Stretches.{shape_of_stretches}
-use Rattle.region_runs.proofs.StretchTables.{AreFoundByPart, AreWhole, IsWholeAt}
-use Rattle.region_runs.proofs.RunsOfParts.{none_open, run_there}
+use Rattle.region_runs.proofs.StretchTables.{AreFoundByStretch, AreWhole, IsWholeAt}
+use Rattle.region_runs.proofs.RunsOfStretches.{none_open, run_there}
 use Rattle.region_runs.proofs.StretchSeats.{accounts_on}
 use Rattle.region_runs.specs.Tasks.{AreKept, Task}
 
@@ -163,7 +163,7 @@ shared_at {Z} {K} task size classes s n crew workers P S dones closed e f h x =
 
 -- one from their number on has none
 pub past_empty : (size k : ℕ) (classes : List ℕ) → stretch_count size classes ≤ k
-    → length (stretch size classes k) ≡ 0
+    → length (stretch_at size classes k) ≡ 0
 past_empty zero k classes le = let n = length-take zero (drop (k * zero) classes) in
     omega (arith, n)
 past_empty (suc size) k classes le =
@@ -177,17 +177,17 @@ past_empty (suc size) k classes le =
     omega (arith, high, more, n, m, at)
 
 -- and one below it has some
-pub below_filled : (job : Parts) (from parts size k : ℕ) (classes : List ℕ)
-    → IsCutOf job from parts size classes → k < stretch_count size classes
-    → 0 < length (stretch size classes k)
-below_filled job from parts zero k classes cut lt =
-    let whole = (div_ceil_times (length classes) parts cut.some).0 in
-    let none : div_ceil (length classes) parts * parts ≡ 0 =
-    ap (λ n. n * parts) (sym cut.size_is) ∙ zero-mul parts in
+pub below_filled : (job : Parts) (from stretches size k : ℕ) (classes : List ℕ)
+    → IsCutOf job from stretches size classes → k < stretch_count size classes
+    → 0 < length (stretch_at size classes k)
+below_filled job from stretches zero k classes cut lt =
+    let whole = (div_ceil_times (length classes) stretches cut.some).0 in
+    let none : div_ceil (length classes) stretches * stretches ≡ 0 =
+    ap (λ n. n * stretches) (sym cut.size_is) ∙ zero-mul stretches in
     let low = (div_ceil_times (length classes) (max zero 1) (omega arith)).1 in
     let one = mul-one (stretch_count zero classes) in
     absurd (omega (arith, whole, none, low, one, lt))
-below_filled job from parts (suc size) k classes cut lt =
+below_filled job from stretches (suc size) k classes cut lt =
     let one : 0 < max (suc size) 1 = omega arith in
     let low = (div_ceil_times (length classes) (max (suc size) 1) one).1 in
     let le : suc k ≤ stretch_count (suc size) classes = omega (arith, lt) in
@@ -199,31 +199,37 @@ below_filled job from parts (suc size) k classes cut lt =
     omega (arith, low, more, n, m, at, suc-mul k (max (suc size) 1), is)
 
 -- they are no more than all stretches
-pub filled_few : (job : Parts) (from parts size : ℕ) (classes : List ℕ)
-    → IsCutOf job from parts size classes → stretch_count size classes ≤ parts
-filled_few job from parts size classes cut = go (cases_lt parts (stretch_count size classes))
+pub filled_few : (job : Parts) (from stretches size : ℕ) (classes : List ℕ)
+    → IsCutOf job from stretches size classes → stretch_count size classes ≤ stretches
+filled_few job from stretches size classes cut = go (cases_lt stretches
+    (stretch_count size classes))
   where
-    go : (parts < stretch_count size classes) ⊎ (stretch_count size classes ≤ parts)
-        → stretch_count size classes ≤ parts
+    go : (stretches < stretch_count size classes) ⊎ (stretch_count size classes ≤ stretches)
+        → stretch_count size classes ≤ stretches
     go (inr le) = le
     go (inl lt) =
-        let some = below_filled job from parts size parts classes cut lt in
-        let n = length-take size (drop (parts * size) classes) in
-        let m = length-drop (parts * size) classes in
-        let whole = (div_ceil_times (length classes) parts cut.some).0 in
-        let is : parts * size ≡ div_ceil (length classes) parts * parts =
-        mul_comm parts size ∙ ap (λ k. k * parts) cut.size_is in
+        let some = below_filled job from stretches size stretches classes cut lt in
+        let n = length-take size (drop (stretches * size) classes) in
+        let m = length-drop (stretches * size) classes in
+        let whole = (div_ceil_times (length classes) stretches cut.some).0 in
+        let is : stretches * size ≡ div_ceil (length classes) stretches * stretches =
+        mul_comm stretches size ∙ ap (λ k. k * stretches) cut.size_is in
         absurd (omega (arith, some, n, m, whole, is))
 
 -- a stretch has no more classes than all
-ceil_le : (n parts : ℕ) → stretch_size n parts ≤ n
+ceil_le : (n stretches : ℕ) → stretch_size n stretches ≤ n
 ceil_le n zero = omega (arith, div-zero n, div-add-mod n 0)
-ceil_le n (suc parts) = omega (arith, div-add-mod n (suc parts), suc-mul parts (n / suc parts))
+ceil_le n (suc stretches) = omega (
+  arith,
+  div-add-mod n (suc stretches),
+  suc-mul stretches
+      (n / suc stretches),
+)
 
 -- there are no more stretches than classes, of which a ledger takes as many as a job has
-pub filled_max : (job : Parts) (from parts size : ℕ) (classes : List ℕ) → BelongTogether job
-    → IsCutOf job from parts size classes → stretch_count size classes ≤ max_pieces
-filled_max job from parts size classes b cut =
+pub filled_max : (job : Parts) (from stretches size : ℕ) (classes : List ℕ) → BelongTogether job
+    → IsCutOf job from stretches size classes → stretch_count size classes ≤ max_pieces
+filled_max job from stretches size classes b cut =
     let few = ceil_le (length classes) (max size 1) in
     let reps = class_count job b in
     let own = count_by-le-length (λ f. is_none (next job.circuit f))
@@ -260,11 +266,11 @@ stopped_in : {K : Type 0} (task : Task K) (size : ℕ) (classes : List ℕ) (w :
     (S : Stops)
     (done : Done K) (v : Waiting) → done.waiting ≡ Some v → IsDone task size classes w P S done
     → (P → ⊥) × (stop : Stop) × (done.stop ≡ Some stop)
-    × IsStopAt task (stretch size classes done.part) w S stop
+    × IsStopAt task (stretch_at size classes done.stretch) w S stop
 stopped_in {K} task size classes w P S done v e is = go done.stop refl is.ended is.lowest
   where
     own : List ℕ
-    own = stretch size classes done.part
+    own = stretch_at size classes done.stretch
 
     go : (stop : Option Stop) → done.stop ≡ stop → HasEnded task own w S stop done.kept.items
         → IsLowest (IsOpenIn task own stop) done.waiting
@@ -281,10 +287,12 @@ stopped_in {K} task size classes w P S done v e is = go done.stop refl is.ended 
 pieces : (n crew : ℕ) → piece_count (shape_of_stretches n crew) ≡ n
 pieces n crew = mul-one n
 
-module _ {Z : Type 0} {K : Type 0} (task : Task K) (parts size : ℕ) (classes : List ℕ) (workers : ℕ)
+module _ {Z : Type 0} {K : Type 0} (task : Task K) (stretches size : ℕ) (classes : List ℕ)
+    (workers : ℕ)
     (P : Type 0) (S : Stops) (back : List (Vec (Done K) Z)) (table : List (Option (Done K)))
-    (face : ClosedFace) (cut : IsCutOf task.job task.from parts size classes) (many : 0 < workers)
-    (given : AreGivenBack parts back table)
+    (face : ClosedFace) (cut : IsCutOf task.job task.from stretches size classes)
+    (many : 0 < workers)
+    (given : AreGivenBack stretches back table)
     (all : AreShared task size classes (shape_of_stretches (stretch_count size classes)
     (crew_of workers (stretch_count size classes))) P S back face) where
   abbrev pub n : ℕ
@@ -305,18 +313,18 @@ module _ {Z : Type 0} {K : Type 0} (task : Task K) (parts size : ℕ) (classes :
   -- the results of one of the workers
   own_done : (w : ℕ) (own : Vec (Done K) Z) (k : ℕ) (done : Done K) → slice_get back w ≡ Some own
       → slice_get own.items k ≡ Some done
-      → IsDone task size classes w P S done × Stands w h done.part done.waiting
+      → IsDone task size classes w P S done × Stands w h done.stretch done.waiting
   own_done w own k done at there =
       let x = (all.each w own at).0 in
       let lt = slice_get_within own.items k done there in
       let e = get_or_from_slice_get own.items k done done there in (
         subst (λ (d : Done K). IsDone task size classes w P S d) e (x.done k done lt),
-        subst (λ (d : Done K). Stands w h d.part d.waiting) e (x.stand k done lt),
+        subst (λ (d : Done K). Stands w h d.stretch d.waiting) e (x.stand k done lt),
       )
 
   -- a stretch whose place in the table is empty was not claimed
-  unclaimed : (part : ℕ) → slice_get table part ≡ Some None → claims h ≤ part
-  unclaimed part none = go (cases_lt part (claims h))
+  unclaimed : (stretch : ℕ) → slice_get table stretch ≡ Some None → claims h ≤ stretch
+  unclaimed stretch none = go (cases_lt stretch (claims h))
     where
       Found : ℕ → ℕ → Type 0
       Found w q = (own : Vec (Done K) Z) × (slice_get back w ≡ Some own) × IsAmong own.items q
@@ -336,10 +344,10 @@ module _ {Z : Type 0} {K : Type 0} (task : Task K) (parts size : ℕ) (classes :
           weaker own at (Event.Report u o ∷ g) t = weaker own at g t
           weaker own at (Event.Drop u ∷ g) t = weaker own at g t
 
-      go : (part < claims h) ⊎ (claims h ≤ part) → claims h ≤ part
+      go : (stretch < claims h) ⊎ (claims h ≤ stretch) → claims h ≤ stretch
       go (inr le) = le
       go (inl lt) =
-          let x = claimed_by shape Found part h all.legal lt each in
+          let x = claimed_by shape Found stretch h all.legal lt each in
           let own = x.2.0 in
           let among = x.2.2 in
           absurd (given.all x.0 own among.0 among.1 x.2.1 among.2
@@ -349,78 +357,82 @@ module _ {Z : Type 0} {K : Type 0} (task : Task K) (parts size : ℕ) (classes :
   stopped_there : (w : ℕ) (own : Vec (Done K) Z) (k : ℕ) (done : Done K) (v : Waiting)
       → slice_get back w ≡ Some own → slice_get own.items k ≡ Some done → done.waiting ≡ Some v
       → (P → ⊥) × IsStoppedAmong task S (runs_from task.from size classes 0 table) w
-  stopped_there w own k done v at there e = go (slice_get table done.part) refl
+  stopped_there w own k done v at there e = go (slice_get table done.stretch) refl
     where
-      held : held_by w h ≡ Some done.part
-      held = subst (Stands w h done.part) e (own_done w own k done at there).1
+      held : held_by w h ≡ Some done.stretch
+      held = subst (Stands w h done.stretch) e (own_done w own k done at there).1
 
-      low : done.part < length table
+      low : done.stretch < length table
       low =
-          let a = held_piece shape w done.part h all.legal held in
-          let few = filled_few task.job task.from parts size classes cut in
+          let a = held_piece shape w done.stretch h all.legal held in
+          let few = filled_few task.job task.from stretches size classes cut in
           omega (arith, a, few, given.count, pieces n crew)
 
-      by_place : (one : Done K) → slice_get table done.part ≡ Some (Some one)
+      by_place : (one : Done K) → slice_get table done.stretch ≡ Some (Some one)
           → (P → ⊥) × IsStoppedAmong task S (runs_from task.from size classes 0 table) w
       by_place one stands = pick one.waiting refl
         where
-          g : (one.part ≡ done.part) × (thread : ℕ) × (given : Vec (Done K) Z)
+          g : (one.stretch ≡ done.stretch) × (thread : ℕ) × (given : Vec (Done K) Z)
               × (slice_get back thread ≡ Some given)
               × (k : ℕ) × (slice_get given.items k ≡ Some one)
-          g = given.each done.part one stands
+          g = given.each done.stretch one stands
 
           d : IsDone task size classes g.1 P S one
-              × Stands g.1 h one.part one.waiting
+              × Stands g.1 h one.stretch one.waiting
           d = own_done g.1 g.2 g.4 one g.3 g.5
 
           pick : (x : Option Waiting) → one.waiting ≡ x
               → (P → ⊥) × IsStoppedAmong task S (runs_from task.from size classes 0 table) w
           pick None q =
-              let clear : entry one.part h ≡ state.Clear = subst (Stands g.1 h one.part) q d.1 in
-              let still_open : entry done.part h ≡ state.Open = held_open w done.part h held in
+              let clear : entry one.stretch h ≡ state.Clear = subst
+              (Stands g.1 h one.stretch) q d.1 in
+              let still_open : entry done.stretch h ≡ state.Open = held_open w done.stretch h held
+              in
               let bad : state.Clear ≡ state.Open =
               sym clear ∙ ap (λ p. entry p h) g.0 ∙ still_open in
               absurd (cc)
           pick (Some u) q =
-              let theirs : held_by g.1 h ≡ Some one.part = subst (Stands g.1 h one.part) q d.1 in
-              let same : g.1 ≡ w = held_once g.1 w done.part h (theirs ∙ ap Some g.0) held in
+              let theirs : held_by g.1 h ≡ Some one.stretch = subst
+              (Stands g.1 h one.stretch) q d.1 in
+              let same : g.1 ≡ w = held_once g.1 w done.stretch h (theirs ∙ ap Some g.0) held in
               let y = stopped_in task size classes g.1 P S one u q d.0 in (
                 y.0,
                 (
-                  done.part,
-                  run_at task.from (stretch size classes done.part) (Some one),
+                  done.stretch,
+                  run_at task.from (stretch_at size classes done.stretch) (Some one),
                   y.1,
-                  run_there task.from size classes table done.part (Some one) stands,
+                  run_there task.from size classes table done.stretch (Some one) stands,
                   ap Some (d.0.worker_is ∙ same),
                   y.2,
-                  subst (λ v. IsStopAt task (stretch size classes done.part) v S y.1) same
-                      (subst (λ p. IsStopAt task (stretch size classes p) g.1 S y.1) g.0 y.3),
+                  subst (λ v. IsStopAt task (stretch_at size classes done.stretch) v S y.1) same
+                      (subst (λ p. IsStopAt task (stretch_at size classes p) g.1 S y.1) g.0 y.3),
                 ),
               )
 
-      go : (place : Option (Option (Done K))) → slice_get table done.part ≡ place
+      go : (place : Option (Option (Done K))) → slice_get table done.stretch ≡ place
           → (P → ⊥) × IsStoppedAmong task S (runs_from task.from size classes 0 table) w
       go None q =
-          let x = within_place table done.part low in
+          let x = within_place table done.stretch low in
           let bad = sym q ∙ x.1 in absurd (cc)
       go (Some None) q = absurd (given.all w own k done at there q)
       go (Some (Some x)) q = by_place x q
 
   -- and if no worker began one, each was stopped
-  all_stopped : (part : ℕ) → slice_get table part ≡ Some None → part < n → (w : ℕ) → w < crew
+  all_stopped : (stretch : ℕ) → slice_get table stretch ≡ Some None → stretch < n → (w : ℕ)
+      → w < crew
       → (P → ⊥) × IsStoppedAmong task S (runs_from task.from size classes 0 table) w
-  all_stopped part none low w lt =
+  all_stopped stretch none low w lt =
       let x = within_place back w (omega (arith, lt, all.count)) in
       go x.0 x.1 (all.each w x.0 x.1).1
     where
       go : (own : Vec (Done K) Z) → slice_get back w ≡ Some own → EndsServing shape h own.items
           → (P → ⊥) × IsStoppedAmong task S (runs_from task.from size classes 0 table) w
       go own at (inl full) =
-          let free = unclaimed part none in
+          let free = unclaimed stretch none in
           absurd (omega (arith, full, free, low, pieces n crew))
       go own at (inr s) = stopped_there w own s.0 s.1 s.3 at s.2 s.4
 
-  lower : (k : ℕ) → 0 < length (stretch size classes k) → k < n
+  lower : (k : ℕ) → 0 < length (stretch_at size classes k) → k < n
   lower k some = go (cases_lt k n)
     where
       go : (k < n) ⊎ (n ≤ k) → k < n
@@ -428,36 +440,37 @@ module _ {Z : Type 0} {K : Type 0} (task : Task K) (parts size : ℕ) (classes :
       go (inr le) = let e = past_empty size k classes le in absurd (omega (arith, some, e))
 
   -- the places of the table
-  pub found_by_part : AreFoundByPart task size classes workers P S table
-  found_by_part = record {
-    each = λ part done at.
-        let g = given.each part done at in
+  pub found_by_stretch : AreFoundByStretch task size classes workers P S table
+  found_by_stretch = record {
+    each = λ stretch done at.
+        let g = given.each stretch done at in
         let lt = slice_get_within back g.1 g.2 g.3 in
         let d = (own_done g.1 g.2 g.4 done g.3 g.5).0 in (
           g.0,
           omega (arith, lt, all.count, crew_low, d.worker_is),
           subst (λ v. IsDone task size classes v P S done) (sym d.worker_is) d,
         );
-    none = λ part at some.
-        let low : part < n = lower part some in
-        let first = all_stopped part at low 0 (omega arith) in (
+    none = λ stretch at some.
+        let low : stretch < n = lower stretch some in
+        let first = all_stopped stretch at low 0 (omega arith) in (
           first.0,
           (let within = first.1.6.within in omega (arith, within)),
           λ w lt any.
               let l = lower w any in
-              (all_stopped part at low w (omega (arith, lt, l))).1,
+              (all_stopped stretch at low w (omega (arith, lt, l))).1,
         );
     once = λ i k a b v w ea eb same va wb.
         let g = given.each i a ea in
         let e = given.each k b eb in
         let x = own_done g.1 g.2 g.4 a g.3 g.5 in
         let y = own_done e.1 e.2 e.4 b e.3 e.5 in
-        let one : held_by g.1 h ≡ Some a.part = subst (Stands g.1 h a.part) va x.1 in
-        let other : held_by e.1 h ≡ Some b.part = subst (Stands e.1 h b.part) wb y.1 in
+        let one : held_by g.1 h ≡ Some a.stretch = subst (Stands g.1 h a.stretch) va x.1 in
+        let other : held_by e.1 h ≡ Some b.stretch = subst (Stands e.1 h b.stretch) wb y.1 in
         let worker : g.1 ≡ e.1 = sym x.0.worker_is ∙ (same ∙ y.0.worker_is) in
-        let both : Some a.part ≡ Some b.part = sym one ∙ (ap (λ n. held_by n h) worker ∙ other) in
-        let part : a.part ≡ b.part = cc in
-        sym g.0 ∙ (part ∙ e.0);
+        let both : Some a.stretch ≡ Some b.stretch = sym one ∙ (ap (λ n. held_by n h) worker
+        ∙ other) in
+        let stretch : a.stretch ≡ b.stretch = cc in
+        sym g.0 ∙ (stretch ∙ e.0);
   }
 
   -- if all places are whole, the ledger is finished
@@ -468,14 +481,14 @@ module _ {Z : Type 0} {K : Type 0} (task : Task K) (parts size : ℕ) (classes :
       closed : (p : ℕ) → p < piece_count shape → entry p h ≢ state.Open
       closed p lt e =
           let low : p < n = omega (arith, lt, pieces n crew) in
-          let few = filled_few task.job task.from parts size classes cut in
+          let few = filled_few task.job task.from stretches size classes cut in
           let x = within_place table p (omega (arith, low, few, given.count)) in
           go x.0 x.1 (whole p x.0 x.1)
         where
           go : (place : Option (Done K)) → slice_get table p ≡ Some place
               → IsWholeAt size classes p place → ⊥
           go None at none =
-              let some = below_filled task.job task.from parts size p classes cut (omega (
+              let some = below_filled task.job task.from stretches size p classes cut (omega (
                 arith,
                 lt,
                 pieces n crew,
@@ -484,15 +497,15 @@ module _ {Z : Type 0} {K : Type 0} (task : Task K) (parts size : ℕ) (classes :
           go (Some done) at none =
               let g = given.each p done at in
               let s = (own_done g.1 g.2 g.4 done g.3 g.5).1 in
-              let clear : entry done.part h ≡ state.Clear =
-              subst (Stands g.1 h done.part) none s in
+              let clear : entry done.stretch h ≡ state.Clear =
+              subst (Stands g.1 h done.stretch) none s in
               let here : entry p h ≡ state.Clear = subst (λ q. entry q h ≡ state.Clear) g.0 clear in
               let bad = sym e ∙ here in
               absurd (cc)
 
   -- and if the ledger is finished, all places are whole
   pub finished_whole : finish shape h ≡ finish_is.Finished → AreWhole size classes table
-  finished_whole finished part place at = go place at
+  finished_whole finished stretch place at = go place at
     where
       -- no stretch is open
       still_open : (p : ℕ) → p < n → entry p h ≡ state.Open → ⊥
@@ -506,66 +519,63 @@ module _ {Z : Type 0} {K : Type 0} (task : Task K) (parts size : ℕ) (classes :
           let bad = sym waits ∙ settled.1 in
           absurd (cc)
 
-      go : (place : Option (Done K)) → slice_get table part ≡ Some place
-          → IsWholeAt size classes part place
-      go None at = pick (cases_lt part n)
+      go : (place : Option (Done K)) → slice_get table stretch ≡ Some place
+          → IsWholeAt size classes stretch place
+      go None at = pick (cases_lt stretch n)
         where
-          pick : (part < n) ⊎ (n ≤ part) → length (stretch size classes part) ≡ 0
-          pick (inl lt) = absurd (still_open part lt (unclaimed_open part h (unclaimed part at)))
-          pick (inr le) = past_empty size part classes le
+          pick : (stretch < n) ⊎ (n ≤ stretch) → length (stretch_at size classes stretch) ≡ 0
+          pick (inl lt) = absurd (still_open stretch lt (unclaimed_open stretch h
+              (unclaimed stretch at)))
+          pick (inr le) = past_empty size stretch classes le
       go (Some done) at = pick done.waiting refl
         where
-          g : (done.part ≡ part) × (thread : ℕ) × (given : Vec (Done K) Z)
+          g : (done.stretch ≡ stretch) × (thread : ℕ) × (given : Vec (Done K) Z)
               × (slice_get back thread ≡ Some given)
               × (k : ℕ) × (slice_get given.items k ≡ Some done)
-          g = given.each part done at
+          g = given.each stretch done at
 
-          stands : Stands g.1 h done.part done.waiting
+          stands : Stands g.1 h done.stretch done.waiting
           stands = (own_done g.1 g.2 g.4 done g.3 g.5).1
 
           pick : (x : Option Waiting) → done.waiting ≡ x → done.waiting ≡ None
           pick None e = e
           pick (Some v) e =
-              let held : held_by g.1 h ≡ Some done.part = subst (Stands g.1 h done.part) e stands in
-              let low = held_piece shape g.1 done.part h all.legal held in
-              absurd (still_open done.part (omega (arith, low, pieces n crew))
-              (held_open g.1 done.part h held))
+              let held : held_by g.1 h ≡ Some done.stretch = subst
+              (Stands g.1 h done.stretch) e stands in
+              let low = held_piece shape g.1 done.stretch h all.legal held in
+              absurd (still_open done.stretch (omega (arith, low, pieces n crew))
+              (held_open g.1 done.stretch h held))
 
 -- ---- what is kept of stretches
 
-taken_place : {X : Type 0} (n : ℕ) (xs : List X) (k : ℕ) (x : X)
-    → slice_get (take n xs) k ≡ Some x → slice_get xs k ≡ Some x
-taken_place zero xs k x e = let bad : None ≡ Some x = e in absurd (cc)
-taken_place (suc n) [] k x e = e
-taken_place (suc n) (z ∷ xs) zero x e = e
-taken_place (suc n) (z ∷ xs) (suc k) x e = taken_place n xs k x e
-
-dropped_place : {X : Type 0} (n : ℕ) (xs : List X) (k m : ℕ) (x : X) → m ≡ n + k
-    → slice_get (drop n xs) k ≡ Some x → slice_get xs m ≡ Some x
-dropped_place zero xs k m x is e = subst (λ i. slice_get xs i ≡ Some x) (omega (arith, is)) e
-dropped_place (suc n) [] k m x is e = let bad : None ≡ Some x = e in absurd (cc)
-dropped_place (suc n) (z ∷ xs) k zero x is e = absurd (omega (arith, is))
-dropped_place (suc n) (z ∷ xs) k (suc m) x is e = dropped_place n xs k m x (omega (arith, is)) e
+-- an element of a stretch of a list stands in the list
+pub stretch_place : {X : Type 0} (size n : ℕ) (xs : List X) (k : ℕ) (x : X)
+    → slice_get (take size (drop n xs)) k ≡ Some x → slice_get xs (n + k) ≡ Some x
+stretch_place size n xs k x e =
+    let within = slice_get_within (take size (drop n xs)) k x e in
+    let long = length-take size (drop n xs) in
+    let left = length-drop n xs in
+    slice_get-get_or xs (n + k) x (omega (arith, within, long, left))
+    ∙ ap Some (sym (get_or-take size (drop n xs) k x (omega (arith, within, long))
+    ∙ get_or-drop n xs k x) ∙ get_or_from_slice_get (take size (drop n xs)) k x x e)
 
 -- the classes of a stretch are among all classes
-kept_of_stretch : {K : Type 0} (task : Task K) (size part : ℕ) (classes : List ℕ) (kept : List K)
+kept_of_stretch : {K : Type 0} (task : Task K) (size stretch : ℕ) (classes : List ℕ) (kept : List K)
     → AreKept task classes kept
-    → AreKept task (stretch size classes part) (take size (drop (part * size) kept))
-kept_of_stretch {K} task size part classes kept known = record {
+    → AreKept task (stretch_at size classes stretch) (take size (drop (stretch * size) kept))
+kept_of_stretch {K} task size stretch classes kept known = record {
   count = omega (
     arith,
-    length-take size (drop (part * size) classes),
-    length-drop (part * size) classes,
-    length-take size (drop (part * size) kept),
-    length-drop (part * size) kept,
+    length-take size (drop (stretch * size) classes),
+    length-drop (stretch * size) classes,
+    length-take size (drop (stretch * size) kept),
+    length-drop (stretch * size) kept,
     known.count,
   );
   each = λ hits k class one at v h.
-      known.each hits (part * size + k) class one
-      (dropped_place (part * size) classes k (part * size + k) class refl
-      (taken_place size (drop (part * size) classes) k class at))
-      (dropped_place (part * size) kept k (part * size + k) one refl
-      (taken_place size (drop (part * size) kept) k one v)) h;
+      known.each hits (stretch * size + k) class one
+      (stretch_place size (stretch * size) classes k class at)
+      (stretch_place size (stretch * size) kept k one v) h;
 }
 
 -- each report stands for some
@@ -612,11 +622,11 @@ by_stretches {K} {Z} task size classes workers P S back kept closed all finished
     }
 
 -- the same under other names
-pub stretches_under : {K : Type 0} (task : Task K) (count parts size : ℕ) (cut classes : List ℕ)
+pub stretches_under : {K : Type 0} (task : Task K) (count stretches size : ℕ) (cut classes : List ℕ)
     (workers : ℕ) (kept : List K) (closed : ClosedFace) → IsCutOf task.job task.from count size cut
-    → count ≡ parts → cut ≡ classes → AreByStretches task size cut workers kept closed
-    → AreByStretches task (stretch_size (length classes) parts) classes workers kept closed
-stretches_under {K} task count parts size cut classes workers kept closed is e f of =
+    → count ≡ stretches → cut ≡ classes → AreByStretches task size cut workers kept closed
+    → AreByStretches task (stretch_size (length classes) stretches) classes workers kept closed
+stretches_under {K} task count stretches size cut classes workers kept closed is e f of =
     subst (λ n. AreByStretches task (stretch_size (length classes) n) classes workers kept closed) e
     (subst (λ l. AreByStretches task (stretch_size (length l) count) l workers kept closed) f
     (subst (λ n. AreByStretches task n cut workers kept closed) is.size_is of))

@@ -25,7 +25,7 @@ use Rattle.region_runs.specs.declared.stretch_workers.Done.{Done}
 use Rattle.region_runs.specs.StretchRuns.{IsDone}
 use Rattle.region_runs.specs.Stretches.{Accounts, AfterRun, ClaimsStretch, EachClaim}
 use Rattle.region_runs.specs.Stretches.{HasServed, IsAmong, SeesAllClaimed, Stands}
-use Rattle.region_runs.proofs.ReturnsByPart.{kept, last_of}
+use Rattle.region_runs.proofs.PushedLists.{kept, last_of}
 use Rattle.region_runs.specs.Tasks.{Task}
 
 -- ---- calls
@@ -61,10 +61,10 @@ claims_stretch a b p class block at tests m =
     }
 
 -- the stretch that was claimed is held
-pub claim_holds : (a b : Sitter) (part : ℕ) → ClaimsStretch a part b
-    → held_by b.worker b.seen ≡ Some part
-claim_holds a b part c =
-    subst (λ w. held_by w b.seen ≡ Some part) (sym c.worker)
+pub claim_holds : (a b : Sitter) (stretch : ℕ) → ClaimsStretch a stretch b
+    → held_by b.worker b.seen ≡ Some stretch
+claim_holds a b stretch c =
+    subst (λ w. held_by w b.seen ≡ Some stretch) (sym c.worker)
     (ap (held_by a.worker) c.seen
     ∙ ap (λ t. cond t (Some (claims c.before)) (held_by a.worker c.before))
     (eq-eqb a.worker a.worker refl) ∙ ap Some (sym c.number))
@@ -103,35 +103,36 @@ claims_go_on H w later earlier c x =
     subst (EachClaim H w) (sym c.1) (claims_none H w c.0 earlier c.2 x)
 
 -- a stretch keeps its state
-stands_on : (w part : ℕ) (x : Option Waiting) (later earlier : History)
-    → ContinuesWithout w later earlier → Stands w earlier part x → Stands w later part x
-stands_on w part None later earlier c e =
-    ap (entry part) c.1 ∙ entry_past part c.0 earlier (λ q. let bad = sym e ∙ q in absurd (cc)) ∙ e
-stands_on w part (Some v) later earlier c e = held_goes_on w later earlier c ∙ e
+stands_on : (w stretch : ℕ) (x : Option Waiting) (later earlier : History)
+    → ContinuesWithout w later earlier → Stands w earlier stretch x → Stands w later stretch x
+stands_on w stretch None later earlier c e =
+    ap (entry stretch) c.1 ∙ entry_past stretch c.0 earlier (λ q. let bad = sym e
+    ∙ q in absurd (cc)) ∙ e
+stands_on w stretch (Some v) later earlier c e = held_goes_on w later earlier c ∙ e
 
 -- of a worker that holds nothing also past its own events
-stands_past : (w part : ℕ) (x : Option Waiting) (d h : History) → held_by w h ≡ None
-    → Stands w h part x → Stands w (d ++ h) part x
-stands_past w part None d h free e =
-    entry_past part d h (λ q. let bad = sym e ∙ q in absurd (cc)) ∙ e
-stands_past w part (Some v) d h free e = let bad = sym free ∙ e in absurd (cc)
+stands_past : (w stretch : ℕ) (x : Option Waiting) (d h : History) → held_by w h ≡ None
+    → Stands w h stretch x → Stands w (d ++ h) stretch x
+stands_past w stretch None d h free e =
+    entry_past stretch d h (λ q. let bad = sym e ∙ q in absurd (cc)) ∙ e
+stands_past w stretch (Some v) d h free e = let bad = sym free ∙ e in absurd (cc)
 
 -- the step of the seat after the run of a held stretch
-record Ran (b d : Sitter) (part : ℕ) (x : Option Waiting) : Type 0 where
+record Ran (b d : Sitter) (stretch : ℕ) (x : Option Waiting) : Type 0 where
   pub place : d.place ≡ b.place
   pub worker : d.worker ≡ b.worker
   pub newer : History
   pub seen : d.seen ≡ newer ++ b.seen
   pub legal : IsLegal b.place.shape d.seen
-  pub stands : Stands b.worker d.seen part x
+  pub stands : Stands b.worker d.seen stretch x
   pub free : x ≡ None → held_by d.worker d.seen ≡ None
 
-ran : (b d : Sitter) (part : ℕ) (x : Option Waiting) → IsLegal b.place.shape b.seen
-    → held_by b.worker b.seen ≡ Some part → AfterRun b x d → Ran b d part x
-ran b d part None l held m =
+ran : (b d : Sitter) (stretch : ℕ) (x : Option Waiting) → IsLegal b.place.shape b.seen
+    → held_by b.worker b.seen ≡ Some stretch → AfterRun b x d → Ran b d stretch x
+ran b d stretch None l held m =
     let seen : d.seen ≡ Event.Report b.worker outcome.Clear ∷ m.before =
     ap (λ (y : Sitter). y.seen) m.seat in
-    let still : held_by b.worker m.before ≡ Some part =
+    let still : held_by b.worker m.before ≡ Some stretch =
     held_goes_on b.worker m.before b.seen m.newer ∙ held in
     record {
       place = ap (λ (y : Sitter). y.place) m.seat;
@@ -139,13 +140,13 @@ ran b d part None l held m =
       newer = Event.Report b.worker outcome.Clear ∷ m.newer.0;
       seen = seen ∙ ap (λ h. Event.Report b.worker outcome.Clear ∷ h) m.newer.1;
       legal = subst (IsLegal b.place.shape) (sym seen) m.legal;
-      stands = ap (entry part) seen
-          ∙ ap (λ t. cond t state.Clear (entry part m.before))
-          (held-holds b.worker part m.before still);
+      stands = ap (entry stretch) seen
+          ∙ ap (λ t. cond t state.Clear (entry stretch m.before))
+          (held-holds b.worker stretch m.before still);
       free = λ e. ap (λ (y : Sitter). held_by y.worker y.seen) m.seat
           ∙ ap (λ t. cond t None (held_by b.worker m.before)) (eq-eqb b.worker b.worker refl);
     }
-ran b d part (Some v) l held same = record {
+ran b d stretch (Some v) l held same = record {
   place = ap (λ (y : Sitter). y.place) same;
   worker = ap (λ (y : Sitter). y.worker) same;
   newer = [];
@@ -163,7 +164,7 @@ ran_claims H b d None m t =
 ran_claims H b d (Some v) same t =
     subst (λ (y : Sitter). EachClaim H b.worker y.seen) (sym same) t
 
--- a part that is among some is among more
+-- a stretch that is among some is among more
 among_more : {K : Type 0} (dones : List (Done K)) (done : Done K) (p : ℕ) → IsAmong dones p
     → IsAmong (dones ++ done ∷ []) p
 among_more {K} dones done p x = (x.0, x.1, kept dones (done ∷ []) x.0 x.1 x.2, x.3)
@@ -184,23 +185,23 @@ module _ {K : Type 0} (task : Task K) (size : ℕ) (classes : List ℕ) (place :
       → Accounts task size classes w P S later dones
   accounts_on later earlier dones c x = record {
     done = x.done;
-    stand = All-weaker (λ (d : Done K). Stands w earlier d.part d.waiting)
-        (λ (d : Done K). Stands w later d.part d.waiting)
-        (λ d s. stands_on w d.part d.waiting later earlier c s) dones x.stand;
+    stand = All-weaker (λ (d : Done K). Stands w earlier d.stretch d.waiting)
+        (λ (d : Done K). Stands w later d.stretch d.waiting)
+        (λ d s. stands_on w d.stretch d.waiting later earlier c s) dones x.stand;
     claimed = claims_go_on (IsAmong dones) w later earlier c x.claimed;
   }
 
   -- one stretch more
-  pub serving_more : (a b d : Sitter) (part : ℕ) (dones : List (Done K)) (done : Done K)
-      → Serving a dones → held_by a.worker a.seen ≡ None → ClaimsStretch a part b
-      → AfterRun b done.waiting d → done.part ≡ part → IsDone task size classes w P S done
+  pub serving_more : (a b d : Sitter) (stretch : ℕ) (dones : List (Done K)) (done : Done K)
+      → Serving a dones → held_by a.worker a.seen ≡ None → ClaimsStretch a stretch b
+      → AfterRun b done.waiting d → done.stretch ≡ stretch → IsDone task size classes w P S done
       → Serving d (dones ++ done ∷ [])
-  serving_more a b d part dones done was free c after is own =
+  serving_more a b d stretch dones done was free c after is own =
       let bw : b.worker ≡ w = c.worker ∙ was.worker_is in
       let bp : b.place ≡ place = c.place ∙ was.place_is in
       let bl : IsLegal b.place.shape b.seen =
       subst (λ (q : Place). IsLegal q.shape b.seen) (sym c.place) c.legal in
-      let r = ran b d part done.waiting bl (claim_holds a b part c) after in
+      let r = ran b d stretch done.waiting bl (claim_holds a b stretch c) after in
       let af : held_by w a.seen ≡ None = subst (λ v. held_by v a.seen ≡ None) was.worker_is free in
       let tail : History = r.newer ++ (Event.Claim a.worker ∷ c.newer.0) in
       let all : d.seen ≡ tail ++ a.seen = r.seen ∙ ap (λ h. r.newer ++ h)
@@ -227,25 +228,18 @@ module _ {K : Type 0} (task : Task K) (size : ℕ) (classes : List ℕ) (place :
         legal = subst (λ (q : Place). IsLegal q.shape d.seen) bp r.legal;
         accounts = record {
           done = All-push (IsDone task size classes w P S) dones done was.accounts.done own;
-          stand = All-push (λ (x : Done K). Stands w d.seen x.part x.waiting) dones done
-              (All-weaker (λ (x : Done K). Stands w a.seen x.part x.waiting)
-              (λ (x : Done K). Stands w d.seen x.part x.waiting)
-              (λ x s. subst (λ h. Stands w h x.part x.waiting) (sym all)
-              (stands_past w x.part x.waiting tail a.seen af s)) dones was.accounts.stand)
-              (subst (λ v. Stands v d.seen done.part done.waiting) bw
+          stand = All-push (λ (x : Done K). Stands w d.seen x.stretch x.waiting) dones done
+              (All-weaker (λ (x : Done K). Stands w a.seen x.stretch x.waiting)
+              (λ (x : Done K). Stands w d.seen x.stretch x.waiting)
+              (λ x s. subst (λ h. Stands w h x.stretch x.waiting) (sym all)
+              (stands_past w x.stretch x.waiting tail a.seen af s)) dones was.accounts.stand)
+              (subst (λ v. Stands v d.seen done.stretch done.waiting) bw
               (subst (λ n. Stands b.worker d.seen n done.waiting) (sym is) r.stands));
           claimed = subst (λ v. EachClaim more v d.seen) bw
               (ran_claims more b d done.waiting after
               (subst (λ v. EachClaim more v b.seen) (sym bw) now));
         };
       }
-
-  -- and nothing is held after a report
-  pub serving_free : (a b d : Sitter) (part : ℕ) (x : Option Waiting) → ClaimsStretch a part b
-      → AfterRun b x d → x ≡ None → held_by d.worker d.seen ≡ None
-  serving_free a b d part x c after none =
-      (ran b d part x (subst (λ (q : Place). IsLegal q.shape b.seen) (sym c.place) c.legal)
-      (claim_holds a b part c) after).free none
 
   -- a worker that saw all claimed
   pub served_all : (a b : Sitter) (dones : List (Done K)) → Serving a dones → SeesAllClaimed a b
@@ -271,13 +265,20 @@ module _ {K : Type 0} (task : Task K) (size : ℕ) (classes : List ℕ) (place :
     ended = inr (length dones, done, last_of dones done, v, e);
   }
 
+-- nothing is held after a report
+pub serving_free : (a b d : Sitter) (stretch : ℕ) (x : Option Waiting) → ClaimsStretch a stretch b
+    → AfterRun b x d → x ≡ None → held_by d.worker d.seen ≡ None
+serving_free a b d stretch x c after none =
+    (ran b d stretch x (subst (λ (q : Place). IsLegal q.shape b.seen) (sym c.place) c.legal)
+    (claim_holds a b stretch c) after).free none
+
 -- a stretch that was claimed leaves fewer
-pub fewer_left : (a b d : Sitter) (p : Place) (part : ℕ) (x : Option Waiting) → a.place ≡ p
-    → IsLegal p.shape d.seen → ClaimsStretch a part b → AfterRun b x d
+pub fewer_left : (a b d : Sitter) (p : Place) (stretch : ℕ) (x : Option Waiting) → a.place ≡ p
+    → IsLegal p.shape d.seen → ClaimsStretch a stretch b → AfterRun b x d
     → piece_count p.shape - claims d.seen < piece_count p.shape - claims a.seen
-fewer_left a b d p part x at l c after =
-    let r = ran b d part x (subst (λ (q : Place). IsLegal q.shape b.seen) (sym c.place) c.legal)
-    (claim_holds a b part c) after in
+fewer_left a b d p stretch x at l c after =
+    let r = ran b d stretch x (subst (λ (q : Place). IsLegal q.shape b.seen) (sym c.place) c.legal)
+    (claim_holds a b stretch c) after in
     let most = legal_claims p.shape d.seen l in
     let grew : claims b.seen ≡ claims c.before + 1 = ap claims c.seen in
     let past : claims a.seen ≤ claims c.before = subst (λ h. claims a.seen ≤ claims h)

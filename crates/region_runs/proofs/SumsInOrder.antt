@@ -1,39 +1,16 @@
 -- A sum over a list is the sum over the same elements in another order.
-use Rattle.std.proofs.Common.{◌≡◌, ◌≢◌, ◌<◌, ◌≤◌, ◌⊎◌, inl, inr, ℕ, zero, suc, List, [], ◌∷◌}
-use Rattle.std.proofs.Common.{set, take, length, get_or, refl, sym, ap}
-use Rattle.std.proofs.Common.{◌∙◌, arith, replicate, add-one}
+use Rattle.std.proofs.Common.{◌≡◌, ◌≢◌, ◌<◌, ◌≤◌, ◌⊎◌, inl, inr, ℕ, zero, suc, List}
+use Rattle.std.proofs.Common.{set, take, length, get_or, sym, ap}
+use Rattle.std.proofs.Common.{◌∙◌, ◌*◌, arith, replicate, add-one}
 use Rattle.std.specs.List.{sum_by}
 use Rattle.std.proofs.lemmas.Bool.{cases_eq, cases_lt}
 use Rattle.std.proofs.lemmas.List.{get_or-set_same, get_or-set_other, length-set}
-use Rattle.std.proofs.lemmas.List.{take_all}
-use Rattle.std.proofs.lemmas.List.Sums.{sum_by-cons, sum_by-set, sum_by_more}
+use Rattle.std.proofs.lemmas.List.{ext_get_or, get_or-replicate, length-replicate, take_all}
+use Rattle.std.proofs.lemmas.List.Folds.{sum_by-replicate}
+use Rattle.std.proofs.Math.Nat.{mul-zero}
+use Rattle.std.proofs.lemmas.List.Sums.{sum_by-set, sum_by_more}
 
 module _ {X : Type 0} (f : X → ℕ) (none : X) (empty : f none ≡ 0) where
-  -- nothing adds up to 0
-  none_sum : (n : ℕ) → sum_by f (replicate n none) ≡ 0
-  none_sum zero = refl
-  none_sum (suc n) = sum_by-cons f none (replicate n none) ∙ omega (arith, empty, none_sum n)
-
-  none_long : (n : ℕ) → length (replicate n none) ≡ n
-  none_long zero = refl
-  none_long (suc n) = ap suc (none_long n)
-
-  none_at : (n i : ℕ) → get_or (replicate n none) i none ≡ none
-  none_at zero i = refl
-  none_at (suc n) zero = refl
-  none_at (suc n) (suc i) = none_at n i
-
-  -- lists with the same elements at all places are the same
-  same_lists : (xs ys : List X) → length xs ≡ length ys
-      → ((i : ℕ) → i < length xs → get_or xs i none ≡ get_or ys i none) → xs ≡ ys
-  same_lists [] [] e each = refl
-  same_lists [] (y ∷ ys) e each = absurd (omega (arith, e))
-  same_lists (x ∷ xs) [] e each = absurd (omega (arith, e))
-  same_lists (x ∷ xs) (y ∷ ys) e each =
-      let first : x ≡ y = each 0 (omega arith) in
-      let rest = same_lists xs ys (omega (arith, e)) (λ i lt. each (suc i) (omega (arith, lt))) in
-      cc
-
   module _ (xs ys : List X) (at from : ℕ → ℕ) (long : length ys ≡ length xs)
       (at_low : (k : ℕ) → k < length xs → at k < length ys)
       (back : (k : ℕ) → k < length xs → from (at k) ≡ k)
@@ -50,10 +27,11 @@ module _ {X : Type 0} (f : X → ℕ) (none : X) (empty : f none ≡ 0) where
     put_all zero le = (
       replicate (length ys) none,
       record {
-        count = none_long (length ys);
+        count = length-replicate (length ys) none;
         put = λ i lt low. absurd (omega (arith, low));
-        left = λ i lt high. none_at (length ys) i;
-        total = none_sum (length ys);
+        left = λ i lt high. get_or-replicate (length ys) i none none lt;
+        total = sum_by-replicate f (length ys) none ∙ ap (λ n. length ys * n) empty
+            ∙ mul-zero (length ys);
       },
     )
     put_all (suc k) le =
@@ -102,7 +80,7 @@ module _ {X : Type 0} (f : X → ℕ) (none : X) (empty : f none ≡ 0) where
     pub sum_in_order : sum_by f ys ≡ sum_by f xs
     sum_in_order =
         let all = put_all (length xs) (omega arith) in
-        let is = same_lists all.0 ys all.1.count
+        let is = ext_get_or none all.0 ys all.1.count
         (λ i lt. all.1.put i (omega (arith, lt, all.1.count)) (forth i (omega (
           arith,
           lt,

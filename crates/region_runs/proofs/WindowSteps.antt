@@ -1,11 +1,10 @@
 -- The windows of a run, one after another.
-use Rattle.std.proofs.Common.{◌≡◌, ◌<◌, ◌≤◌, ◌+◌, ◌*◌, ◌∙◌, ℕ, List, ap, arith, length, min, sym}
+use Rattle.std.proofs.Common.{◌≡◌, ◌<◌, ◌≤◌, ◌+◌, ◌*◌, ◌∙◌, ℕ, List, ap, arith, min, sym}
 use Rattle.std.proofs.lemmas.Grind.{div_ceil_times}
 use Rattle.std.proofs.Math.Nat.{min-eq_left, min-eq_right, mul-le-mul_right}
 use Rattle.std.specs.Int.{div_ceil}
-use Rattle.bench_net.specs.Scan.{sources}
-use Rattle.patterns.specs.Tests.{IsTestList, TestList}
-use Rattle.block_sim.specs.Parts.{BelongTogether, Parts, with_tests}
+use Rattle.patterns.specs.Tests.{TestList}
+use Rattle.block_sim.specs.Parts.{Parts, with_tests}
 use Rattle.region_sim.specs.ClassOrder.{AreAllByRegion}
 use Rattle.region_runs.specs.Part.{ArePartOf}
 
@@ -32,17 +31,6 @@ pub step_first : (blocks step number : ℕ) → number * step < blocks
     → min (number * step) blocks ≡ number * step
 step_first blocks step number lt = min-eq_left (omega (arith, lt))
 
--- parts with other tests belong together if these fit
-pub together_with : (job : Parts) (tests : TestList) → BelongTogether job → IsTestList tests
-    → tests.width ≡ length (sources job.circuit) → BelongTogether (with_tests job tests)
-together_with job tests b list wide = record {
-  circuit = b.circuit;
-  list = b.list;
-  classes = b.classes;
-  tests = list;
-  width = wide;
-}
-
 -- the order of classes doesn't depend on the tests
 pub all_with : (job : Parts) (tests : TestList) (classes : List ℕ) → AreAllByRegion job classes
     → AreAllByRegion (with_tests job tests) classes
@@ -64,11 +52,11 @@ part_with job tests parts part classes are = record {
   few = are.few;
 }
 
--- parts that are as they were have their own tests
+-- stretches that are as they were have their own tests
 pub tests_kept : (next job : Parts) → next ≡ job → next ≡ with_tests job next.tests
 tests_kept next job is = is ∙ ap (λ (j : Parts). with_tests job j.tests) (sym is)
 
--- so have parts that took other tests
+-- so have stretches that took other tests
 pub tests_set : (next job : Parts) (tests : TestList) → next ≡ with_tests job tests
     → next ≡ with_tests job next.tests
 tests_set next job tests is = is ∙ ap (λ (j : Parts). with_tests job j.tests) (sym is)

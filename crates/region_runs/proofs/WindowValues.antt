@@ -57,11 +57,11 @@ module _ {K : Type 0} (task : Task K) (sound : IsSound task) (tests some : TestL
   agree : (class t : ℕ) (hits mine : ℕ → Bool) → 64 * (w.first - w.from) ≤ t
       → t < 64 * blocks (length some.tests) → AreHits task.job class hits
       → AreHits (with_tests task.job some) class mine → mine t ≡ hits (64 * w.from + t)
-  agree class t hits mine low high all part =
+  agree class t hits mine low high all stretch =
       same_hits task.job some (64 * w.from) (64 * w.end) (32 * w.from) class t hits mine
       (subst (λ (l : TestList). IsWindowOf l.tests (64 * w.from) (64 * w.end) some.tests) (sym own)
       of) (omega arith) (go (window_from w.first w (blocks (length tests.tests)) on))
-      (omega (arith, high, count)) all part
+      (omega (arith, high, count)) all stretch
     where
       go : ((w.first - w.from ≡ 0) × (w.from ≡ 0) × (w.first ≡ 0))
           ⊎ ((w.first - w.from ≡ 1) × (w.first ≡ w.from + 1))
@@ -95,18 +95,18 @@ module _ {K : Type 0} (task : Task K) (sound : IsSound task) (tests some : TestL
           (sound.stays old hits 0 (64 * w.first) (64 * w.end) x.0 (omega (arith, on.some)) was)
       go hits k class one old at here h was (inr x) =
           let lt = listed_class task.job classes k class within at in
-          let part = some_hits (with_tests task.job some) b class lt in
+          let stretch = some_hits (with_tests task.job some) b class lt in
           let place = count_by task.wants (take k before) in
-          let mine = are.each part.0 place class x.1
-          (open_there task.wants classes before k class old at here x.0) x.2 part.1 in
+          let mine = are.each stretch.0 place class x.1
+          (open_there task.wants classes before k class old at here x.0) x.2 stretch.1 in
           let up = begins (window_from w.first w (blocks (length tests.tests)) on) in
           let all : 64 * w.from + 64 * blocks (length some.tests) ≡ 64 * w.end =
           omega (arith, count) in
           subst (λ n. task.means hits 0 n one) all
-          (x.3 hits part.0 0 (64 * (w.first - w.from)) (64 * blocks (length some.tests))
+          (x.3 hits stretch.0 0 (64 * (w.first - w.from)) (64 * blocks (length some.tests))
           (omega arith) (omega (arith, up, count, on.some))
           (omega (arith, all, on.within, list.count))
-          (λ t low high. agree class t hits part.0 low high h part.1)
+          (λ t low high. agree class t hits stretch.0 low high h stretch.1)
           (subst (λ n. task.means hits 0 n old) (omega (arith, up)) was) mine)
         where
           begins : ((w.first - w.from ≡ 0) × (w.from ≡ 0) × (w.first ≡ 0))

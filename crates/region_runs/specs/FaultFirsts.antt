@@ -27,11 +27,11 @@ pub record AreFirstsFrom (class_of positions : List ℕ) (firsts : List (Option 
 -- the result of a thread has such first tests, unless it had no memory
 abbrev pub HasFirsts : {E : Type 0} → List ℕ → List ℕ → List (Option ℕ) → Result FaultFirsts E
     → Type 0
-HasFirsts class_of positions firsts part = IfOk part (λ own.
+HasFirsts class_of positions firsts share = IfOk share (λ own.
     AreFirstsFrom class_of positions firsts own.start own.firsts.items)
 
 -- each of several results has such first tests
 abbrev pub HaveFirsts : {E : Type 0} → List ℕ → List ℕ → List (Option ℕ)
     → List (Result FaultFirsts E) → Type 0
-HaveFirsts {E} class_of positions firsts parts = (i : ℕ) (part : Result FaultFirsts E)
-    → slice_get parts i ≡ Some part → HasFirsts class_of positions firsts part
+HaveFirsts {E} class_of positions firsts shares = (i : ℕ) (share : Result FaultFirsts E)
+    → slice_get shares i ≡ Some share → HasFirsts class_of positions firsts share

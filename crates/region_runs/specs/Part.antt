@@ -30,7 +30,7 @@ ArePartOf job parts part classes = AreByRegion job (IsOfPart job parts part) cla
 -- The number of classes of a stretch, if `count` classes are cut into stretches of one size, as
 -- small as possible. The last stretches have fewer, or none.
 abbrev pub stretch_size : ℕ → ℕ → ℕ
-stretch_size count parts = div_ceil count parts
+stretch_size count stretches = div_ceil count stretches
 
 -- The number of stretches in which workers run classes. One worker runs one stretch. Several run
 -- 24 for each of up to 64 workers, but no more than there are classes and at least one.
@@ -38,18 +38,15 @@ abbrev pub stretches_for : ℕ → ℕ → ℕ
 stretches_for classes workers =
     if nat_lt workers 2 then 1 else max (min (24 * min workers 64) classes) 1
 
--- the number of parts in which workers run a job if none is given
-abbrev pub parts_for : Parts → ℕ → ℕ
-parts_for job workers = stretches_for (length job.classes.representative) workers
-
--- the number of stretches in which workers run a job: the requested one, at least 1, if there is one
+-- the number of stretches in which workers run a job: the requested one, at least 1, or else one
+-- that suits the workers
 abbrev pub stretches_of : Option ℕ → Parts → ℕ → ℕ
-stretches_of None job workers = parts_for job workers
+stretches_of None job workers = stretches_for (length job.classes.representative) workers
 stretches_of (Some count) job workers = max count 1
 
 -- the classes of a stretch, counted from 0, of a list that is cut into stretches of this size
-abbrev pub stretch : ℕ → List ℕ → ℕ → List ℕ
-stretch size classes k = take size (drop (k * size) classes)
+abbrev pub stretch_at : ℕ → List ℕ → ℕ → List ℕ
+stretch_at size classes k = take size (drop (k * size) classes)
 
 -- the number of stretches of this size that have a class, the first ones
 abbrev pub stretch_count : ℕ → List ℕ → ℕ

@@ -13,15 +13,15 @@ use Rattle.region_runs.specs.Stretches.{AreByStretches}
 use Rattle.region_runs.specs.Tasks.{Task, first_tests}
 use Rattle.region_runs.specs.WindowLedgers.{AreOfWindows}
 
--- the view that contracts have of such a job: its parts, and whether its tests stand apart
-pub record RunParts : Type 0 where
-  pub parts : Parts
+-- the view that contracts have of such a job: its stretches, and whether its tests stand apart
+pub record RunView : Type 0 where
+  pub whole : Parts
   pub apart : Bool
 
--- the parts of a job whose tests may stand apart
-abbrev pub parts_of : Parts → Option TestList → Parts
-parts_of job None = job
-parts_of job (Some tests) = with_tests job tests
+-- the stretches of a job whose tests may stand apart
+abbrev pub whole_of : Parts → Option TestList → Parts
+whole_of job None = job
+whole_of job (Some tests) = with_tests job tests
 
 -- tests that stand apart are a list of the circuit's width
 abbrev pub AreForCircuit : Parts → Option TestList → Type 0
@@ -32,18 +32,18 @@ AreForCircuit job (Some tests) =
 -- What a goal keeps of the classes of a list was found stretch by stretch, in the order of ledgers
 -- that hand out the stretches: one for the whole run, or one for each window of the tests.
 abbrev pub AreKeptByLedgers : {K : Type 0} → Task K → ℕ → ℕ → List ℕ → List K → Type 0
-AreKeptByLedgers task parts workers classes kept =
+AreKeptByLedgers task stretches workers classes kept =
     ((ledger : ClosedFace)
-    × AreByStretches task (stretch_size (length classes) parts) classes workers kept ledger)
+    × AreByStretches task (stretch_size (length classes) stretches) classes workers kept ledger)
     ⊎ AreOfWindows task workers classes (blocks (length task.job.tests.tests)) kept
 
 -- So were the first tests of all classes, cut into this number of stretches. The verdict on a fault
 -- is the first test that was found of its class.
-pub record AreByLedgers (job : Parts) (parts workers : ℕ) (v : VerdictList) : Type 0 where
+pub record AreByLedgers (job : Parts) (stretches workers : ℕ) (v : VerdictList) : Type 0 where
   pub classes : List ℕ
   pub are : AreAllByRegion job classes
   pub firsts : List (Option ℕ)
-  pub of : AreKeptByLedgers (first_tests job) parts workers classes firsts
+  pub of : AreKeptByLedgers (first_tests job) stretches workers classes firsts
   pub each : (i class : ℕ) (first : Option ℕ) → slice_get job.classes.class_of i ≡ Some class
       → slice_get v.firsts i ≡ Some first
       → (k : ℕ) × (slice_get classes k ≡ Some class) × (slice_get firsts k ≡ Some first)

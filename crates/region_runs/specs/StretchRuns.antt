@@ -11,7 +11,7 @@ use Rattle.region_runs.specs.declared.stretch_run.Stop.{Stop}
 use Rattle.region_runs.specs.declared.stretch_run.Waiting.{Waiting}
 use Rattle.region_sim.specs.ClassOrder.{AreAllByRegion}
 use Rattle.region_sim.specs.Goals.{AreHits}
-use Rattle.region_runs.specs.Part.{ArePartOf, stretch, stretch_size, stretches_for}
+use Rattle.region_runs.specs.Part.{ArePartOf, stretch_at, stretch_size, stretches_for}
 use Rattle.region_runs.specs.Tasks.{AreKept, Task, first_tests}
 use Rattle.region_runs.specs.declared.stretch_workers.Done.{Done}
 
@@ -105,50 +105,52 @@ abbrev pub IsLowerOf : Option Waiting → Option Waiting → Option Waiting → 
 IsLowerOf first second lowest = ((lowest ≡ first) ⊎ (lowest ≡ second))
     × IsNoHigher lowest first × IsNoHigher lowest second
 
--- The result of a worker for a part, which is a stretch of the classes: its run over it ended so,
--- and it names the lowest class that isn't settled. If the gate lets all pass, it wasn't stopped.
+-- The result of a worker for a stretch of the classes: its run over it ended so, and it names the
+-- lowest class that isn't settled. If the gate lets all pass, it wasn't stopped.
 pub record IsDone {K : Type 0} (task : Task K) (size : ℕ) (classes : List ℕ) (worker : ℕ)
     (passing : Type 0) (stops : Stops) (done : Done K) : Type 0 where
   pub worker_is : done.worker ≡ worker
-  pub ended : HasEnded task (stretch size classes done.part) worker stops done.stop
+  pub ended : HasEnded task (stretch_at size classes done.stretch) worker stops done.stop
       done.kept.items
-  pub lowest : IsLowest (IsOpenIn task (stretch size classes done.part) done.stop) done.waiting
+  pub lowest : IsLowest (IsOpenIn task
+      (stretch_at size classes done.stretch) done.stop) done.waiting
   pub passed : passing → done.stop ≡ None
 
--- the results for each of several parts
+-- the results for each of several stretches
 abbrev pub AreDone : {K : Type 0} → Task K → ℕ → List ℕ → ℕ → Type 0 → Stops → List (Done K)
     → Type 0
 AreDone task size classes worker passing stops all =
     All (λ done. IsDone task size classes worker passing stops done) all
 
--- The results of a worker were put into a table of parts: the result at a place was there before,
--- or is one of the worker's, for the part of this number.
+-- The results of a worker were put into a table of stretches: the result at a place was there
+-- before, or is one of the worker's, for the stretch of this number.
 pub record ArePut {K : Type 0} (was : List (Option (Done K))) (given : List (Done K))
     (table : List (Option (Done K))) : Type 0 where
   pub count : length table ≡ length was
-  pub each : (part : ℕ) (done : Done K) → slice_get table part ≡ Some (Some done)
-      → (slice_get was part ≡ Some (Some done))
-      ⊎ ((done.part ≡ part) × (k : ℕ) × (slice_get given k ≡ Some done))
-  pub stays : (part : ℕ) → slice_get table part ≡ Some None → slice_get was part ≡ Some None
+  pub each : (stretch : ℕ) (done : Done K) → slice_get table stretch ≡ Some (Some done)
+      → (slice_get was stretch ≡ Some (Some done))
+      ⊎ ((done.stretch ≡ stretch) × (k : ℕ) × (slice_get given k ≡ Some done))
+  pub stays : (stretch : ℕ) → slice_get table stretch ≡ Some None
+      → slice_get was stretch ≡ Some None
   pub all : (k : ℕ) (done : Done K) → slice_get given k ≡ Some done
-      → slice_get table done.part ≢ Some None
+      → slice_get table done.stretch ≢ Some None
 
--- A table of parts of the results of threads. The result at a place is one of a thread's, for the
--- part of this number, and each place for which a thread has a result isn't empty.
-pub record AreGivenBack {K Z : Type 0} (parts : ℕ) (back : List (Vec (Done K) Z))
+-- A table of stretches, of the results of threads. The result at a place is one of a thread's, for
+-- the stretch of this number, and each place for which a thread has a result isn't empty.
+pub record AreGivenBack {K Z : Type 0} (stretches : ℕ) (back : List (Vec (Done K) Z))
     (table : List (Option (Done K))) : Type 0 where
-  pub count : length table ≡ parts
-  pub each : (part : ℕ) (done : Done K) → slice_get table part ≡ Some (Some done)
-      → (done.part ≡ part) × (thread : ℕ) × (given : Vec (Done K) Z)
+  pub count : length table ≡ stretches
+  pub each : (stretch : ℕ) (done : Done K) → slice_get table stretch ≡ Some (Some done)
+      → (done.stretch ≡ stretch) × (thread : ℕ) × (given : Vec (Done K) Z)
       × (slice_get back thread ≡ Some given)
       × (k : ℕ) × (slice_get given.items k ≡ Some done)
   pub all : (thread : ℕ) (given : Vec (Done K) Z) (k : ℕ) (done : Done K)
       → slice_get back thread ≡ Some given → slice_get given.items k ≡ Some done
-      → slice_get table done.part ≢ Some None
+      → slice_get table done.stretch ≢ Some None
 
 -- the run of one stretch: its classes, the worker that ran it, or none, and the point where it
 -- ended before its last piece
-pub record PartRun : Type 0 where
+pub record StretchRun : Type 0 where
   pub classes : List ℕ
   pub worker : Option ℕ
   pub stop : Option Stop
@@ -158,40 +160,41 @@ abbrev pub at_first : ℕ → Stop
 at_first from = record { place = 0; block = from }
 
 -- the run of a stretch that no worker began: it ended before its first piece, if it has one
-abbrev pub unbegun_run : ℕ → List ℕ → PartRun
+abbrev pub unbegun_run : ℕ → List ℕ → StretchRun
 unbegun_run from [] = record { classes = []; worker = None; stop = None }
 unbegun_run from (class ∷ classes) =
     record { classes = class ∷ classes; worker = None; stop = Some (at_first from) }
 
 -- the run of a stretch by a place of a table of stretches: a worker has this result, or none began
 -- it
-abbrev pub run_at : {K : Type 0} → ℕ → List ℕ → Option (Done K) → PartRun
+abbrev pub run_at : {K : Type 0} → ℕ → List ℕ → Option (Done K) → StretchRun
 run_at from classes None = unbegun_run from classes
 run_at from classes (Some done) =
     record { classes = classes; worker = Some done.worker; stop = done.stop }
 
 -- the runs of the stretches in a table, from this stretch on, if a run begins with this block
-abbrev pub runs_from : {K : Type 0} → ℕ → ℕ → List ℕ → ℕ → List (Option (Done K)) → List PartRun
-runs_from from size classes part [] = []
-runs_from from size classes part (place ∷ table) = run_at from (stretch size classes part) place
-    ∷ runs_from from size classes (part + 1) table
+abbrev pub runs_from : {K : Type 0} → ℕ → ℕ → List ℕ → ℕ → List (Option (Done K)) → List StretchRun
+runs_from from size classes stretch [] = []
+runs_from from size classes stretch (place ∷ table) = run_at from
+    (stretch_at size classes stretch) place
+    ∷ runs_from from size classes (stretch + 1) table
 
 -- the gate stopped this worker in one of the runs
-abbrev pub IsStoppedAmong : {K : Type 0} → Task K → Stops → List PartRun → ℕ → Type 0
-IsStoppedAmong task stops runs w = (part : ℕ) × (run : PartRun) × (stop : Stop)
-    × (slice_get runs part ≡ Some run) × (run.worker ≡ Some w) × (run.stop ≡ Some stop)
+abbrev pub IsStoppedAmong : {K : Type 0} → Task K → Stops → List StretchRun → ℕ → Type 0
+IsStoppedAmong task stops runs w = (stretch : ℕ) × (run : StretchRun) × (stop : Stop)
+    × (slice_get runs stretch ≡ Some run) × (run.worker ≡ Some w) × (run.stop ≡ Some stop)
     × IsStopAt task run.classes w stops stop
 
 -- the gate stopped each of these workers in one of the runs, as far as there is a stretch with a
 -- class for each
-abbrev pub AreAllStopped : {K : Type 0} → Task K → ℕ → List ℕ → ℕ → Stops → List PartRun → Type 0
+abbrev pub AreAllStopped : {K : Type 0} → Task K → ℕ → List ℕ → ℕ → Stops → List StretchRun → Type 0
 AreAllStopped task size classes workers stops runs = (w : ℕ) → w < workers
-    → 0 < length (stretch size classes w) → IsStoppedAmong task stops runs w
+    → 0 < length (stretch_at size classes w) → IsStoppedAmong task stops runs w
 
 -- How a run of a stretch ended. Either one of the workers ran it: it was stopped only at a piece
 -- where the gate may stop the worker, and it passed no piece where the gate surely does. Or no
 -- worker began it: then it has no class, or the gate stopped each worker in one of the runs.
-abbrev pub HasRunSo : {K : Type 0} → Task K → ℕ → List ℕ → ℕ → Stops → List PartRun → PartRun
+abbrev pub HasRunSo : {K : Type 0} → Task K → ℕ → List ℕ → ℕ → Stops → List StretchRun → StretchRun
     → Option ℕ → Type 0
 HasRunSo task size classes workers stops runs run (Some w) = (w < workers)
     × ((stop : Stop) → run.stop ≡ Some stop → IsStopAt task run.classes w stops stop)
@@ -202,34 +205,35 @@ HasRunSo task size classes workers stops runs run None = (run ≡ unbegun_run ta
 -- the runs of n stretches of classes; a worker is stopped in at most one of them
 pub record AreRunsOf {K : Type 0} (task : Task K) (size : ℕ) (classes : List ℕ) (workers : ℕ)
     (stops : Stops)
-    (n : ℕ) (runs : List PartRun) : Type 0 where
+    (n : ℕ) (runs : List StretchRun) : Type 0 where
   pub count : length runs ≡ n
-  pub each : (part : ℕ) (run : PartRun) → slice_get runs part ≡ Some run
-      → (run.classes ≡ stretch size classes part)
+  pub each : (stretch : ℕ) (run : StretchRun) → slice_get runs stretch ≡ Some run
+      → (run.classes ≡ stretch_at size classes stretch)
       × HasRunSo task size classes workers stops runs run run.worker
-  pub once : (i k w : ℕ) (a b : PartRun) (s t : Stop) → slice_get runs i ≡ Some a
+  pub once : (i k w : ℕ) (a b : StretchRun) (s t : Stop) → slice_get runs i ≡ Some a
       → slice_get runs k ≡ Some b → a.worker ≡ Some w → b.worker ≡ Some w
       → a.stop ≡ Some s → b.stop ≡ Some t → i ≡ k
 
 -- a class of one of the runs isn't settled, and waits for this block
-abbrev pub WaitsIn : {K : Type 0} → Task K → List PartRun → ℕ → ℕ → Type 0
-WaitsIn task runs class block = (part : ℕ) × (run : PartRun) × (slice_get runs part ≡ Some run)
+abbrev pub WaitsIn : {K : Type 0} → Task K → List StretchRun → ℕ → ℕ → Type 0
+WaitsIn task runs class block = (stretch : ℕ) × (run : StretchRun)
+    × (slice_get runs stretch ≡ Some run)
     × IsOpenIn task run.classes run.stop class block
 
 -- the lowest class of a run that isn't settled
-abbrev pub IsLowestIn : {K : Type 0} → Task K → PartRun → Option Waiting → Type 0
+abbrev pub IsLowestIn : {K : Type 0} → Task K → StretchRun → Option Waiting → Type 0
 IsLowestIn task run lowest = IsLowest (IsOpenIn task run.classes run.stop) lowest
 
--- A place of a table of stretches has what is kept of the classes of its stretch. An empty place is
--- right if the stretch has no class.
-abbrev pub IsKeptAt : {K : Type 0} → Task K → List ℕ → Option (Done K) → Type 0
-IsKeptAt task own None = length own ≡ 0
-IsKeptAt task own (Some done) = AreKept task own done.kept.items
+-- what the result at a place of a table of stretches keeps; an empty place keeps nothing
+abbrev pub kept_at : {K : Type 0} → Option (Done K) → List K
+kept_at None = []
+kept_at (Some done) = done.kept.items
 
--- all do
+-- each place of a table of stretches has what is kept of the classes of its stretch
 abbrev pub AreAllKept : {K : Type 0} → Task K → ℕ → List ℕ → List (Option (Done K)) → Type 0
-AreAllKept {K} task size classes table = (part : ℕ) (place : Option (Done K))
-    → slice_get table part ≡ Some place → IsKeptAt task (stretch size classes part) place
+AreAllKept {K} task size classes table = (stretch : ℕ) (place : Option (Done K))
+    → slice_get table stretch ≡ Some place
+    → AreKept task (stretch_at size classes stretch) (kept_at place)
 
 -- A place of a table of stretches has the lowest class of its stretch that isn't settled. An empty
 -- place is right if there is a block to run, or the stretch has no class.
@@ -239,29 +243,33 @@ IsLowestAt task own (Some done) = IsLowestIn task (run_at task.from own (Some do
 
 -- all do
 abbrev pub AreAllLowest : {K : Type 0} → Task K → ℕ → List ℕ → List (Option (Done K)) → Type 0
-AreAllLowest {K} task size classes table = (part : ℕ) (place : Option (Done K))
-    → slice_get table part ≡ Some place → IsLowestAt task (stretch size classes part) place
+AreAllLowest {K} task size classes table = (stretch : ℕ) (place : Option (Done K))
+    → slice_get table stretch ≡ Some place → IsLowestAt task (stretch_at size classes stretch) place
 
 -- A run of classes in a number of stretches of this size that its gate stopped waits for this class
 -- and block: the class is the lowest unsettled class of all stretches.
 pub record StretchesWaitFor {K : Type 0} (task : Task K) (size : ℕ) (classes : List ℕ)
-    (parts workers : ℕ)
+    (stretches workers : ℕ)
     (stops : Stops) (class block : ℕ) : Type 0 where
-  pub runs : List PartRun
-  pub are : AreRunsOf task size classes workers stops parts runs
+  pub runs : List StretchRun
+  pub are : AreRunsOf task size classes workers stops stretches runs
   pub lowest : IsLowest (WaitsIn task runs) (Some (record { class = class; block = block }))
 
 -- the same for all classes
-abbrev pub PartsWaitFor : {K : Type 0} → Task K → ℕ → ℕ → Stops → ℕ → ℕ → Type 0
-PartsWaitFor task parts workers stops class block =
+abbrev pub GoalWaitsFor : {K : Type 0} → Task K → ℕ → ℕ → Stops → ℕ → ℕ → Type 0
+GoalWaitsFor task stretches workers stops class block =
     (classes : List ℕ) × AreAllByRegion task.job classes
-    × StretchesWaitFor task (stretch_size (length classes) parts) classes parts workers stops class
-    block
+    × StretchesWaitFor task (stretch_size (length classes) stretches) classes stretches workers
+    stops class block
 
--- the same for the classes of a part, which are run in a number of stretches that suits the workers
+-- the same for the classes of a list, which are run in a number of stretches that suits the workers
+abbrev pub ListWaitsFor : {K : Type 0} → Task K → List ℕ → ℕ → Stops → ℕ → ℕ → Type 0
+ListWaitsFor task classes workers stops class block = StretchesWaitFor task
+    (stretch_size (length classes) (stretches_for (length classes) workers)) classes
+    (stretches_for (length classes) workers) workers stops class block
+
+-- so for the classes of a part
 abbrev pub PartWaitsFor : Parts → ℕ → ℕ → ℕ → Stops → ℕ → ℕ → Type 0
 PartWaitsFor job parts part workers stops class block =
     (classes : List ℕ) × ArePartOf job parts part classes
-    × StretchesWaitFor (first_tests job)
-    (stretch_size (length classes) (stretches_for (length classes) workers)) classes
-    (stretches_for (length classes) workers) workers stops class block
+    × ListWaitsFor (first_tests job) classes workers stops class block

@@ -20,7 +20,7 @@ use Rattle.region_runs.specs.declared.stretch_workers.Done.{Done}
 use Rattle.region_runs.specs.declared.stretch_workers.Served.{Served}
 use Rattle.region_runs.specs.StretchRuns.{AreDone}
 use Rattle.region_runs.specs.Tasks.{AreKept, Task}
-use Rattle.region_runs.specs.Part.{stretch, stretch_count}
+use Rattle.region_runs.specs.Part.{stretch_at, stretch_count}
 
 -- the shape of a ledger of a number of stretches: each is a class of the ledger, with one block
 abbrev pub shape_of_stretches : ℕ → ℕ → Shape
@@ -32,15 +32,15 @@ crew_of workers stretches = max (min workers stretches) 1
 
 -- A seat claimed this stretch: just before, it had seen this history, and the stretch is the number
 -- of claims made.
-pub record ClaimsStretch (old : Sitter) (part : ℕ) (new : Sitter) : Type 0 where
+pub record ClaimsStretch (old : Sitter) (stretch : ℕ) (new : Sitter) : Type 0 where
   pub before : History
   pub place : new.place ≡ old.place
   pub worker : new.worker ≡ old.worker
   pub newer : ContinuesWithout old.worker before old.seen
   pub seen : new.seen ≡ Event.Claim old.worker ∷ before
   pub legal : IsLegal old.place.shape new.seen
-  pub number : part ≡ claims before
-  pub within : part < old.place.shape.classes
+  pub number : stretch ≡ claims before
+  pub within : stretch < old.place.shape.classes
 
 -- a seat saw all stretches claimed
 pub record SeesAllClaimed (old new : Sitter) : Type 0 where
@@ -59,13 +59,13 @@ AfterRun old (Some waiting) new = new ≡ old
 -- the state of a stretch in a history after a worker's result: it is reported if no class waits,
 -- else the worker holds it
 abbrev pub Stands : ℕ → History → ℕ → Option Waiting → Type 0
-Stands w h part None = entry part h ≡ Clear
-Stands w h part (Some waiting) = held_by w h ≡ Some part
+Stands w h stretch None = entry stretch h ≡ Clear
+Stands w h stretch (Some waiting) = held_by w h ≡ Some stretch
 
--- the part is among the results
+-- the stretch is among the results
 abbrev pub IsAmong : {K : Type 0} → List (Done K) → ℕ → Type 0
-IsAmong {K} dones part = (k : ℕ) × (done : Done K) × (slice_get dones k ≡ Some done)
-    × (done.part ≡ part)
+IsAmong {K} dones stretch = (k : ℕ) × (done : Done K) × (slice_get dones k ≡ Some done)
+    × (done.stretch ≡ stretch)
 
 -- this holds of the number of each claim of a worker in a history
 abbrev pub EachClaim : (ℕ → Type 0) → ℕ → History → Type 0
@@ -79,7 +79,7 @@ pub record Accounts {K : Type 0} (task : Task K) (size : ℕ) (classes : List �
     (passing : Type 0)
     (stops : Stops) (h : History) (dones : List (Done K)) : Type 0 where
   pub done : AreDone task size classes w passing stops dones
-  pub stand : All (λ d. Stands w h d.part d.waiting) dones
+  pub stand : All (λ d. Stands w h d.stretch d.waiting) dones
   pub claimed : EachClaim (IsAmong dones) w h
 
 -- the gate stopped the worker in one of these
@@ -136,8 +136,8 @@ pub record AreShared {K Z : Type 0} (task : Task K) (size : ℕ) (classes : List
 -- a report of a stretch stands for what is kept of its own classes
 abbrev pub StandsFor : {K : Type 0} → Task K → ℕ → List ℕ → List K → Option ℕ → Type 0
 StandsFor task size classes kept None = ⊥
-StandsFor task size classes kept (Some part) =
-    AreKept task (stretch size classes part) (take size (drop (part * size) kept))
+StandsFor task size classes kept (Some stretch) =
+    AreKept task (stretch_at size classes stretch) (take size (drop (stretch * size) kept))
 
 -- What is kept of classes was found stretch by stretch: the closed ledger of these stretches shows
 -- a legal and finished history, in which each report stands for what is kept of its stretch.

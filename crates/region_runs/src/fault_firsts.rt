@@ -151,7 +151,7 @@ fn share_faults<R: Threads + Wait>(
             }
             let first = firsts_between(alloc, job, ordered, 0, own)?;
             match thread::join_promised(rt, handles) {
-                Ok(parts) => join_firsts(alloc, job, ordered, first, parts),
+                Ok(shares) => join_firsts(alloc, job, ordered, first, shares),
                 Err(_) => Err(AllocError),
             }
         },
@@ -167,27 +167,27 @@ fn fault_count(job: &Job) -> u32
 }
 
 /// Joins the first tests of all faults: those of the first faults, those that threads returned, one
-/// part after another, and then the missing ones.
+/// share after another, and then the missing ones.
 fn join_firsts(
     alloc: Global,
     job: &Job,
     ordered: &OrderedFirsts,
     first: Vec<Option<u32>>,
-    parts: Vec<Result<FaultFirsts, AllocError>>,
+    shares: Vec<Result<FaultFirsts, AllocError>>,
 ) -> Result<Vec<Option<u32>>, AllocError>
     requires first { AreFirstsFrom job.now.classes.class_of ordered.now.positions.items
         ordered.now.firsts.items 0 first.items }
     requires serves { ServesFaults job.now ordered.now.positions.items ordered.now.firsts.items }
-    requires parts { HaveFirsts job.now.classes.class_of ordered.now.positions.items
-        ordered.now.firsts.items parts.items }
+    requires shares { HaveFirsts job.now.classes.class_of ordered.now.positions.items
+        ordered.now.firsts.items shares.items }
     ensures { IfOk result (λ found. found.items ≡ firsts_of_faults job.now
         ordered.now.positions.items ordered.now.firsts.items) }
 {
     let count = fault_count(job);
     let mut all = first;
     all.reserve((count as usize).saturating_sub(all.len()))?;
-    for part in parts {
-        let FaultFirsts { start, mut firsts } = part?;
+    for share in shares {
+        let FaultFirsts { start, mut firsts } = share?;
         if start as usize == all.len() {
             all.append(&mut firsts)?;
         }

@@ -7,18 +7,19 @@
 //! of the workers.
 //!
 //! A [`RunJob`] runs all classes for a [`WindowGoal`], all blocks at once or window by window, as
-//! its tests want it, under a gate that may observe the run ([`Watch`]). [`RunJob::run`] returns the
-//! verdicts. [`run_goal`] runs a job that has its tests for any [`region_sim::Goal`]. [`run_part`]
-//! runs the classes of one part of a run that several machines share, and [`RunJob::read_words`]
-//! reads the fault-free words. [`run_alone`] runs a list of classes in the thread of its caller.
+//! its tests want it, under a gate that may observe the run ([`Watch`]). [`RunJob::run`] returns
+//! the verdicts. [`run_goal`] runs a job that has its tests for any [`region_sim::Goal`], and
+//! [`run_list`] only the classes of a list. [`run_part`] runs the classes of one part of a run that
+//! several machines share, and [`RunJob::read_words`] reads the fault-free words. [`run_alone`]
+//! runs a list of classes in the thread of its caller.
 #![tactic(auto)]
 
 mod alone;
 mod class_order;
 mod fault_firsts;
 mod goal_run;
+mod list_run;
 mod open_classes;
-mod open_run;
 mod part_run;
 mod parts;
 mod run_job;
@@ -32,12 +33,12 @@ mod word_reader;
 
 pub use alone::run_alone;
 pub use goal_run::{GoalRun, run_goal};
+pub use list_run::run_list;
 pub use open_classes::all_open;
-pub use open_run::run_classes;
 pub use part_run::run_part;
 pub use parts::{PartVerdict, in_one_part, part_of};
 pub use run_job::RunJob;
-pub use stretches::{parts_for, stretches_for};
+pub use stretches::stretches_for;
 pub use watch::{ReasonCounts, Watch};
 pub use window_goal::WindowGoal;
 pub use windows::window_blocks;

@@ -36,11 +36,11 @@ pub fn run_part<G: Gate + Sync, R: Threads + Wait>(
     requires gate { run.old.apart ≡ true → G.passing gate.now }
     requires part { part < parts }
     ensures verdicts { IfOk result (λ verdicts.
-        ArePartVerdicts run.old.parts parts part verdicts.items) }
+        ArePartVerdicts run.old.whole parts part verdicts.items) }
     ensures workers { OnOk result ((0 < workers) × (workers ≤ 64)) }
     ensures ledgers { IfOk result (λ verdicts.
-        IsPartByLedgers run.old.parts parts part workers verdicts.items) }
-    ensures refused { IfErr result (IsPartFault run.old.parts parts part workers
+        IsPartByLedgers run.old.whole parts part workers verdicts.items) }
+    ensures refused { IfErr result (IsPartFault run.old.whole parts part workers
         (G.passing gate.now) (G.stops gate.now)) }
     ensures kept { run.new ≡ run.old }
 {

@@ -9,15 +9,15 @@ ghost use Rattle.block_sim.specs.Parts.{BelongTogether, with_tests};
 ghost use Rattle.workers.specs.Verdict.{AreAfterHits, AreFirsts};
 ghost use Rattle.region_sim.specs.ClassOrder.{AreAllByRegion};
 ghost use Rattle.region_runs.specs.Part.{stretch_size, stretches_of};
-ghost use Rattle.region_runs.specs.Refused.{IsGoalFault, IsOpenFault, IsPartsFault};
+ghost use Rattle.region_runs.specs.Refused.{IsGoalFault, IsOpenFault, IsFirstsFault};
 ghost use Rattle.region_runs.specs.Refused.{IsStretchesFault};
 ghost use Rattle.region_runs.specs.RunJobs.{AreByLedgers, AreKeptByLedgers};
 ghost use Rattle.region_runs.specs.Tasks.{AreKept, IsOpenAtFirst, task_of};
 
 use crate::fault_firsts::{OrderedFirsts, verdicts_in};
 use crate::goal_run::{GoalRun, run_goal};
-use crate::parts::{ListRun, run_list_for};
-use crate::stretches::parts_for;
+use crate::list_run::{ListRun, run_list_for};
+use crate::stretches::stretches_for;
 use crate::watch::Watch;
 use crate::window_goal::WindowGoal;
 use crate::windows::{
@@ -56,11 +56,11 @@ pub struct RunJob {
 
 impl marker::Model for RunJob {
     ghost use Rattle.std.specs.Prelude.{is_some};
-    ghost use Rattle.region_runs.specs.RunJobs.{AreForCircuit, RunParts, parts_of};
+    ghost use Rattle.region_runs.specs.RunJobs.{AreForCircuit, RunView, whole_of};
 
-    ghost Value = { RunParts };
+    ghost Value = { RunView };
 
-    ghost view = { λ r. record { parts = parts_of r.job r.apart; apart = is_some r.apart } };
+    ghost view = { λ r. record { whole = whole_of r.job r.apart; apart = is_some r.apart } };
 
     ghost invariant = { λ r. AreForCircuit r.job r.apart };
 }
@@ -68,7 +68,7 @@ impl marker::Model for RunJob {
 impl RunJob {
     /// Makes a job whose tests are its own, with windows that suit its circuit ([`window_blocks`]).
     pub fn whole(job: Job) -> RunJob
-        ensures parts { result.parts ≡ job }
+        ensures whole { result.whole ≡ job }
         ensures apart { result.apart ≡ false }
     {
         let blocks = window_blocks(job.circuit().signals());
@@ -77,7 +77,7 @@ impl RunJob {
 
     /// Makes a job whose tests are its own, with windows of this number of blocks, at least 1.
     pub fn in_windows(job: Job, blocks: u32) -> RunJob
-        ensures parts { result.parts ≡ job }
+        ensures whole { result.whole ≡ job }
         ensures apart { result.apart ≡ false }
     {
         RunJob {
@@ -97,18 +97,18 @@ impl RunJob {
 
     /// Returns the job without regard to its tests, if they may stand apart.
     pub fn job(&self) -> &Job
-        ensures circuit { result.now.circuit ≡ self.now.parts.circuit }
-        ensures list { result.now.list ≡ self.now.parts.list }
-        ensures classes { result.now.classes ≡ self.now.parts.classes }
-        ensures own { self.now.apart ≡ false → result.now ≡ self.now.parts }
+        ensures circuit { result.now.circuit ≡ self.now.whole.circuit }
+        ensures list { result.now.list ≡ self.now.whole.list }
+        ensures classes { result.now.classes ≡ self.now.whole.classes }
+        ensures own { self.now.apart ≡ false → result.now ≡ self.now.whole }
     {
         &self.job
     }
 
     /// Returns the tests.
     pub fn tests(&self) -> &Tests
-        ensures tests { result.now ≡ self.now.parts.tests }
-        ensures together { BelongTogether self.now.parts }
+        ensures tests { result.now ≡ self.now.whole.tests }
+        ensures together { BelongTogether self.now.whole }
     {
         let own = self.job.tests();
         match &self.apart {
@@ -118,19 +118,20 @@ impl RunJob {
     }
 
     /// Returns the number of stretches of a run: the requested one, at least 1, or else one that
-    /// suits the workers ([`parts_for`]).
+    /// suits the workers ([`stretches_for`]).
     pub fn stretches(&self, requested: Option<u32>, workers: u32) -> u32
-        ensures count { result ≡ stretches_of requested self.now.parts workers }
+        ensures count { result ≡ stretches_of requested self.now.whole workers }
         ensures some { 0 < result }
     {
         match requested {
             Some(count) => count.max(1),
-            None => parts_for(self.job(), workers),
+            None => stretches_for(self.job().classes().count(), workers),
         }
     }
 
-    /// Takes other tests. They stand apart if they have more blocks than a window. If not, at most as many threads as there are workers compute their
-    /// fault-free words. It fails only for memory, and then the run is as it was.
+    /// Takes other tests. They stand apart if they have more blocks than a window. If not, at most
+    /// as many threads as there are workers compute their fault-free words. It fails only for
+    /// memory, and then the run is as it was.
     pub fn set_tests<R: Threads + Wait>(
         &mut self,
         rt: &R,
@@ -139,8 +140,8 @@ impl RunJob {
         workers: u32,
     ) -> Result<(), AllocError>
         requires list { IsTestList tests }
-        requires width { tests.width ≡ length (sources self.old.parts.circuit) }
-        ensures tests { OnOk result (self.new.parts ≡ with_tests self.old.parts tests) }
+        requires width { tests.width ≡ length (sources self.old.whole.circuit) }
+        ensures tests { OnOk result (self.new.whole ≡ with_tests self.old.whole tests) }
         ensures kept { IfErr result (λ fault. self.new ≡ self.old) }
     {
         if tests.blocks() <= self.step() {
@@ -161,8 +162,8 @@ impl RunJob {
         workers: u32,
     ) -> Result<(), AllocError>
         requires list { IsTestList tests }
-        requires width { tests.width ≡ length (sources self.old.parts.circuit) }
-        ensures tests { OnOk result (self.new.parts ≡ with_tests self.old.parts tests) }
+        requires width { tests.width ≡ length (sources self.old.whole.circuit) }
+        ensures tests { OnOk result (self.new.whole ≡ with_tests self.old.whole tests) }
         ensures own { OnOk result (self.new.apart ≡ false) }
         ensures kept { IfErr result (λ fault. self.new ≡ self.old) }
     {
@@ -181,7 +182,7 @@ impl RunJob {
         alloc: Global,
         workers: u32,
     ) -> Result<(), AllocError>
-        ensures parts { OnOk result (self.new.parts ≡ self.old.parts) }
+        ensures whole { OnOk result (self.new.whole ≡ self.old.whole) }
         ensures own { OnOk result (self.new.apart ≡ false) }
         ensures kept { IfErr result (λ fault. self.new ≡ self.old) }
     {
@@ -197,12 +198,12 @@ impl RunJob {
     /// them. The run has none then, unless they stand apart. It returns `None` if memory runs out,
     /// and then the run is as it was.
     pub fn give_tests(&mut self, alloc: Global) -> Option<SpentTests>
-        ensures kept { (some : TestList) × (self.new.parts ≡ with_tests self.old.parts some) }
+        ensures kept { (some : TestList) × (self.new.whole ≡ with_tests self.old.whole some) }
         ensures none { IfNone result (self.new ≡ self.old) }
         ensures apart { self.old.apart ≡ true → self.new ≡ self.old }
-        ensures given { self.old.apart ≡ false → IfSome result (λ spent. self.new.parts
-            ≡ with_tests self.old.parts
-            (record { width = self.old.parts.tests.width; tests = [] })) }
+        ensures given { self.old.apart ≡ false → IfSome result (λ spent. self.new.whole
+            ≡ with_tests self.old.whole
+            (record { width = self.old.whole.tests.width; tests = [] })) }
     {
         self.job.give_tests(alloc).ok()
     }
@@ -214,23 +215,23 @@ impl RunJob {
         &mut self,
         rt: &R,
         alloc: Global,
-        parts: u32,
+        stretches: u32,
         workers: u32,
         gate: &G,
     ) -> Result<Verdicts, RunFault>
         requires gate { self.old.apart ≡ true → G.passing gate.now }
-        requires parts { 0 < parts }
-        ensures firsts { IfOk result (λ v. AreFirsts self.old.parts.list.model
-            self.old.parts.circuit self.old.parts.tests.tests v.firsts) }
-        ensures skipped { IfOk result (λ v. AreAfterHits self.old.parts v.skipped) }
+        requires stretches { 0 < stretches }
+        ensures firsts { IfOk result (λ v. AreFirsts self.old.whole.list.model
+            self.old.whole.circuit self.old.whole.tests.tests v.firsts) }
+        ensures skipped { IfOk result (λ v. AreAfterHits self.old.whole v.skipped) }
         ensures workers { OnOk result ((0 < workers) × (workers ≤ 64)) }
-        ensures ledgers { IfOk result (AreByLedgers self.old.parts parts workers) }
-        ensures refused { IfErr result (IsPartsFault self.old.parts parts workers
+        ensures ledgers { IfOk result (AreByLedgers self.old.whole stretches workers) }
+        ensures refused { IfErr result (IsFirstsFault self.old.whole stretches workers
             (G.passing gate.now) (G.stops gate.now)) }
         ensures open { G.passing gate.now → IfErr result (IsOpenFault workers) }
         ensures kept { self.new ≡ self.old }
     {
-        let done = self.run_goal(rt, alloc, parts, workers, &FirstTest, gate)?;
+        let done = self.run_goal(rt, alloc, stretches, workers, &FirstTest, gate)?;
         let GoalRun {
             classes: _classes,
             positions,
@@ -262,19 +263,19 @@ impl RunJob {
         A::Kept: Send,
         requires gate { self.old.apart ≡ true → G.passing gate.now }
         requires some { 0 < stretches }
-        requires few { length classes.items ≤ length self.old.parts.classes.representative }
-        requires within { All (λ class. class < length self.old.parts.classes.representative)
+        requires few { length classes.items ≤ length self.old.whole.classes.representative }
+        requires within { All (λ class. class < length self.old.whole.classes.representative)
             classes.items }
         requires workers { (0 < workers) × (workers ≤ 64) }
         requires wanted { IsOpenAtFirst
-            (task_of self.old.parts 0 (A.wants goal.now) (A.means goal.now)) }
+            (task_of self.old.whole 0 (A.wants goal.now) (A.means goal.now)) }
         ensures classes { IfOk result (λ run. run.classes.items ≡ classes.items) }
-        ensures kept { IfOk result (λ run. AreKept (task_of self.old.parts 0 (A.wants goal.now)
+        ensures kept { IfOk result (λ run. AreKept (task_of self.old.whole 0 (A.wants goal.now)
             (A.means goal.now)) classes.items run.kept.items) }
-        ensures ledgers { IfOk result (λ run. AreKeptByLedgers (task_of self.old.parts 0
+        ensures ledgers { IfOk result (λ run. AreKeptByLedgers (task_of self.old.whole 0
             (A.wants goal.now) (A.means goal.now)) stretches workers classes.items
             run.kept.items) }
-        ensures refused { IfErr result (IsStretchesFault (task_of self.old.parts 0
+        ensures refused { IfErr result (IsStretchesFault (task_of self.old.whole 0
             (A.wants goal.now) (A.means goal.now)) (stretch_size (length classes.items) stretches)
             classes.items stretches workers (G.passing gate.now) (G.stops gate.now)) }
         ensures same { self.new ≡ self.old }
@@ -314,9 +315,9 @@ impl RunJob {
         workers: u32,
         reader: &mut V,
     ) -> Result<(), RunFault>
-        requires { V.gathered reader.old self.old.parts 0 }
-        ensures gathered { OnOk result (V.gathered reader.new self.old.parts
-            (64 * blocks (length self.old.parts.tests.tests))) }
+        requires { V.gathered reader.old self.old.whole 0 }
+        ensures gathered { OnOk result (V.gathered reader.new self.old.whole
+            (64 * blocks (length self.old.whole.tests.tests))) }
         ensures refused { IfErr result (λ fault. fault ≡ RunFault.Memory) }
         ensures same { self.new ≡ self.old }
     {
@@ -344,7 +345,7 @@ impl RunJob {
         &mut self,
         rt: &R,
         alloc: Global,
-        parts: u32,
+        stretches: u32,
         workers: u32,
         goal: &A,
         gate: &G,
@@ -352,28 +353,28 @@ impl RunJob {
     where
         A::Kept: Send,
         requires gate { self.old.apart ≡ true → G.passing gate.now }
-        requires parts { 0 < parts }
+        requires stretches { 0 < stretches }
         requires wanted { IsOpenAtFirst
-            (task_of self.old.parts 0 (A.wants goal.now) (A.means goal.now)) }
-        ensures classes { IfOk result (λ run. AreAllByRegion self.old.parts run.classes.items) }
+            (task_of self.old.whole 0 (A.wants goal.now) (A.means goal.now)) }
+        ensures classes { IfOk result (λ run. AreAllByRegion self.old.whole run.classes.items) }
         ensures positions { IfOk result (λ run.
             ArePositions run.classes.items run.positions.items) }
         ensures count { IfOk result (λ run.
-            length run.positions.items ≡ length self.old.parts.classes.representative) }
-        ensures kept { IfOk result (λ run. AreKept (task_of self.old.parts 0 (A.wants goal.now)
+            length run.positions.items ≡ length self.old.whole.classes.representative) }
+        ensures kept { IfOk result (λ run. AreKept (task_of self.old.whole 0 (A.wants goal.now)
             (A.means goal.now)) run.classes.items run.kept.items) }
         ensures workers { OnOk result ((0 < workers) × (workers ≤ 64)) }
-        ensures ledgers { IfOk result (λ run. AreKeptByLedgers (task_of self.old.parts 0
-            (A.wants goal.now) (A.means goal.now)) parts workers run.classes.items
+        ensures ledgers { IfOk result (λ run. AreKeptByLedgers (task_of self.old.whole 0
+            (A.wants goal.now) (A.means goal.now)) stretches workers run.classes.items
             run.kept.items) }
-        ensures refused { IfErr result (IsGoalFault (task_of self.old.parts 0
-            (A.wants goal.now) (A.means goal.now)) parts workers (G.passing gate.now)
+        ensures refused { IfErr result (IsGoalFault (task_of self.old.whole 0
+            (A.wants goal.now) (A.means goal.now)) stretches workers (G.passing gate.now)
             (G.stops gate.now)) }
         ensures open { G.passing gate.now → IfErr result (IsOpenFault workers) }
         ensures same { self.new ≡ self.old }
     {
         gate.starts(self.job.classes().count(), self.tests().blocks());
-        let run = self.run_goal_unwatched(rt, alloc, parts, workers, goal, gate)?;
+        let run = self.run_goal_unwatched(rt, alloc, stretches, workers, goal, gate)?;
         gate.ends();
         Ok(run)
     }
@@ -384,7 +385,7 @@ impl RunJob {
         &mut self,
         rt: &R,
         alloc: Global,
-        parts: u32,
+        stretches: u32,
         workers: u32,
         goal: &A,
         gate: &G,
@@ -392,29 +393,29 @@ impl RunJob {
     where
         A::Kept: Send,
         requires gate { self.old.apart ≡ true → G.passing gate.now }
-        requires parts { 0 < parts }
+        requires stretches { 0 < stretches }
         requires wanted { IsOpenAtFirst
-            (task_of self.old.parts 0 (A.wants goal.now) (A.means goal.now)) }
-        ensures classes { IfOk result (λ run. AreAllByRegion self.old.parts run.classes.items) }
+            (task_of self.old.whole 0 (A.wants goal.now) (A.means goal.now)) }
+        ensures classes { IfOk result (λ run. AreAllByRegion self.old.whole run.classes.items) }
         ensures positions { IfOk result (λ run.
             ArePositions run.classes.items run.positions.items) }
         ensures count { IfOk result (λ run.
-            length run.positions.items ≡ length self.old.parts.classes.representative) }
-        ensures kept { IfOk result (λ run. AreKept (task_of self.old.parts 0 (A.wants goal.now)
+            length run.positions.items ≡ length self.old.whole.classes.representative) }
+        ensures kept { IfOk result (λ run. AreKept (task_of self.old.whole 0 (A.wants goal.now)
             (A.means goal.now)) run.classes.items run.kept.items) }
         ensures workers { OnOk result ((0 < workers) × (workers ≤ 64)) }
-        ensures ledgers { IfOk result (λ run. AreKeptByLedgers (task_of self.old.parts 0
-            (A.wants goal.now) (A.means goal.now)) parts workers run.classes.items
+        ensures ledgers { IfOk result (λ run. AreKeptByLedgers (task_of self.old.whole 0
+            (A.wants goal.now) (A.means goal.now)) stretches workers run.classes.items
             run.kept.items) }
-        ensures refused { IfErr result (IsGoalFault (task_of self.old.parts 0
-            (A.wants goal.now) (A.means goal.now)) parts workers (G.passing gate.now)
+        ensures refused { IfErr result (IsGoalFault (task_of self.old.whole 0
+            (A.wants goal.now) (A.means goal.now)) stretches workers (G.passing gate.now)
             (G.stops gate.now)) }
         ensures open { G.passing gate.now → IfErr result (IsOpenFault workers) }
         ensures same { self.new ≡ self.old }
     {
         let step = self.step();
         match &self.apart {
-            None => run_goal(rt, alloc, &self.job, parts, workers, goal, gate),
+            None => run_goal(rt, alloc, &self.job, stretches, workers, goal, gate),
             Some(tests) => {
                 let job = &mut self.job;
                 run_goal_in_windows(rt, alloc, job, tests, step, workers, goal, gate)

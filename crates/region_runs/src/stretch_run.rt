@@ -1,6 +1,6 @@
 //! The run of one worker by itself over a list of classes, without a ledger.
 
-ghost use Rattle.std.specs.Prelude.{◌≡◌, ◌⊎◌, ◌<◌, ◌≤◌, ◌+◌, ℕ, All, None, Some, false};
+ghost use Rattle.std.specs.Prelude.{◌≡◌, ◌<◌, ◌≤◌, ◌+◌, ℕ, All, None, Some};
 ghost use Rattle.std.specs.Prelude.{length, slice_get};
 ghost use Rattle.patterns.specs.Tests.{blocks};
 ghost use Rattle.block_sim.specs.Listed.{IsListed};
@@ -88,8 +88,8 @@ fn live_end(job: &Job, rows: &[ListedClass]) -> usize
 }
 
 /// Asks the gate, which lets every piece pass, for the dead classes of a list on the blocks from
-/// one up to another, which is not included. A gate that draws the progress takes them for a part
-/// of their own.
+/// one up to another, which is not included. A gate that draws the progress takes them for a
+/// stretch of their own.
 fn ask_dead<G: Gate>(rows: &[ListedClass], worker: u32, from: u32, blocks: u32, gate: &G)
     requires { G.passing gate.now }
     ensures { (block : ℕ) → from ≤ block → block < blocks

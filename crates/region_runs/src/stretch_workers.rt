@@ -1,4 +1,4 @@
-//! Parts that workers claim, each of which one worker simulates by itself.
+//! Stretches that workers claim, each of which one worker simulates by itself.
 
 ghost use Rattle.std.specs.Prelude.{◌≡◌, ◌⊎◌, ◌<◌, ℕ, All, Bool, IfErr, IfNone, IfOk, IfSome};
 ghost use Rattle.std.specs.Prelude.{None, Some};
@@ -11,7 +11,7 @@ ghost use Rattle.fault_ledger.specs.History.{held_by};
 ghost use Rattle.fault_ledger.specs.Seats.{Makes, newcomer, newcomers};
 ghost use Rattle.region_runs.specs.StretchRuns.{IsDone, IsLowestIn, unbegun_run};
 ghost use Rattle.region_runs.specs.Tasks.{task_of};
-ghost use Rattle.region_runs.specs.Part.{stretch};
+ghost use Rattle.region_runs.specs.Part.{stretch_at};
 ghost use Rattle.region_runs.specs.Cut.{IsCutOf};
 ghost use Rattle.region_runs.specs.Stretches.{AfterRun, AreServed, ClaimsStretch, HasServed};
 ghost use Rattle.region_runs.specs.Stretches.{SeesAllClaimed};
@@ -30,14 +30,14 @@ use std::thread;
 use std::thread::{Promise, Threads};
 use workers::{Gate, RunFault};
 
-/// The result of a worker for a part.
+/// The result of a worker for a stretch.
 #[derive(Drop)]
 pub(crate) struct Done<K> {
-    /// The part, counted from 0.
-    pub(crate) part: u32,
+    /// The stretch, counted from 0.
+    pub(crate) stretch: u32,
     /// The worker that ran it, counted from 0.
     pub(crate) worker: u32,
-    /// What the goal keeps of each class of the part, as far as the worker got.
+    /// What the goal keeps of each class of the stretch, as far as the worker got.
     pub(crate) kept: Vec<K>,
     /// The point at which the gate stopped the worker, if it did.
     pub(crate) stop: Option<Stop>,
@@ -63,27 +63,28 @@ impl Member {
     }
 }
 
-/// Lets a worker simulate a part by itself.
+/// Lets a worker simulate a stretch by itself.
 pub(crate) fn run_stretch<A: Goal, G: Gate>(
     alloc: Global,
     job: &Job,
     cut: &Cut,
-    part: u32,
+    stretch: u32,
     member: &mut Member,
     goal: &A,
     gate: &G,
 ) -> Result<Done<A::Kept>, AllocError>
-    requires cut { IsCutOf job.now cut.now.from cut.now.parts cut.now.size cut.now.classes.items }
+    requires cut { IsCutOf job.now cut.now.from cut.now.stretches cut.now.size
+        cut.now.classes.items }
     requires serves { ServesRegions member.old.simulation job.now 0 }
     ensures done { IfOk result (IsDone (task_of job.now cut.now.from (A.wants goal.now)
         (A.means goal.now))
         cut.now.size cut.now.classes.items member.old.number (G.passing gate.now)
         (G.stops gate.now)) }
-    ensures part { IfOk result (λ done. done.part ≡ part) }
+    ensures stretch { IfOk result (λ done. done.stretch ≡ stretch) }
     ensures member { member.new.number ≡ member.old.number }
     ensures serves { ServesRegions member.new.simulation job.now 0 }
 {
-    let own = cut.stretch(part);
+    let own = cut.stretch(stretch);
     let worker = member.number;
     let from = cut.from;
     let simulation = &mut member.simulation;
@@ -94,7 +95,7 @@ pub(crate) fn run_stretch<A: Goal, G: Gate>(
         None => None,
     };
     Ok(Done {
-        part,
+        stretch,
         worker,
         kept,
         stop,
@@ -125,17 +126,18 @@ pub(crate) fn not_begun<A: Goal>(
     alloc: Global,
     job: &Job,
     cut: &Cut,
-    part: u32,
+    stretch: u32,
     goal: &A,
 ) -> Result<Option<Waiting>, AllocError>
-    requires cut { IsCutOf job.now cut.now.from cut.now.parts cut.now.size cut.now.classes.items }
-    requires block { 0 < length (stretch cut.now.size cut.now.classes.items part)
+    requires cut { IsCutOf job.now cut.now.from cut.now.stretches cut.now.size
+        cut.now.classes.items }
+    requires block { 0 < length (stretch_at cut.now.size cut.now.classes.items stretch)
         → cut.now.from < blocks (length job.now.tests.tests) }
     ensures { IfOk result (IsLowestIn (task_of job.now cut.now.from (A.wants goal.now)
         (A.means goal.now))
-        (unbegun_run cut.now.from (stretch cut.now.size cut.now.classes.items part))) }
+        (unbegun_run cut.now.from (stretch_at cut.now.size cut.now.classes.items stretch))) }
 {
-    let own = cut.stretch(part);
+    let own = cut.stretch(stretch);
     if own.is_empty() {
         return Ok(None);
     }
@@ -160,7 +162,7 @@ fn claim_next(ledger: &SharedLedger, seat: &mut Seat) -> Option<u32>
     requires place { seat.old.place ≡ ledger.now }
     requires stretches { ledger.now.shape.tests ≡ 64 }
     requires free { held_by seat.old.worker seat.old.seen ≡ None }
-    ensures claimed { IfSome result (λ part. ClaimsStretch seat.old part seat.new) }
+    ensures claimed { IfSome result (λ stretch. ClaimsStretch seat.old stretch seat.new) }
     ensures exhausted { IfNone result (SeesAllClaimed seat.old seat.new) }
 {
     let _sitter = seat.worker();
@@ -182,7 +184,7 @@ fn claim_next(ledger: &SharedLedger, seat: &mut Seat) -> Option<u32>
 /// Reports the stretch that a seat holds as done.
 fn report_done(ledger: &SharedLedger, seat: &mut Seat)
     requires place { seat.old.place ≡ ledger.now }
-    requires holding { (part : ℕ) × (held_by seat.old.worker seat.old.seen ≡ Some part) }
+    requires holding { (stretch : ℕ) × (held_by seat.old.worker seat.old.seen ≡ Some stretch) }
     ensures { Makes seat.old (Event.Report seat.old.worker Outcome.Clear) reply.Done seat.new }
 {
     let _sitter = seat.worker();
@@ -198,26 +200,27 @@ fn run_held<A: Goal, G: Gate>(
     job: &Job,
     cut: &Cut,
     ledger: &SharedLedger,
-    part: u32,
+    stretch: u32,
     member: &mut Member,
     seat: &mut Seat,
     goal: &A,
     gate: &G,
 ) -> Result<Done<A::Kept>, AllocError>
-    requires cut { IsCutOf job.now cut.now.from cut.now.parts cut.now.size cut.now.classes.items }
+    requires cut { IsCutOf job.now cut.now.from cut.now.stretches cut.now.size
+        cut.now.classes.items }
     requires place { seat.old.place ≡ ledger.now }
-    requires holding { held_by seat.old.worker seat.old.seen ≡ Some part }
+    requires holding { held_by seat.old.worker seat.old.seen ≡ Some stretch }
     requires serves { ServesRegions member.old.simulation job.now 0 }
     ensures done { IfOk result (IsDone (task_of job.now cut.now.from (A.wants goal.now)
         (A.means goal.now))
         cut.now.size cut.now.classes.items member.old.number (G.passing gate.now)
         (G.stops gate.now)) }
-    ensures part { IfOk result (λ done. done.part ≡ part) }
+    ensures stretch { IfOk result (λ done. done.stretch ≡ stretch) }
     ensures after { IfOk result (λ done. AfterRun seat.old done.waiting seat.new) }
     ensures member { member.new.number ≡ member.old.number }
     ensures serves { ServesRegions member.new.simulation job.now 0 }
 {
-    let done = run_stretch(alloc, job, cut, part, member, goal, gate)?;
+    let done = run_stretch(alloc, job, cut, stretch, member, goal, gate)?;
     if done.waiting.is_none() {
         report_done(ledger, seat);
     }
@@ -234,7 +237,8 @@ fn serve_seat<A: Goal, G: Gate>(
     gate: &G,
     seat: &mut Seat,
 ) -> Result<Vec<Done<A::Kept>>, AllocError>
-    requires cut { IsCutOf job.now cut.now.from cut.now.parts cut.now.size cut.now.classes.items }
+    requires cut { IsCutOf job.now cut.now.from cut.now.stretches cut.now.size
+        cut.now.classes.items }
     requires stretches { ledger.now.shape.tests ≡ 64 }
     requires new { seat.old ≡ newcomer ledger.now seat.old.worker }
     ensures { IfOk result (λ dones. HasServed
@@ -245,11 +249,21 @@ fn serve_seat<A: Goal, G: Gate>(
     let mut member = Member::new(alloc, job, seat.worker())?;
     let mut dones = Vec::new(alloc);
     'claims: loop {
-        let part = match claim_next(ledger, seat) {
-            Some(part) => part,
+        let stretch = match claim_next(ledger, seat) {
+            Some(stretch) => stretch,
             None => return Ok(dones),
         };
-        let done = run_held(alloc, job, cut, ledger, part, &mut member, seat, goal, gate)?;
+        let done = run_held(
+            alloc,
+            job,
+            cut,
+            ledger,
+            stretch,
+            &mut member,
+            seat,
+            goal,
+            gate,
+        )?;
         let stopped = done.waiting.is_some();
         dones.push(done)?;
         if stopped {
@@ -258,7 +272,7 @@ fn serve_seat<A: Goal, G: Gate>(
     }
 }
 
-/// Does the work of one thread.
+/// Does the work of one worker.
 fn serve<A: Goal, G: Gate>(
     alloc: Global,
     job: &Job,
@@ -268,7 +282,8 @@ fn serve<A: Goal, G: Gate>(
     gate: &G,
     seat: Seat,
 ) -> Result<Served<A::Kept>, AllocError>
-    requires cut { IsCutOf job.now cut.now.from cut.now.parts cut.now.size cut.now.classes.items }
+    requires cut { IsCutOf job.now cut.now.from cut.now.stretches cut.now.size
+        cut.now.classes.items }
     requires stretches { ledger.now.shape.tests ≡ 64 }
     requires new { seat ≡ newcomer ledger.now seat.worker }
     ensures { IfOk result (λ served. HasServed
@@ -308,8 +323,9 @@ where
         (G.passing p.gate.value) (G.stops p.gate.value) served.seat served.dones.items) };
 }
 
-/// Lets each seat's worker claim stretches in a thread of its own.
-pub(crate) fn take_parts<A: Goal + Sync, G: Gate + Sync, R: Threads + Wait>(
+/// Lets the worker of each seat claim stretches: a single one in the thread of the caller, and
+/// several in threads of their own.
+pub(crate) fn serve_all<A: Goal + Sync, G: Gate + Sync, R: Threads + Wait>(
     rt: &R,
     alloc: Global,
     job: &Job,
@@ -321,7 +337,63 @@ pub(crate) fn take_parts<A: Goal + Sync, G: Gate + Sync, R: Threads + Wait>(
 ) -> Result<Vec<Result<Served<A::Kept>, AllocError>>, RunFault>
 where
     A::Kept: Send,
-    requires cut { IsCutOf job.now cut.now.from cut.now.parts cut.now.size cut.now.classes.items }
+    requires cut { IsCutOf job.now cut.now.from cut.now.stretches cut.now.size
+        cut.now.classes.items }
+    requires stretches { ledger.now.shape.tests ≡ 64 }
+    requires new { seats.items ≡ newcomers ledger.now }
+    ensures served { IfOk result (λ back.
+        AreServed (task_of job.now cut.now.from (A.wants goal.now) (A.means goal.now)) cut.now.size
+        cut.now.classes.items ledger.now (G.passing gate.now) (G.stops gate.now) back.items) }
+    ensures refused { IfErr result (λ fault.
+        (fault ≡ RunFault.Memory) ⊎ (fault ≡ RunFault.Threads)) }
+{
+    if seats.len() == 1 {
+        let back = serve_here(alloc, job, cut, ledger, goal, gate, seats)?;
+        return Ok(back);
+    }
+    take_stretches(rt, alloc, job, cut, ledger, goal, gate, seats)
+}
+
+/// Lets the worker of each seat claim stretches in the thread of the caller, one after another.
+fn serve_here<A: Goal, G: Gate>(
+    alloc: Global,
+    job: &Job,
+    cut: &Cut,
+    ledger: &SharedLedger,
+    goal: &A,
+    gate: &G,
+    seats: Vec<Seat>,
+) -> Result<Vec<Result<Served<A::Kept>, AllocError>>, AllocError>
+    requires cut { IsCutOf job.now cut.now.from cut.now.stretches cut.now.size
+        cut.now.classes.items }
+    requires stretches { ledger.now.shape.tests ≡ 64 }
+    requires new { seats.items ≡ newcomers ledger.now }
+    ensures { IfOk result (λ back.
+        AreServed (task_of job.now cut.now.from (A.wants goal.now) (A.means goal.now)) cut.now.size
+        cut.now.classes.items ledger.now (G.passing gate.now) (G.stops gate.now) back.items) }
+{
+    let mut back = Vec::with_capacity(alloc, seats.len())?;
+    for seat in seats {
+        back.push(serve(alloc, job, cut, ledger, goal, gate, seat))?;
+    }
+    Ok(back)
+}
+
+/// Lets each seat's worker claim stretches in a thread of its own.
+fn take_stretches<A: Goal + Sync, G: Gate + Sync, R: Threads + Wait>(
+    rt: &R,
+    alloc: Global,
+    job: &Job,
+    cut: &Cut,
+    ledger: &SharedLedger,
+    goal: &A,
+    gate: &G,
+    seats: Vec<Seat>,
+) -> Result<Vec<Result<Served<A::Kept>, AllocError>>, RunFault>
+where
+    A::Kept: Send,
+    requires cut { IsCutOf job.now cut.now.from cut.now.stretches cut.now.size
+        cut.now.classes.items }
     requires stretches { ledger.now.shape.tests ≡ 64 }
     requires new { seats.items ≡ newcomers ledger.now }
     ensures served { IfOk result (λ back.
@@ -334,7 +406,7 @@ where
         thread::scope_env(),
         rt,
         |scope| -> Result<Vec<Result<Served<A::Kept>, AllocError>>, RunFault>
-            requires cut { IsCutOf job.now cut.now.from cut.now.parts cut.now.size
+            requires cut { IsCutOf job.now cut.now.from cut.now.stretches cut.now.size
                 cut.now.classes.items }
             requires stretches { ledger.now.shape.tests ≡ 64 }
             requires new { seats.items ≡ newcomers ledger.now }
@@ -375,16 +447,16 @@ where
     )
 }
 
-/// Returns an empty place for each part.
+/// Returns an empty place for each stretch.
 pub(crate) fn empty_table<K: Drop>(
     alloc: Global,
-    parts: u32,
+    stretches: u32,
 ) -> Result<Vec<Option<Done<K>>>, AllocError>
-    ensures count { IfOk result (λ table. vec_len table ≡ parts) }
+    ensures count { IfOk result (λ table. vec_len table ≡ stretches) }
     ensures none { IfOk result (λ table. All (λ at. IfSome at (λ _. ⊥)) table.items) }
 {
-    let mut table = Vec::with_capacity(alloc, parts as usize)?;
-    for _part in 0..parts {
+    let mut table = Vec::with_capacity(alloc, stretches as usize)?;
+    for _stretch in 0..stretches {
         table.push(None)?;
     }
     Ok(table)

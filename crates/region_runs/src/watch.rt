@@ -28,7 +28,7 @@ pub trait Watch: Gate {
     fn ends(&self) {}
 
     /// Takes the tests of a run of all classes of a job, which may stand apart from the job, and
-    /// its verdicts, before any text is written. A run of one part doesn't call it.
+    /// its verdicts, before any text is written. A run of one stretch doesn't call it.
     fn finds(&self, _job: &Job, _tests: &Tests, _verdicts: &Verdicts)
         requires { AreFirsts _job.now.list.model _job.now.circuit _tests.now.tests
             _verdicts.now.firsts }

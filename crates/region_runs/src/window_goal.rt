@@ -43,14 +43,12 @@ pub(crate) fn open_classes<A: Goal>(
     ensures { IfOk result (λ left.
         left.items ≡ open_classes (A.wants goal.now) classes.now kept.now) }
 {
-    let mut left = Vec::new(alloc);
-    for place in 0..classes.len() {
-        if !goal.is_open(&kept[place]) {
-            continue;
-        }
-        left.push(classes[place])?;
-    }
-    Ok(left)
+    classes
+        .iter()
+        .zip(kept)
+        .filter(|(_class, one)| goal.is_open(one))
+        .map(|(class, _one)| *class)
+        .collect(alloc)
 }
 
 /// Joins what is kept of classes with what was found of those of them that more tests can change,

@@ -19,7 +19,7 @@ ghost use Rattle.region_runs.specs.Windows.{AreKeptBelow, AreWordsFrom, GoesOnFr
 
 use crate::class_order::count_in;
 use crate::goal_run::GoalRun;
-use crate::parts::{ListRun, run_list_for};
+use crate::list_run::{ListRun, run_list_for};
 use crate::stretch_workers::starts;
 use crate::stretches::stretches_for;
 use crate::window_goal::{WindowGoal, join_window, open_classes};
@@ -212,38 +212,8 @@ pub(crate) fn forget_tests(alloc: Global, job: &mut Job) -> Result<(), AllocErro
     Ok(())
 }
 
-/// Returns the tests of a window, and has a job forget those of the window before at the same time,
-/// if there is a second worker.
-fn turn_to<R: Threads + Wait>(
-    rt: &R,
-    alloc: Global,
-    job: &mut Job,
-    tests: &Tests,
-    window: Window,
-    workers: u32,
-) -> Result<Tests, RunFault>
-    requires list { IsTestList tests.now }
-    requires window { (first : ℕ) × GoesOnFrom (blocks (length tests.now.tests)) first window }
-    ensures tests { IfOk result (λ some.
-        IsWindowOf tests.now.tests (64 * window.from) (64 * window.end) some.tests) }
-    ensures list { IfOk result (λ some. IsTestList some) }
-    ensures width { IfOk result (λ some. some.width ≡ tests.now.width) }
-    ensures refused { IfErr result (λ fault. fault ≡ RunFault.Memory) }
-    ensures kept { job.new ≡ with_tests job.old job.new.tests }
-{
-    if workers < 2 {
-        forget_tests(alloc, job)?;
-        return tests_of(alloc, tests, window);
-    }
-    let mut cut = move || tests_of(alloc, tests, window);
-    let mut forget = || forget_tests(alloc, job);
-    let (some, forgotten) = thread::join_mut(rt, &mut cut, &mut forget);
-    forgotten?;
-    some
-}
-
-/// Gives a job the tests of a window. It forgets those of the window before first, so that the job
-/// has the fault-free words of one window at a time.
+/// Gives a job the tests of a window. It forgets those of the window before first, and the fault-free
+/// words of the window take the memory of those before.
 pub(crate) fn take_window<R: Threads + Wait>(
     rt: &R,
     alloc: Global,
@@ -260,8 +230,9 @@ pub(crate) fn take_window<R: Threads + Wait>(
     ensures refused { IfErr result (λ fault. fault ≡ RunFault.Memory) }
     ensures kept { job.new ≡ with_tests job.old job.new.tests }
 {
-    let some = turn_to(rt, alloc, job, tests, window, workers)?;
-    job.set_tests_of_any_size_in_threads(rt, alloc, some, workers)?;
+    let spare = job.give_words(alloc)?;
+    let some = tests_of(alloc, tests, window)?;
+    job.set_tests_over(rt, alloc, some, spare, workers)?;
     Ok(())
 }
 
@@ -466,10 +437,10 @@ where
     Ok(kept)
 }
 
-/// Runs all classes of a job for a goal on a list of tests that is not its own, window by window: on
-/// this number of blocks at a time ([`window_blocks`] suits), with the fault-free words of these and
-/// of the block before. The workers run the open classes of each window in a number of stretches
-/// that suits them. The job has no tests then, so that no fault-free words take memory.
+/// Runs all classes of a job for a goal on a list of tests that is not its own, window by window:
+/// on this number of blocks at a time ([`window_blocks`] suits), with the fault-free words of these
+/// and of the block before. The workers run the open classes of each window in a number of
+/// stretches that suits them. The job has no tests then, so that no fault-free words take memory.
 ///
 /// # Errors
 ///

@@ -22,7 +22,7 @@ use block_sim::block_view::BlockView;
 use block_sim::fault_site::gate_change;
 use block_sim::origin::Origin;
 use block_sim::propagation_state::PropagationState;
-use block_sim::words::evaluate_gate;
+use block_sim::words::evaluate_turned;
 use fault_model::Line;
 
 /// A signal that a fault reaches, and the lanes in which it does.
@@ -56,11 +56,8 @@ pub fn cross(view: BlockView<'_>, at: Arrival, gate: u32, changes: &mut Propagat
 {
     match view.circuit.gate_of(gate) {
         Some(driver) => {
-            changes.overlay.change(at.signal, at.lanes);
-            let delta = changes.overlay.words();
             let evaluations = &mut changes.evaluations;
-            let word = evaluate_gate(driver, gate, None, view.good, delta, evaluations);
-            changes.overlay.clear();
+            let word = evaluate_turned(driver, at.signal, at.lanes, view.good, evaluations);
             (word ^ view.good[gate as usize]) & view.lanes
         }
         None => unreachable!(),

@@ -39,11 +39,11 @@ taken_of_job job contents firsts IsTaken are taken = (
 )
 
 -- so is the report of verdicts that ledgers handed out
-pub taken_by_ledgers : (job : Parts) (parts workers : ℕ) (contents : Contents) (v : VerdictList)
-    (IsTaken : List ℕ → Type 0) → AreByLedgers job parts workers v
+pub taken_by_ledgers : (job : Parts) (stretches workers : ℕ) (contents : Contents) (v : VerdictList)
+    (IsTaken : List ℕ → Type 0) → AreByLedgers job stretches workers v
     → IsTaken (whole_report job.list.model job.circuit job.classes v.firsts contents)
-    → (text : List ℕ) × IsReportByLedgers job parts workers contents text × IsTaken text
-taken_by_ledgers job parts workers contents v IsTaken by taken = (
+    → (text : List ℕ) × IsReportByLedgers job stretches workers contents text × IsTaken text
+taken_by_ledgers job stretches workers contents v IsTaken by taken = (
   whole_report job.list.model job.circuit job.classes v.firsts contents,
   (v, by, refl),
   taken,

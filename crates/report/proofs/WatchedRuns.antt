@@ -7,7 +7,7 @@ use Rattle.workers.specs.declared.RunFault.TheVariants as run_fault
 use Rattle.workers.specs.Refused.{IsRunFault}
 use Rattle.workers.specs.Stops.{Stops, no_stop}
 use Rattle.region_runs.specs.Part.{stretches_of}
-use Rattle.region_runs.specs.Refused.{IsPartsFault}
+use Rattle.region_runs.specs.Refused.{IsFirstsFault}
 use Rattle.job_loading.specs.declared.fault.SimFault.{SimFault}
 use Rattle.job_loading.specs.declared.fault.SimFault.TheVariants as fault
 use Rattle.job_loading.specs.declared.runs.Limit.{Limit}
@@ -21,7 +21,7 @@ pub run_refused : (m : Model) (bench text : List ℕ) (l : Limit) (stretches : O
     (workers : ℕ) (passing : Type 0) (stops : Stops) (job : Parts)
     → IsLimitedJob m bench text l job → (f : SimFault)
     → IsJobReportFault workers
-    (IsPartsFault job (stretches_of stretches job workers) workers passing stops) f
+    (IsFirstsFault job (stretches_of stretches job workers) workers passing stops) f
     → IsWatchedFault m bench text l stretches workers passing stops f
 run_refused m bench text l stretches workers passing stops job of (fault.Run f) h = (job, of, h)
 run_refused m bench text l stretches workers passing stops job of (fault.Report f) h =
@@ -48,22 +48,22 @@ read_refused m bench text l stretches workers passing stops (fault.Job f) h = h
 read_refused m bench text l stretches workers passing stops fault.Memory h = h
 
 -- a run in stretches whose gate lets every piece pass has the errors of a run
-parts_fault : (job : Parts) (parts workers : ℕ) (f : RunFault)
-    → IsPartsFault job parts workers ⊤ no_stop f → IsRunFault job workers ⊤ no_stop f
-parts_fault job parts workers run_fault.NoWorkers h = h
-parts_fault job parts workers run_fault.TooManyWorkers h = h
-parts_fault job parts workers (run_fault.NoSuchMove index) h = h
-parts_fault job parts workers run_fault.TooManyPieces h = absurd h
-parts_fault job parts workers run_fault.Memory h = h
-parts_fault job parts workers run_fault.Threads h = h
-parts_fault job parts workers (run_fault.Unfinished class block) h = absurd (h.4 tt)
+firsts_fault : (job : Parts) (stretches workers : ℕ) (f : RunFault)
+    → IsFirstsFault job stretches workers ⊤ no_stop f → IsRunFault job workers ⊤ no_stop f
+firsts_fault job stretches workers run_fault.NoWorkers h = h
+firsts_fault job stretches workers run_fault.TooManyWorkers h = h
+firsts_fault job stretches workers (run_fault.NoSuchMove index) h = h
+firsts_fault job stretches workers run_fault.TooManyPieces h = absurd h
+firsts_fault job stretches workers run_fault.Memory h = h
+firsts_fault job stretches workers run_fault.Threads h = h
+firsts_fault job stretches workers (run_fault.Unfinished class block) h = absurd (h.4 tt)
 
 -- the errors of a run whose gate lets every piece pass are the errors of a run without a gate
 pub open_fault : (m : Model) (bench text : List ℕ) (workers : ℕ) (f : SimFault)
     → IsWatchedFault m bench text limit.Pieces None workers ⊤ no_stop f
     → IsReportFault m bench text workers f
 open_fault m bench text workers (fault.Run f) h =
-    (h.0, h.1, parts_fault h.0 (stretches_of None h.0 workers) workers f h.2)
+    (h.0, h.1, firsts_fault h.0 (stretches_of None h.0 workers) workers f h.2)
 open_fault m bench text workers (fault.Report f) h = h
 open_fault m bench text workers (fault.Bench f) h = h
 open_fault m bench text workers (fault.Tests f) h = h

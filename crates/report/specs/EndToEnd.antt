@@ -18,7 +18,7 @@ use Rattle.workers.specs.Refused.{IsScheduleFault}
 use Rattle.workers.specs.Stops.{Stops, no_stop}
 use Rattle.workers.specs.Verdict.{AreFirsts, VerdictList}
 use Rattle.region_runs.specs.Part.{stretches_of}
-use Rattle.region_runs.specs.Refused.{IsPartsFault}
+use Rattle.region_runs.specs.Refused.{IsFirstsFault}
 use Rattle.job_loading.specs.declared.fault.SimFault.{SimFault}
 use Rattle.job_loading.specs.declared.fault.SimFault.TheVariants as fault
 use Rattle.job_loading.specs.declared.runs.Limit.{Limit}
@@ -37,10 +37,10 @@ IsReportOf m bench text contents bytes = (c : List Statement) × (tests : TestLi
     × HasTests text (length (sources c)) tests × AreClassesOf m c classes
     × AreFirsts m c tests.tests firsts × (bytes ≡ whole_report m c classes firsts contents)
 
--- the bytes are the report of verdicts on a job that ledgers handed out in this number of parts
+-- the bytes are the report of verdicts on a job that ledgers handed out in this number of stretches
 abbrev pub IsReportByLedgers : Parts → ℕ → ℕ → Contents → List ℕ → Type 0
-IsReportByLedgers job parts workers contents bytes = (v : VerdictList)
-    × AreByLedgers job parts workers v
+IsReportByLedgers job stretches workers contents bytes = (v : VerdictList)
+    × AreByLedgers job stretches workers v
     × (bytes ≡ whole_report job.list.model job.circuit job.classes v.firsts contents)
 
 -- the same for a bench file and a test file under a model, in the requested number of stretches, if
@@ -100,7 +100,7 @@ abbrev pub IsWatchedFault : Model → List ℕ → List ℕ → Limit → Option
     → SimFault → Type 0
 IsWatchedFault m bench text l stretches workers passing stops (fault.Run f) =
     (job : Parts) × IsLimitedJob m bench text l job
-    × IsPartsFault job (stretches_of stretches job workers) workers passing stops f
+    × IsFirstsFault job (stretches_of stretches job workers) workers passing stops f
 IsWatchedFault m bench text l stretches workers passing stops (fault.Report f) =
     (job : Parts) × IsLimitedJob m bench text l job × (0 < workers) × (workers ≤ 64)
 IsWatchedFault m bench text l stretches workers passing stops f = IsLimitFault m bench text l f

@@ -8,7 +8,7 @@ ghost use Rattle.byte_output.specs.Output.{Writes};
 ghost use Rattle.report.specs.Curve.{IsCurveOfJob, curve, curve_text};
 ghost use Rattle.report.specs.Curve.{counts_at, news_at, point_line};
 ghost use Rattle.report.specs.EndToEnd.{IsJobTextFault, WritesOneOf};
-ghost use Rattle.region_runs.specs.Refused.{IsPartsFault};
+ghost use Rattle.region_runs.specs.Refused.{IsFirstsFault};
 
 use crate::report::{hundredths, put_coverage};
 use block_sim::Job;
@@ -33,7 +33,7 @@ pub struct CurvePoint {
     pub detected: u32,
 }
 
-/// Runs a job in a number of parts by workers in threads of their own, and writes its curve, as
+/// Runs a job in a number of stretches by workers in threads of their own, and writes its curve, as
 /// [`crate::write_report_of_run`] writes its report. The curve has a line `TEST DETECTED P.PP` for
 /// each test that is the first to detect some fault, in order. The coverage line follows.
 ///
@@ -51,22 +51,22 @@ pub fn write_curve_of_run<R: Threads + Wait, G: Watch + Sync, W: Out>(
     rt: &R,
     alloc: Global,
     run: &mut RunJob,
-    parts: u32,
+    stretches: u32,
     workers: u32,
     gate: &G,
     out: &mut W,
 ) -> Result<(), SimFault>
-    requires job { BelongTogether run.old.parts }
+    requires job { BelongTogether run.old.whole }
     requires gate { run.old.apart ≡ true → G.passing gate.now }
-    requires parts { 0 < parts }
-    ensures written { WritesOneOf (IsCurveOfJob run.old.parts) result (W.seen out.old)
+    requires stretches { 0 < stretches }
+    ensures written { WritesOneOf (IsCurveOfJob run.old.whole) result (W.seen out.old)
         (W.seen out.new) }
     ensures refused { IfErr result (IsJobTextFault workers
-        (IsPartsFault run.old.parts parts workers (G.passing gate.now) (G.stops gate.now))) }
+        (IsFirstsFault run.old.whole stretches workers (G.passing gate.now) (G.stops gate.now))) }
     ensures workers { OnOk result ((0 < workers) × (workers ≤ 64)) }
     ensures kept { run.new ≡ run.old }
 {
-    let verdicts = run.run(rt, alloc, parts, workers, gate)?;
+    let verdicts = run.run(rt, alloc, stretches, workers, gate)?;
     let points = curve_of(alloc, &verdicts, run.tests().count())?;
     write_curve(run.job(), &verdicts, &points, out)?;
     Ok(())

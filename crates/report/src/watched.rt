@@ -4,7 +4,7 @@ ghost use Rattle.std.specs.Prelude.{◌≡◌, ◌<◌, ◌≤◌, IfErr, OnOk, 
 ghost use Rattle.patterns.specs.Tests.{TestList};
 ghost use Rattle.block_sim.specs.Parts.{BelongTogether, Parts, with_tests};
 ghost use Rattle.job_loading.specs.Limits.{IsLimitedJob};
-ghost use Rattle.region_runs.specs.Refused.{IsPartsFault};
+ghost use Rattle.region_runs.specs.Refused.{IsFirstsFault};
 ghost use Rattle.workers.specs.declared.RunFault.{RunFault};
 ghost use Rattle.report.specs.EndToEnd.{IsJobReportFault, IsReportByLedgers, IsReportOf};
 ghost use Rattle.report.specs.EndToEnd.{IsReportOfByLedgers, IsReportOfJob};
@@ -56,12 +56,12 @@ pub fn simulate_text_watched<R: Threads + Wait, G: Watch + Sync, W: Out>(
 {
     let apart = gate.lets_all_pass();
     let mut run = read_run(rt, alloc, model, bench, tests, limit, apart, workers)?;
-    let parts = run.stretches(stretches, workers);
-    write_report_of_run(rt, alloc, &mut run, parts, workers, contents, gate, out)
+    let count = run.stretches(stretches, workers);
+    write_report_of_run(rt, alloc, &mut run, count, workers, contents, gate, out)
 }
 
-/// Runs a job in a number of parts by workers in threads of their own, and writes its report. It
-/// calls the gate when the run begins and when all is settled.
+/// Runs a job in a number of stretches by workers in threads of their own, and writes its report.
+/// It calls the gate when the run begins and when all is settled.
 ///
 /// It is the second half of [`simulate_text_watched`], for a job that stands: such as that of a
 /// test file that was read piece by piece ([`job_loading::read_run_in_pieces`]). If there is more
@@ -72,27 +72,28 @@ pub fn write_report_of_run<R: Threads + Wait, G: Watch + Sync, W: Out>(
     rt: &R,
     alloc: Global,
     run: &mut RunJob,
-    parts: u32,
+    stretches: u32,
     workers: u32,
     contents: Contents,
     gate: &G,
     out: &mut W,
 ) -> Result<(), SimFault>
-    requires job { BelongTogether run.old.parts }
+    requires job { BelongTogether run.old.whole }
     requires gate { run.old.apart ≡ true → G.passing gate.now }
-    requires parts { 0 < parts }
-    ensures written { WritesOneOf (IsReportOfJob run.old.parts contents) result
+    requires stretches { 0 < stretches }
+    ensures written { WritesOneOf (IsReportOfJob run.old.whole contents) result
         (W.seen out.old) (W.seen out.new) }
-    ensures ledgers { WritesOneOf (IsReportByLedgers run.old.parts parts workers contents) result
+    ensures ledgers { WritesOneOf (IsReportByLedgers run.old.whole stretches workers contents)
+        result
         (W.seen out.old) (W.seen out.new) }
     ensures refused { IfErr result (IsJobReportFault workers
-        (IsPartsFault run.old.parts parts workers (G.passing gate.now) (G.stops gate.now))) }
+        (IsFirstsFault run.old.whole stretches workers (G.passing gate.now) (G.stops gate.now))) }
     ensures workers { OnOk result ((0 < workers) × (workers ≤ 64)) }
-    ensures kept { (some : TestList) × (run.new.parts ≡ with_tests run.old.parts some) }
+    ensures kept { (some : TestList) × (run.new.whole ≡ with_tests run.old.whole some) }
     ensures unchanged { (fault : RunFault) → result ≡ Err (SimFault.Run fault)
         → run.new ≡ run.old }
 {
-    let verdicts = run.run(rt, alloc, parts, workers, gate)?;
+    let verdicts = run.run(rt, alloc, stretches, workers, gate)?;
     let freeing = free_tests_in_thread(rt, alloc, run, workers);
     let written = write_report_in_threads(rt, alloc, run.job(), &verdicts, contents, workers, out);
     if let Some(thread) = freeing {
@@ -110,10 +111,10 @@ fn free_tests_in_thread<R: Threads>(
     run: &mut RunJob,
     workers: u32,
 ) -> Option<JoinHandle<()>>
-    ensures circuit { run.new.parts.circuit ≡ run.old.parts.circuit }
-    ensures list { run.new.parts.list ≡ run.old.parts.list }
-    ensures classes { run.new.parts.classes ≡ run.old.parts.classes }
-    ensures kept { (some : TestList) × (run.new.parts ≡ with_tests run.old.parts some) }
+    ensures circuit { run.new.whole.circuit ≡ run.old.whole.circuit }
+    ensures list { run.new.whole.list ≡ run.old.whole.list }
+    ensures classes { run.new.whole.classes ≡ run.old.whole.classes }
+    ensures kept { (some : TestList) × (run.new.whole ≡ with_tests run.old.whole some) }
 {
     if workers < 2 {
         return None;

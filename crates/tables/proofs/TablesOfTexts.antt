@@ -13,7 +13,7 @@ use Rattle.job_loading.specs.declared.fault.SimFault.TheVariants as fault
 use Rattle.byte_output.specs.Output.{Output}
 use Rattle.report.specs.declared.contents.Lines.{Lines}
 use Rattle.report.specs.EndToEnd.{IsListingFault, WritesOneOf}
-use Rattle.region_runs.specs.Refused.{IsOpenFault, IsPartsFault}
+use Rattle.region_runs.specs.Refused.{IsFirstsFault, IsOpenFault}
 use Rattle.workers.specs.declared.RunFault.{RunFault}
 use Rattle.workers.specs.declared.RunFault.TheVariants as run_fault
 use Rattle.workers.specs.Stops.{Stops}
@@ -86,12 +86,12 @@ firsts_table job firsts lines wanted further format listed are all bytes is = (
 )
 
 -- an error of the second run is an error of the first run, too
-pub counts_fault : (job : Parts) (parts workers : ℕ) (passing : Type 0) (stops : Stops)
-    (f : RunFault) → IsOpenFault workers f → IsPartsFault job parts workers passing stops f
-counts_fault job parts workers passing stops run_fault.Memory h = h
-counts_fault job parts workers passing stops run_fault.Threads h = h
-counts_fault job parts workers passing stops run_fault.TooManyPieces h = absurd h
-counts_fault job parts workers passing stops (run_fault.Unfinished class block) h = absurd h
-counts_fault job parts workers passing stops run_fault.NoWorkers h = h
-counts_fault job parts workers passing stops run_fault.TooManyWorkers h = h
-counts_fault job parts workers passing stops (run_fault.NoSuchMove index) h = h
+pub counts_fault : (job : Parts) (stretches workers : ℕ) (passing : Type 0) (stops : Stops)
+    (f : RunFault) → IsOpenFault workers f → IsFirstsFault job stretches workers passing stops f
+counts_fault job stretches workers passing stops run_fault.Memory h = h
+counts_fault job stretches workers passing stops run_fault.Threads h = h
+counts_fault job stretches workers passing stops run_fault.TooManyPieces h = absurd h
+counts_fault job stretches workers passing stops (run_fault.Unfinished class block) h = absurd h
+counts_fault job stretches workers passing stops run_fault.NoWorkers h = h
+counts_fault job stretches workers passing stops run_fault.TooManyWorkers h = h
+counts_fault job stretches workers passing stops (run_fault.NoSuchMove index) h = h

@@ -8,7 +8,7 @@ ghost use Rattle.csv.specs.Writing.{default_writer, row_text};
 ghost use Rattle.fault_model.specs.Fault.{faults};
 ghost use Rattle.block_coverage.specs.Blocks.{byte_of, cells_in};
 ghost use Rattle.block_sim.specs.Parts.{BelongTogether};
-ghost use Rattle.region_runs.specs.Refused.{IsPartsFault};
+ghost use Rattle.region_runs.specs.Refused.{IsFirstsFault};
 ghost use Rattle.report.specs.EndToEnd.{IsJobTextFault, IsListFault, WritesOneOf};
 ghost use Rattle.report.specs.Report.{percentage};
 ghost use Rattle.part_files.specs.Merging.{run_of};
@@ -33,8 +33,8 @@ use std::alloc::{AllocError, Global};
 use std::sync::Wait;
 use std::thread::Threads;
 
-/// Runs a job in a number of parts by workers in threads of their own, and writes the table of the
-/// coverage of its blocks, as `report::write_report_of_run` writes its report.
+/// Runs a job in a number of stretches by workers in threads of their own, and writes the table of
+/// the coverage of its blocks, as `report::write_report_of_run` writes its report.
 ///
 /// A row has a block, how many of its faults are detected, how many it has, and the percentage,
 /// rounded down. [`block_coverage::block_rows`] defines the blocks and their order. All faults of
@@ -55,25 +55,25 @@ pub fn write_block_table_of_run<R: Threads + Wait, G: Watch + Sync, W: Out>(
     rt: &R,
     alloc: Global,
     run: &mut RunJob,
-    parts: u32,
+    stretches: u32,
     workers: u32,
     separator: Separator,
     format: Format,
     gate: &G,
     out: &mut W,
 ) -> Result<(), SimFault>
-    requires job { BelongTogether run.old.parts }
+    requires job { BelongTogether run.old.whole }
     requires gate { run.old.apart ≡ true → G.passing gate.now }
-    requires parts { 0 < parts }
+    requires stretches { 0 < stretches }
     ensures written { WritesOneOf
-        (IsBlockTableOfJob run.old.parts (byte_of separator) format) result
+        (IsBlockTableOfJob run.old.whole (byte_of separator) format) result
         (W.seen out.old) (W.seen out.new) }
     ensures refused { IfErr result (IsJobTextFault workers
-        (IsPartsFault run.old.parts parts workers (G.passing gate.now) (G.stops gate.now))) }
+        (IsFirstsFault run.old.whole stretches workers (G.passing gate.now) (G.stops gate.now))) }
     ensures workers { OnOk result ((0 < workers) × (workers ≤ 64)) }
     ensures kept { run.new ≡ run.old }
 {
-    let verdicts = run.run(rt, alloc, parts, workers, gate)?;
+    let verdicts = run.run(rt, alloc, stretches, workers, gate)?;
     let detected = detected_flags(alloc, &verdicts)?;
     let job = run.job();
     write_block_table(

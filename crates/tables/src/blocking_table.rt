@@ -7,7 +7,7 @@ ghost use Rattle.std.specs.List.{flat_map};
 ghost use Rattle.csv.specs.Writing.{default_writer, row_text};
 ghost use Rattle.block_sim.specs.Parts.{BelongTogether};
 ghost use Rattle.blocking_pins.specs.Blocking.{AreDetected};
-ghost use Rattle.region_runs.specs.Refused.{IsPartsFault};
+ghost use Rattle.region_runs.specs.Refused.{IsFirstsFault};
 ghost use Rattle.report.specs.EndToEnd.{IsJobTextFault, IsListFault, WritesOneOf};
 ghost use Rattle.analysis_reports.specs.BlockingReports.{HasNames, cells_in, pin_cells};
 ghost use Rattle.tables.specs.BlockingTables.{IsBlockingTable, IsBlockingTableOfJob, csv_pin};
@@ -30,9 +30,9 @@ use std::alloc::{AllocError, Global};
 use std::sync::Wait;
 use std::thread::Threads;
 
-/// Runs a job in a number of parts by workers in threads of their own, and writes the table of the
-/// pins that block the effects of undetected faults, as `report::write_report_of_run` writes its
-/// report. Then the run has its tests as its own, with their fault-free words
+/// Runs a job in a number of stretches by workers in threads of their own, and writes the table of
+/// the pins that block the effects of undetected faults, as `report::write_report_of_run` writes
+/// its report. Then the run has its tests as its own, with their fault-free words
 /// ([`RunJob::hold_tests`]).
 ///
 /// A row has the name of the gate, the number of the pin from 1, the name of the signal that it
@@ -54,31 +54,31 @@ pub fn write_blocking_table_of_run<R: Threads + Wait, G: Watch + Sync, W: Out>(
     rt: &R,
     alloc: Global,
     run: &mut RunJob,
-    parts: u32,
+    stretches: u32,
     workers: u32,
     format: Format,
     gate: &G,
     out: &mut W,
 ) -> Result<(), SimFault>
-    requires job { BelongTogether run.old.parts }
+    requires job { BelongTogether run.old.whole }
     requires gate { run.old.apart ≡ true → G.passing gate.now }
-    requires parts { 0 < parts }
-    ensures written { WritesOneOf (IsBlockingTableOfJob run.old.parts format) result
+    requires stretches { 0 < stretches }
+    ensures written { WritesOneOf (IsBlockingTableOfJob run.old.whole format) result
         (W.seen out.old) (W.seen out.new) }
     ensures refused { IfErr result (IsJobTextFault workers
-        (IsPartsFault run.old.parts parts workers (G.passing gate.now) (G.stops gate.now))) }
+        (IsFirstsFault run.old.whole stretches workers (G.passing gate.now) (G.stops gate.now))) }
     ensures workers { OnOk result ((0 < workers) × (workers ≤ 64)) }
-    ensures kept { run.new.parts ≡ run.old.parts }
+    ensures kept { run.new.whole ≡ run.old.whole }
 {
-    let verdicts = run.run(rt, alloc, parts, workers, gate)?;
+    let verdicts = run.run(rt, alloc, stretches, workers, gate)?;
     let detected = detected_flags(alloc, &verdicts)?;
     run.hold_tests(rt, alloc, workers)?;
     write_blocking_table(alloc, run.job(), &detected, format, out)
 }
 
 /// Writes the table of the pins of a job that block effects of undetected faults, as
-/// [`write_blocking_table_of_run`] does. `detected` has a flag for each fault of the list: whether a
-/// test detects it.
+/// [`write_blocking_table_of_run`] does. `detected` has a flag for each fault of the list: whether
+/// a test detects it.
 ///
 /// # Errors
 ///

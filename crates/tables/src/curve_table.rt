@@ -8,7 +8,7 @@ ghost use Rattle.tables.specs.CurveTables.{IsCurveTableOfJob, csv_point};
 ghost use Rattle.tables.specs.CurveTables.{curve_table, json_point, point_row, points_csv};
 ghost use Rattle.tables.specs.CurveTables.{points_json};
 ghost use Rattle.tables.specs.Tables.{coverage_object};
-ghost use Rattle.region_runs.specs.Refused.{IsPartsFault};
+ghost use Rattle.region_runs.specs.Refused.{IsFirstsFault};
 
 use crate::json_table::{add_pieces, hundredths, without_first};
 use crate::table::{Format, put_text};
@@ -20,8 +20,8 @@ use std::alloc::{AllocError, Global};
 use std::sync::Wait;
 use std::thread::Threads;
 
-/// Runs a job in a number of parts by workers in threads of their own, and writes a table of its
-/// curve, as `report::write_report_of_run` writes its report. The table has a row for each test
+/// Runs a job in a number of stretches by workers in threads of their own, and writes a table of
+/// its curve, as `report::write_report_of_run` writes its report. The table has a row for each test
 /// that is the first to detect some fault, in order. A row has the test's number from 0 and the
 /// number of faults that it is the first to detect. Then it has the number of faults that it and
 /// the tests before it detect, also in percent.
@@ -40,23 +40,23 @@ pub fn write_curve_table_of_run<R: Threads + Wait, G: Watch + Sync, W: Out>(
     rt: &R,
     alloc: Global,
     run: &mut RunJob,
-    parts: u32,
+    stretches: u32,
     workers: u32,
     format: Format,
     gate: &G,
     out: &mut W,
 ) -> Result<(), SimFault>
-    requires job { BelongTogether run.old.parts }
+    requires job { BelongTogether run.old.whole }
     requires gate { run.old.apart ≡ true → G.passing gate.now }
-    requires parts { 0 < parts }
-    ensures written { WritesOneOf (IsCurveTableOfJob run.old.parts format) result
+    requires stretches { 0 < stretches }
+    ensures written { WritesOneOf (IsCurveTableOfJob run.old.whole format) result
         (W.seen out.old) (W.seen out.new) }
     ensures refused { IfErr result (IsJobTextFault workers
-        (IsPartsFault run.old.parts parts workers (G.passing gate.now) (G.stops gate.now))) }
+        (IsFirstsFault run.old.whole stretches workers (G.passing gate.now) (G.stops gate.now))) }
     ensures workers { OnOk result ((0 < workers) × (workers ≤ 64)) }
     ensures kept { run.new ≡ run.old }
 {
-    let verdicts = run.run(rt, alloc, parts, workers, gate)?;
+    let verdicts = run.run(rt, alloc, stretches, workers, gate)?;
     let points = curve_of(alloc, &verdicts, run.tests().count())?;
     let total = verdicts.total();
     stems();

@@ -23,7 +23,7 @@ use std::alloc::{AllocError, Global};
 use std::sync::Wait;
 use std::thread::Threads;
 
-/// Runs a job in a number of parts, and writes a table of how many faults each number of tests
+/// Runs a job in a number of stretches, and writes a table of how many faults each number of tests
 /// detects. It has a row for each count from 0 to `most`. The last row counts the faults that at
 /// least `most` tests detect.
 ///
@@ -47,22 +47,22 @@ pub fn write_histogram_table_of_run<R: Threads + Wait, G: Watch + Sync, W: Out>(
     rt: &R,
     alloc: Global,
     run: &mut RunJob,
-    parts: u32,
+    stretches: u32,
     workers: u32,
     most: u32,
     format: Format,
     gate: &G,
     out: &mut W,
 ) -> Result<(), SimFault>
-    requires job { BelongTogether run.old.parts }
-    requires parts { 0 < parts }
+    requires job { BelongTogether run.old.whole }
+    requires stretches { 0 < stretches }
     requires passing { G.passing gate.now }
-    ensures written { WritesOneOf (IsHistogramTableOfJob run.old.parts most format) result
+    ensures written { WritesOneOf (IsHistogramTableOfJob run.old.whole most format) result
         (W.seen out.old) (W.seen out.new) }
     ensures refused { IfErr result (IsJobReportFault workers (IsOpenFault workers)) }
     ensures workers { OnOk result ((0 < workers) × (workers ≤ 64)) }
 {
-    let counts = detections(rt, alloc, run, most, parts, workers, gate)?;
+    let counts = detections(rt, alloc, run, most, stretches, workers, gate)?;
     let job = run.job();
     let signals = job.circuit().signals();
     prove!(signals > 0);

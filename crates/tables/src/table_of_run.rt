@@ -3,7 +3,7 @@
 ghost use Rattle.std.specs.Prelude.{◌≡◌, ◌<◌, ◌≤◌, ◌++◌, IfErr, IfOk, IsSome, OnOk, map, true};
 ghost use Rattle.std.specs.Prelude.{option_map};
 ghost use Rattle.block_sim.specs.Parts.{BelongTogether};
-ghost use Rattle.region_runs.specs.Refused.{IsOpenFault, IsPartsFault};
+ghost use Rattle.region_runs.specs.Refused.{IsFirstsFault, IsOpenFault};
 ghost use Rattle.report.specs.EndToEnd.{IsJobTextFault, WritesOneOf};
 ghost use Rattle.workers.specs.Verdict.{AreFirsts};
 ghost use Rattle.tables.specs.FurtherColumns.{HasClasses, HasCounts, HasReasons, class_cells};
@@ -36,8 +36,8 @@ pub struct FurtherColumns {
     pub classes: bool,
 }
 
-/// Runs a job in a number of parts by workers in threads of their own, and writes a table of its
-/// faults with the first test that detects each, as `report::write_report_of_run` writes its
+/// Runs a job in a number of stretches by workers in threads of their own, and writes a table of
+/// its faults with the first test that detects each, as `report::write_report_of_run` writes its
 /// report. With [`Lines::Undetected`] only the undetected faults have a row, and else all have one.
 ///
 /// The further columns that are requested are the last columns, or the last members of each object.
@@ -56,7 +56,7 @@ pub fn write_table_of_run<R: Threads + Wait, G: Watch + Sync, W: Out>(
     rt: &R,
     alloc: Global,
     run: &mut RunJob,
-    parts: u32,
+    stretches: u32,
     workers: u32,
     lines: Lines,
     wanted: FurtherColumns,
@@ -64,20 +64,20 @@ pub fn write_table_of_run<R: Threads + Wait, G: Watch + Sync, W: Out>(
     gate: &G,
     out: &mut W,
 ) -> Result<(), SimFault>
-    requires job { BelongTogether run.old.parts }
+    requires job { BelongTogether run.old.whole }
     requires gate { run.old.apart ≡ true → G.passing gate.now }
     requires counted { IsSome wanted.detections → G.passing gate.now }
-    requires parts { 0 < parts }
-    ensures written { WritesOneOf (IsFirstTableOfJob run.old.parts lines wanted format) result
+    requires stretches { 0 < stretches }
+    ensures written { WritesOneOf (IsFirstTableOfJob run.old.whole lines wanted format) result
         (W.seen out.old) (W.seen out.new) }
     ensures refused { IfErr result (IsJobTextFault workers
-        (IsPartsFault run.old.parts parts workers (G.passing gate.now) (G.stops gate.now))) }
+        (IsFirstsFault run.old.whole stretches workers (G.passing gate.now) (G.stops gate.now))) }
     ensures workers { OnOk result ((0 < workers) × (workers ≤ 64)) }
     ensures kept { run.new ≡ run.old }
 {
-    let verdicts = run.run(rt, alloc, parts, workers, gate)?;
+    let verdicts = run.run(rt, alloc, stretches, workers, gate)?;
     let reasons = find_reasons(rt, alloc, run, &verdicts, wanted.reasons, workers, gate)?;
-    let counts = find_counts(rt, alloc, run, wanted.detections, parts, workers, gate)?;
+    let counts = find_counts(rt, alloc, run, wanted.detections, stretches, workers, gate)?;
     let job = run.job();
     let classes = classes_if(job, wanted.classes);
     let further = further_columns(alloc, &reasons, &counts, classes)?;
@@ -100,9 +100,9 @@ fn find_reasons<R: Threads + Wait, G: Watch + Sync>(
     workers: u32,
     gate: &G,
 ) -> Result<Option<Vec<Option<Reason>>>, RunFault>
-    requires { AreFirsts run.old.parts.list.model run.old.parts.circuit run.old.parts.tests.tests
+    requires { AreFirsts run.old.whole.list.model run.old.whole.circuit run.old.whole.tests.tests
         verdicts.now.firsts }
-    ensures reasons { IfOk result (λ reasons. HasReasons run.old.parts verdicts.now.firsts wanted
+    ensures reasons { IfOk result (λ reasons. HasReasons run.old.whole verdicts.now.firsts wanted
         (column_of reason_cells (option_map (λ r. r.items) reasons))) }
     ensures refused { IfErr result (λ fault. fault ≡ RunFault.Memory) }
     ensures kept { run.new ≡ run.old }
@@ -121,13 +121,13 @@ fn find_counts<R: Threads + Wait, G: Watch + Sync>(
     alloc: Global,
     run: &mut RunJob,
     wanted: Option<u32>,
-    parts: u32,
+    stretches: u32,
     workers: u32,
     gate: &G,
 ) -> Result<Option<Vec<u32>>, RunFault>
     requires counted { IsSome wanted → G.passing gate.now }
-    requires parts { 0 < parts }
-    ensures counts { IfOk result (λ counts. HasCounts run.old.parts wanted
+    requires stretches { 0 < stretches }
+    ensures counts { IfOk result (λ counts. HasCounts run.old.whole wanted
         (column_of count_cells (option_map (λ n. n.items) counts))) }
     ensures refused { IfErr result (IsOpenFault workers) }
     ensures kept { run.new ≡ run.old }
@@ -135,7 +135,7 @@ fn find_counts<R: Threads + Wait, G: Watch + Sync>(
     let Some(most) = wanted else {
         return Ok(None);
     };
-    let counts = detections(rt, alloc, run, most, parts, workers, gate)?;
+    let counts = detections(rt, alloc, run, most, stretches, workers, gate)?;
     Ok(Some(counts))
 }
 

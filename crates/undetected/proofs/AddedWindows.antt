@@ -1,7 +1,7 @@
 -- The flags of signals, while the tests of windows are added.
 use Rattle.std.proofs.Common.{◌≡◌, ◌<◌, ◌≤◌, ◌+◌, ◌*◌, ◌-◌, ◌∙◌, ◌⊎◌, ℕ, suc, Bool, false, List}
 use Rattle.std.proofs.Common.{ap, arith, inl, inr, length, replicate, subst, sym}
-use Rattle.std.specs.Prelude.{◌↔◌, IsTrue, Some, slice_get, slice_index_or}
+use Rattle.std.specs.Prelude.{IsTrue, Some, slice_get, slice_index_or}
 use Rattle.std.proofs.lemmas.Bool.{cases_lt, false≢true}
 use Rattle.std.proofs.lemmas.List.{get_or-replicate, length-replicate}
 use Rattle.std.proofs.lemmas.Option.{get_or_from_slice_get, slice_get_within}
@@ -10,7 +10,7 @@ use Rattle.bench_net.specs.Statement.{Statement}
 use Rattle.fault_model.specs.Fault.{Fault}
 use Rattle.fault_model.specs.Solution.{Test}
 use Rattle.patterns.specs.Tests.{blocks}
-use Rattle.block_sim.specs.Parts.{Parts, with_tests}
+use Rattle.block_sim.specs.Parts.{Parts}
 use Rattle.region_runs.specs.Windows.{IsWindowFor, IsWindowOf}
 use Rattle.region_runs.proofs.Public.{looks_down, looks_up}
 use Rattle.undetected.specs.Activated.{AreActivated, AreActivatedBelow, AreAdded, stem_fault}

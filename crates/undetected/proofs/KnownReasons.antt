@@ -1,11 +1,12 @@
 -- The reasons of the first faults of a list.
-use Rattle.std.proofs.Common.{◌≡◌, ◌∙◌, ◌⊎◌, ℕ, zero, suc, List, [], ◌∷◌, ◌++◌, ap, inl, inr}
-use Rattle.std.proofs.Common.{length, refl, subst, sym}
+use Rattle.std.proofs.Common.{◌≡◌, ◌∙◌, ◌⊎◌, ℕ, List, [], ◌∷◌, ◌++◌, ap, inl, inr}
+use Rattle.std.proofs.Common.{length, subst, sym}
 use Rattle.std.specs.Prelude.{None, Option, Some, slice_get, unwrap_or}
 use Rattle.fault_model.specs.Fault.{Fault, FaultList, faults}
 use Rattle.block_sim.specs.First.{IsFirst}
 use Rattle.block_sim.specs.Parts.{BelongTogether, Parts}
 use Rattle.workers.specs.Verdict.{AreFirsts}
+use Rattle.region_runs.proofs.Public.{pushed}
 use Rattle.undetected.specs.declared.Reason.{Reason}
 use Rattle.undetected.specs.Reasons.{HasReason, IsReason}
 
@@ -15,18 +16,6 @@ AreKnown job firsts reasons = (i : ℕ) (f : Fault) (first : Option ℕ) (reason
     → slice_get job.list.list i ≡ Some f → slice_get firsts i ≡ Some first
     → slice_get reasons i ≡ Some reason → HasReason job.circuit job.tests.tests f first reason
 
-pushed_get : {X : Type 0} (xs : List X) (x y : X) (i : ℕ) → slice_get (xs ++ x ∷ []) i ≡ Some y
-    → (slice_get xs i ≡ Some y) ⊎ ((i ≡ length xs) × (x ≡ y))
-pushed_get [] x y zero e = inr (refl, ap (λ o. unwrap_or o y) e)
-pushed_get [] x y (suc i) e = let bad : None ≡ Some y = e in cc
-pushed_get (z ∷ xs) x y zero e = inl e
-pushed_get {X} (z ∷ xs) x y (suc i) e = go (pushed_get xs x y i e)
-  where
-    go : (slice_get xs i ≡ Some y) ⊎ ((i ≡ length xs) × (x ≡ y)) → (slice_get xs i ≡ Some y)
-        ⊎ ((suc i ≡ suc (length xs)) × (x ≡ y))
-    go (inl h) = inl h
-    go (inr h) = inr (ap suc h.0, h.1)
-
 -- with the reason of the next fault
 pub known_more : (job : Parts) (firsts : List (Option ℕ)) (reasons : List (Option Reason))
     (fault : ℕ) (own : Option Reason) → length reasons ≡ fault → AreKnown job firsts reasons
@@ -34,7 +23,7 @@ pub known_more : (job : Parts) (firsts : List (Option ℕ)) (reasons : List (Opt
     → slice_get firsts fault ≡ Some first → HasReason job.circuit job.tests.tests f first own)
     → AreKnown job firsts (reasons ++ own ∷ [])
 known_more job firsts reasons fault own count known has i f first reason at found here =
-    go (pushed_get reasons own reason i here)
+    go (pushed reasons own reason i here)
   where
     go : (slice_get reasons i ≡ Some reason) ⊎ ((i ≡ length reasons) × (own ≡ reason))
         → HasReason job.circuit job.tests.tests f first reason

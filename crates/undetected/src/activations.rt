@@ -45,10 +45,10 @@ impl Activations {
 
     /// Returns whether some test activates the fault of a number.
     pub(crate) fn of(&self, run: &RunJob, fault: u32) -> bool
-        requires known { AreActivations run.now.parts self.now }
-        requires fault { fault < length run.now.parts.list.list }
-        ensures { (f : Fault) → slice_get run.now.parts.list.list fault ≡ Some f
-            → IsTrue result ↔ IsActivated run.now.parts.circuit run.now.parts.tests.tests f }
+        requires known { AreActivations run.now.whole self.now }
+        requires fault { fault < length run.now.whole.list.list }
+        ensures { (f : Fault) → slice_get run.now.whole.list.list fault ≡ Some f
+            → IsTrue result ↔ IsActivated run.now.whole.circuit run.now.whole.tests.tests f }
     {
         let _tests = run.tests();
         let job = run.job();

@@ -37,10 +37,10 @@ pub fn reasons<R: Threads + Wait>(
     verdicts: &Verdicts,
     workers: u32,
 ) -> Result<Vec<Option<Reason>>, RunFault>
-    requires { AreFirsts run.old.parts.list.model run.old.parts.circuit run.old.parts.tests.tests
+    requires { AreFirsts run.old.whole.list.model run.old.whole.circuit run.old.whole.tests.tests
         verdicts.now.firsts }
-    ensures reasons { IfOk result (λ reasons. AreReasons run.old.parts.list.model
-        run.old.parts.circuit run.old.parts.tests.tests verdicts.now.firsts reasons.items) }
+    ensures reasons { IfOk result (λ reasons. AreReasons run.old.whole.list.model
+        run.old.whole.circuit run.old.whole.tests.tests verdicts.now.firsts reasons.items) }
     ensures refused { IfErr result (λ fault. fault ≡ RunFault.Memory) }
     ensures kept { run.new ≡ run.old }
 {
@@ -56,7 +56,7 @@ fn activations<R: Threads + Wait>(
     run: &mut RunJob,
     workers: u32,
 ) -> Result<Activations, RunFault>
-    ensures known { IfOk result (λ known. AreActivations run.old.parts known) }
+    ensures known { IfOk result (λ known. AreActivations run.old.whole known) }
     ensures refused { IfErr result (λ fault. fault ≡ RunFault.Memory) }
     ensures kept { run.new ≡ run.old }
 {
@@ -72,11 +72,11 @@ fn reasons_by(
     activations: &Activations,
     verdicts: &Verdicts,
 ) -> Result<Vec<Option<Reason>>, AllocError>
-    requires firsts { AreFirsts run.now.parts.list.model run.now.parts.circuit
-        run.now.parts.tests.tests verdicts.now.firsts }
-    requires known { AreActivations run.now.parts activations.now }
-    ensures { IfOk result (λ reasons. AreReasons run.now.parts.list.model run.now.parts.circuit
-        run.now.parts.tests.tests verdicts.now.firsts reasons.items) }
+    requires firsts { AreFirsts run.now.whole.list.model run.now.whole.circuit
+        run.now.whole.tests.tests verdicts.now.firsts }
+    requires known { AreActivations run.now.whole activations.now }
+    ensures { IfOk result (λ reasons. AreReasons run.now.whole.list.model run.now.whole.circuit
+        run.now.whole.tests.tests verdicts.now.firsts reasons.items) }
 {
     let _tests = run.tests();
     let live = live_signals(alloc, run.job().circuit())?;
@@ -96,16 +96,16 @@ fn reason_at(
     verdicts: &Verdicts,
     fault: u32,
 ) -> Option<Reason>
-    requires together { BelongTogether run.now.parts }
-    requires firsts { AreFirsts run.now.parts.list.model run.now.parts.circuit
-        run.now.parts.tests.tests verdicts.now.firsts }
-    requires live { AreLive run.now.parts.circuit live.now }
-    requires room { length live.now ≡ length (names run.now.parts.circuit) }
-    requires fault { fault < length run.now.parts.list.list }
-    requires known { AreActivations run.now.parts activations.now }
-    ensures { (f : Fault) (first : Option ℕ) → slice_get run.now.parts.list.list fault ≡ Some f
+    requires together { BelongTogether run.now.whole }
+    requires firsts { AreFirsts run.now.whole.list.model run.now.whole.circuit
+        run.now.whole.tests.tests verdicts.now.firsts }
+    requires live { AreLive run.now.whole.circuit live.now }
+    requires room { length live.now ≡ length (names run.now.whole.circuit) }
+    requires fault { fault < length run.now.whole.list.list }
+    requires known { AreActivations run.now.whole activations.now }
+    ensures { (f : Fault) (first : Option ℕ) → slice_get run.now.whole.list.list fault ≡ Some f
         → slice_get verdicts.now.firsts fault ≡ Some first
-        → HasReason run.now.parts.circuit run.now.parts.tests.tests f first result }
+        → HasReason run.now.whole.circuit run.now.whole.tests.tests f first result }
 {
     match verdicts.first(fault) {
         Some(_) => None,
@@ -115,13 +115,13 @@ fn reason_at(
 
 /// Returns the reason of an undetected fault, by its number.
 fn reason_of(run: &RunJob, live: &[bool], activations: &Activations, fault: u32) -> Reason
-    requires live { AreLive run.now.parts.circuit live.now }
-    requires room { length live.now ≡ length (names run.now.parts.circuit) }
-    requires fault { fault < length run.now.parts.list.list }
-    requires known { AreActivations run.now.parts activations.now }
-    ensures { (f : Fault) → slice_get run.now.parts.list.list fault ≡ Some f
-        → IsFirst run.now.parts.circuit run.now.parts.tests.tests f None
-        → IsReason run.now.parts.circuit run.now.parts.tests.tests f result }
+    requires live { AreLive run.now.whole.circuit live.now }
+    requires room { length live.now ≡ length (names run.now.whole.circuit) }
+    requires fault { fault < length run.now.whole.list.list }
+    requires known { AreActivations run.now.whole activations.now }
+    ensures { (f : Fault) → slice_get run.now.whole.list.list fault ≡ Some f
+        → IsFirst run.now.whole.circuit run.now.whole.tests.tests f None
+        → IsReason run.now.whole.circuit run.now.whole.tests.tests f result }
 {
     let _tests = run.tests();
     let job = run.job();

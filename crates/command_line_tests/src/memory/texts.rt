@@ -135,20 +135,20 @@ impl<R: Threads + Wait> Written<'_, R> {
         let (rt, tests, gate) = (self.rt, self.tests, &OpenGate);
         let (model, limit) = (Model::StuckAt, Limit::Pieces);
         let mut run = read_run(rt, alloc, model, C17, tests, limit, true, 2)?;
-        let parts = run.stretches(None, 2);
+        let count = run.stretches(None, 2);
         match self.call {
             TextCall::InParts => {
                 let all = Contents::of(Lines::All);
                 write_report_of_run(rt, alloc, &mut run, 3, 2, all, gate, screen)
             }
-            TextCall::Curve => write_curve_of_run(rt, alloc, &mut run, parts, 2, gate, screen),
+            TextCall::Curve => write_curve_of_run(rt, alloc, &mut run, count, 2, gate, screen),
             TextCall::Compact => {
-                match write_kept_of_run(rt, alloc, &mut run, parts, 2, ROWS, gate, screen) {
+                match write_kept_of_run(rt, alloc, &mut run, count, 2, ROWS, gate, screen) {
                     Ok(_count) => Ok(()),
                     Err(fault) => Err(fault),
                 }
             }
-            _ => { write_detections_of_run(rt, alloc, &mut run, parts, 2, 2, false, gate, screen) }
+            _ => { write_detections_of_run(rt, alloc, &mut run, count, 2, 2, false, gate, screen) }
         }
     }
 

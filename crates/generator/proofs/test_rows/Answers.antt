@@ -52,16 +52,16 @@ returns-clause-few g c =
 pub returns-clause-compacted : goal.returns-clause-compacted
 returns-clause-compacted g c =
     let job = c.in_ok-job.job in
-    let was = c.best_tests.new.run.parts in
+    let was = c.best_tests.new.run.whole in
     let best = c.in_ok-best.best.tests in
     let kept = c.in_ok-needed.needed.tests in
     let is = c.in_ok-job.ensures.job in
     let circuit : was.circuit ≡ job.circuit =
     c.best_tests.ensures.circuit
-    ∙ (ap (λ (p : Parts). p.circuit) c.whole-run.ensures.parts ∙ c.search.ensures.circuit) in
+    ∙ (ap (λ (p : Parts). p.circuit) c.whole-run.ensures.whole ∙ c.search.ensures.circuit) in
     let model : was.list.model ≡ c.args.settings.model =
     ap (λ l. l.model) (c.best_tests.ensures.list
-    ∙ (ap (λ (p : Parts). p.list) c.whole-run.ensures.parts ∙ c.search.ensures.list)) ∙ is.3 in (
+    ∙ (ap (λ (p : Parts). p.list) c.whole-run.ensures.whole ∙ c.search.ensures.list)) ∙ is.3 in (
       job.circuit,
       best,
       kept,
@@ -79,21 +79,21 @@ returns-clause-some g c = λ big.
     let job = c.in_ok-job.job in
     let m = c.args.settings.model in
     let searched = c.search.new.job in
-    let was = c.best_tests.new.run.parts in
+    let was = c.best_tests.new.run.whole in
     let found = c.in_ok-found.found.tests in
     let best = c.in_ok-best.best.tests in
     let kept = c.in_ok-needed.needed.tests in
     let is = c.in_ok-job.ensures.job in
     let of_best : DetectsEarly m job.circuit found → DetectsSome m job.circuit best =
     subst (λ x. DetectsEarly m x found → DetectsSome m x best)
-    (ap (λ (p : Parts). p.circuit) c.whole-run.ensures.parts ∙ c.search.ensures.circuit)
+    (ap (λ (p : Parts). p.circuit) c.whole-run.ensures.whole ∙ c.search.ensures.circuit)
     (c.in_ok-best.ensures.some big) in
     let circuit : was.circuit ≡ job.circuit =
     c.best_tests.ensures.circuit
-    ∙ (ap (λ (p : Parts). p.circuit) c.whole-run.ensures.parts ∙ c.search.ensures.circuit) in
+    ∙ (ap (λ (p : Parts). p.circuit) c.whole-run.ensures.whole ∙ c.search.ensures.circuit) in
     let model : was.list.model ≡ m =
     ap (λ l. l.model) (c.best_tests.ensures.list
-    ∙ (ap (λ (p : Parts). p.list) c.whole-run.ensures.parts ∙ c.search.ensures.list)) ∙ is.3 in
+    ∙ (ap (λ (p : Parts). p.list) c.whole-run.ensures.whole ∙ c.search.ensures.list)) ∙ is.3 in
     let needed : IsCompaction m job.circuit best kept =
     subst (λ x. IsCompaction x job.circuit best kept) model
     (subst (λ x. IsCompaction was.list.model x best kept) circuit

@@ -1,5 +1,5 @@
-//! Runs in threads, over pieces and over stretches. The gates of most hold workers until others have
-//! come, so the workers run at the same time.
+//! Runs in threads, over pieces and over stretches. The gates of most hold workers until others
+//! have come, so the workers run at the same time.
 
 use crate::checks::check;
 use crate::worker::fixtures::{BUFFER, C17, C17_FIRSTS, JobText, has_firsts, job_of};
@@ -217,8 +217,8 @@ static CASES: [Case; 11] = [
         job: C17,
         question: Running::IsRunInStretches(2, Plan::Hold(19)),
     },
-    // The piece is the last of its stretch: its class is the class of G23 sa1, the last of the region
-    // that is visited last. So all others are settled.
+    // The piece is the last of its stretch: its class is the class of G23 sa1, the last of the
+    // region that is visited last. So all others are settled.
     Case {
         name: "a_stopped_stretch_names_the_class_of_the_job",
         job: C17,

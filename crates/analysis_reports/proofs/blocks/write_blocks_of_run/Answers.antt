@@ -25,12 +25,12 @@ write_blocks-requires-clause-count g c =
       c.job-job.ensures.list,
       c.in_ok-verdicts.ensures.kept,
       c.deref.ensures.value,
-    ) (flags_counted c.args.run.now.parts firsts c.in_ok-detected.detected.items c.requires.job
+    ) (flags_counted c.args.run.now.whole firsts c.in_ok-detected.detected.items c.requires.job
     c.in_ok-verdicts.ensures.firsts c.in_ok-detected.ensures)
 
 pub returns-clause-written : goal.returns-clause-written
 returns-clause-written g c =
-    let job = c.args.run.now.parts in
+    let job = c.args.run.now.whole in
     let firsts = c.in_ok-verdicts.verdicts.firsts in
     let s = byte_of c.args.separator in
     let wrote = rw (

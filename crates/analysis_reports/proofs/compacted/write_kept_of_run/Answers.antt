@@ -11,7 +11,7 @@ pub returns-in_err-put_kept-clause-written : goal.returns-in_err-put_kept-clause
 returns-in_err-put_kept-clause-written g c =
     let p = err_from_is_err_and c.from_residual-in_err-put_kept.result
     c.from_residual-in_err-put_kept.ensures.1 in
-    let job = c.args.run.now.parts in
+    let job = c.args.run.now.whole in
     let kept = c.in_ok-kept.kept.tests.tests in
     let numbers = c.in_ok-kept.kept.numbers.items in
     let form = c.args.layout.form in
@@ -40,7 +40,7 @@ returns-in_err-put_kept-clause-refused g c =
 pub returns-clause-written : goal.returns-clause-written
 returns-clause-written g c =
     let w = c.in_ok-put_kept.ensures.written in
-    let job = c.args.run.now.parts in
+    let job = c.args.run.now.whole in
     let kept = c.in_ok-kept.kept.tests.tests in
     let numbers = c.in_ok-kept.kept.numbers.items in
     let form = c.args.layout.form in

@@ -8,7 +8,7 @@ pub returns-in_err-write_detections-clause-written :
 returns-in_err-write_detections-clause-written g c =
     let p = err_from_is_err_and c.from_residual-in_err-write_detections.result
     c.from_residual-in_err-write_detections.ensures.1 in
-    let job = c.args.run.now.parts in
+    let job = c.args.run.now.whole in
     let counts = c.in_ok-counts.counts.items in
     let wrote = rw (
       c.as_slice.ensures.value,
@@ -24,7 +24,7 @@ returns-in_err-write_detections-clause-written g c =
 
 pub returns-clause-written : goal.returns-clause-written
 returns-clause-written g c =
-    let job = c.args.run.now.parts in
+    let job = c.args.run.now.whole in
     let counts = c.in_ok-counts.counts.items in
     let wrote = rw (
       c.as_slice.ensures.value,

@@ -1,7 +1,7 @@
 use Rattle.std.proofs.Common.{◌++◌, ap, arith, length, refl}
 use Rattle.std.proofs.lemmas.Result.{err_from_is_err_and}
 use Rattle.fault_model.specs.Fault.{FaultList}
-use Rattle.region_runs.specs.RunJobs.{RunParts}
+use Rattle.region_runs.specs.RunJobs.{RunView}
 use Rattle.analysis_reports.specs.Detected.{detection_report}
 use Rattle.analysis_reports.specs.Histogram.{histogram, histogram_text}
 use Rattle.analysis_reports.proofs.histogram.write_histogram_of_run.Goals as goal
@@ -9,7 +9,7 @@ use Rattle.analysis_reports.proofs.histogram.write_histogram_of_run.Goals as goa
 pub histogram_of-requires : goal.histogram_of-requires
 histogram_of-requires g c =
     let kept = ap (λ (l : FaultList). length l.list) c.job-job.ensures.list in
-    let same = ap (λ (r : RunParts). length r.parts.list.list) c.in_ok-counts.ensures.same in
+    let same = ap (λ (r : RunView). length r.whole.list.list) c.in_ok-counts.ensures.same in
     let listed = ap (λ (l : FaultList). length l.list) c.requires.job.list in
     let own = ap (λ (l : FaultList). length l.list) c.faults.ensures.part in
     omega (
@@ -28,7 +28,7 @@ pub returns-in_err-write_both-clause-written : goal.returns-in_err-write_both-cl
 returns-in_err-write_both-clause-written g c =
     let p = err_from_is_err_and c.from_residual-in_err-write_both.result
     c.from_residual-in_err-write_both.ensures.1 in
-    let job = c.args.run.now.parts in
+    let job = c.args.run.now.whole in
     let counts = c.in_ok-counts.counts.items in
     let made = rw (c.deref.ensures.value) at c.in-Ok.ensures in
     let wrote = rw (
@@ -48,7 +48,7 @@ returns-in_err-write_both-clause-written g c =
 
 pub returns-clause-written : goal.returns-clause-written
 returns-clause-written g c =
-    let job = c.args.run.now.parts in
+    let job = c.args.run.now.whole in
     let counts = c.in_ok-counts.counts.items in
     let made = rw (c.deref.ensures.value) at c.in-Ok.ensures in
     let wrote = rw (

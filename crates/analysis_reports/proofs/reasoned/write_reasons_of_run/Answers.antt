@@ -8,7 +8,7 @@ pub returns-in_err-write_reasons_in_threads-clause-written :
 returns-in_err-write_reasons_in_threads-clause-written g c =
     let p = err_from_is_err_and c.from_residual-in_err-write_reasons_in_threads.result
     c.from_residual-in_err-write_reasons_in_threads.ensures.1 in
-    let job = c.args.run.now.parts in
+    let job = c.args.run.now.whole in
     let firsts = c.in_ok-verdicts.verdicts.firsts in
     let reasons = c.in_ok-reasons.reasons.items in
     let are = rw (c.in_ok-verdicts.ensures.kept) at c.in_ok-reasons.ensures.reasons in

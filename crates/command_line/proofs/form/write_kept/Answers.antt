@@ -5,7 +5,7 @@ use Rattle.command_line.proofs.form.write_kept.Goals as goal
 pub returns-in_err-count : goal.returns-in_err-count
 returns-in_err-count g c =
     let p = err_from_is_err_and c.from_residual.result c.from_residual.ensures.1 in
-    rw (p.1, p.2) (kept_refused c.args.run.now.parts c.args.layout _ _ _
+    rw (p.1, p.2) (kept_refused c.args.run.now.whole c.args.layout _ _ _
     c.in_err-count.ensures.written)
 
 pub returns : goal.returns

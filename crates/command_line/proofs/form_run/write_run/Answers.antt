@@ -8,7 +8,7 @@ use Rattle.command_line.proofs.form_run.write_run.Goals as goal
 
 pub returns-in-Ok-clause-written : goal.returns-in-Ok-clause-written
 returns-in-Ok-clause-written g c =
-    let job = c.in-Ok.made.parts in
+    let job = c.in-Ok.made.whole in
     let form = c.args.form in
     let bench = c.args.inputs.bench.now in
     let b = bench_sum c.words_of-words.result in
@@ -48,5 +48,5 @@ returns-in-Ok-clause-files g c =
     let other =
     needed_tests text form c.in-Ok.summed t (tests_of c.in-Ok.summed) tests
     c.words_of-words.ensures.tests needed in
-    written_form c.args.inputs.model bench b t text form c.in-Ok.made.parts
+    written_form c.args.inputs.model bench b t text form c.in-Ok.made.whole
     c.write_form_of_run-done.result _ _ read same other c.write_form_of_run-done.ensures

@@ -1,15 +1,15 @@
 use Rattle.std.proofs.Common.{ap, subst, sym}
 use Rattle.block_sim.specs.Parts.{Parts}
-use Rattle.region_runs.specs.RunJobs.{RunParts}
+use Rattle.region_runs.specs.RunJobs.{RunView}
 use Rattle.compaction.specs.Marks.{AreLastAt, AreLasting}
 use Rattle.compaction.proofs.LastTests.{lasts_at}
 use Rattle.compaction.proofs.lasting.lasting_tests.Goals as goal
 
 pub marks_of_last-requires : goal.marks_of_last-requires
 marks_of_last-requires g c =
-    let job = c.args.run.now.parts in
+    let job = c.args.run.now.whole in
     let done = c.in_ok-done.done in
-    let same = ap (λ (r : RunParts). r.parts) c.in_ok-done.ensures.same in
+    let same = ap (λ (r : RunView). r.whole) c.in_ok-done.ensures.same in
     subst (λ (p : Parts). AreLastAt p c.as_slice-positions.result.now c.as_slice.result.now)
     (sym same)
     (subst (AreLastAt job c.as_slice-positions.result.now) (sym c.as_slice.ensures.value)
@@ -20,5 +20,5 @@ marks_of_last-requires g c =
 
 pub returns-clause-marks : goal.returns-clause-marks
 returns-clause-marks g c =
-    subst (λ (r : RunParts). AreLasting r.parts.list.model r.parts.circuit r.parts.tests.tests
+    subst (λ (r : RunView). AreLasting r.whole.list.model r.whole.circuit r.whole.tests.tests
     c.in_ok-marks.marks.items) c.in_ok-done.ensures.same c.in_ok-marks.ensures

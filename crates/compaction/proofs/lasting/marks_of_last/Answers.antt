@@ -13,7 +13,8 @@ loop-class-preserved c =
     let last = c.last_of-last.result in
     let was = c.deref_mut.ensures.value in
     let len : old.len ≡ length new = sym (c.mark_test.auto.marks ∙ c.deref_mut.ensures.len) in
-    rw (written_over old.len new _ len) (marks_more c.args.run.now.parts c.loop-class.class old.items new
+    rw (written_over old.len new _ len) (marks_more c.args.run.now.whole c.loop-class.class
+    old.items new
     last c.loop-class.invariant
     c.last_of-last.ensures (c.mark_test.ensures.count ∙ ap length was)
     (λ t lt. c.mark_test.ensures.each t (omega (arith, lt, ap length was))
@@ -21,7 +22,7 @@ loop-class-preserved c =
 
 pub returns : goal.returns
 returns c =
-    let job = c.args.run.now.parts in
+    let job = c.args.run.now.whole in
     let count = c.count-class-end.ensures in
     let own = ap (λ (x : Collapsed). length x.representative)
     (c.classes.ensures.part ∙ c.job.ensures.classes) in

@@ -9,7 +9,7 @@ use Rattle.compaction.proofs.ordered.compact.Goals as goal
 
 pub returns-in-Transition-clause-ordered : goal.returns-in-Transition-clause-ordered
 returns-in-Transition-clause-ordered g c =
-    let job = c.args.run.now.parts in
+    let job = c.args.run.now.whole in
     let model : job.list.model ≡ Transition = sym (ap (λ l. l.model)
     (c.faults.ensures.part ∙ c.job.ensures.list))
     ∙ (sym c.model.ensures ∙ c.in-Transition.is) in

@@ -58,7 +58,7 @@ kept_at-requires-clause-few g c =
 
 pub kept_at-requires-clause-numbers : goal.kept_at-requires-clause-numbers
 kept_at-requires-clause-numbers g c =
-    let old = c.args.run.now.parts in
+    let old = c.args.run.now.whole in
     let kept = c.in_ok-tests.field-0 in
     ap length c.deref-2.ensures.value
     ∙ (numbered_all old.list.model old.circuit old.tests.tests kept.tests.tests kept.numbers.items
@@ -78,7 +78,7 @@ returns-clause-width g c =
 
 pub returns-clause-compacted : goal.returns-clause-compacted
 returns-clause-compacted g c =
-    let old = c.args.run.now.parts in
+    let old = c.args.run.now.whole in
     let given = c.in_ok-tests.field-0 in
     let kept = c.in_ok-kept_at.field-0 in
     let job = c.job-job.result.now in

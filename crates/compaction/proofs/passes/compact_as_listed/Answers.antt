@@ -1,4 +1,5 @@
-use Rattle.std.proofs.Common.{◌≡◌, ◌⊎◌, ◌+◌, ◌∙◌, ap, arith, false, get_or, length, rules, subst, sym}
+use Rattle.std.proofs.Common.{◌≡◌, ◌⊎◌, ◌+◌, ◌∙◌, ap, arith, false, get_or, length, rules}
+use Rattle.std.proofs.Common.{subst, sym}
 use Rattle.std.specs.Prelude.{◌||◌}
 use Rattle.fault_model.specs.declared.Model.TheVariants.{StuckAt, Transition, TransitionPairs}
 use Rattle.patterns.specs.Least.{below}
@@ -6,7 +7,7 @@ use Rattle.patterns.proofs.Public.{length-below}
 use Rattle.std.specs.Prelude.{IfOk}
 use Rattle.patterns.specs.Tests.{TestList}
 use Rattle.block_sim.specs.Parts.{Parts}
-use Rattle.region_runs.specs.RunJobs.{RunParts}
+use Rattle.region_runs.specs.RunJobs.{RunView}
 use Rattle.compaction.specs.Compaction.{IsNumbered, at_marks}
 use Rattle.compaction.specs.Marks.{AreLastOf, AreLastPairsOf, AreWithBefore}
 use Rattle.compaction.proofs.KeptTests.{ok_as, pairs_numbered, stuck_numbered}
@@ -50,8 +51,8 @@ last_tests-requires-clause-numbers g c =
 
 pub returns-in-StuckAt-clause-compacted : goal.returns-in-StuckAt-clause-compacted
 returns-in-StuckAt-clause-compacted g c =
-    let job = c.args.run.now.parts in
-    let same = ap (λ (r : RunParts). r.parts) c.in_ok-found.ensures.same in
+    let job = c.args.run.now.whole in
+    let same = ap (λ (r : RunView). r.whole) c.in_ok-found.ensures.same in
     let found = c.in_ok-found.found.items in
     let kept = c.in_ok-kept-in-StuckAt.kept in
     let model : job.list.model ≡ StuckAt = sym (ap (λ l. l.model) (c.faults.ensures.part
@@ -89,7 +90,8 @@ pub last_pairs-requires-clause-numbers : goal.last_pairs-requires-clause-numbers
 last_pairs-requires-clause-numbers g c =
     let same = ap length (c.deref-in-Transition.ensures.value ∙ c.in_ok-numbers.ensures)
     ∙ (length-below c.count.result ∙ (c.count.ensures
-    ∙ ap (λ t. length t.tests) (c.tests.ensures.tests ∙ sym c.tests-in-Transition.ensures.tests))) in
+    ∙ ap (λ t. length t.tests) (c.tests.ensures.tests
+    ∙ sym c.tests-in-Transition.ensures.tests))) in
     let fact : length c.in_ok-kept-in-Transition.kept.numbers.items
     ≡ length c.in_ok-kept-in-Transition.kept.tests.tests =
     ap length c.in_ok-kept-in-Transition.ensures.numbers
@@ -100,8 +102,8 @@ last_pairs-requires-clause-numbers g c =
 
 pub returns-clause-compacted : goal.returns-clause-compacted
 returns-clause-compacted g c =
-    let job = c.args.run.now.parts in
-    let same = ap (λ (r : RunParts). r.parts) c.in_ok-found.ensures.same in
+    let job = c.args.run.now.whole in
+    let same = ap (λ (r : RunView). r.whole) c.in_ok-found.ensures.same in
     let found = c.in_ok-found.found.items in
     let new = c.mark_before.new.marks in
     let kept = c.in_ok-kept-in-Transition.kept in

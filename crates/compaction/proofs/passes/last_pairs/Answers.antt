@@ -1,7 +1,7 @@
 use Rattle.std.proofs.Common.{◌≡◌, ◌+◌, ◌∙◌, ap, arith, false, get_or, length, subst, sym}
 use Rattle.std.specs.Prelude.{◌||◌}
 use Rattle.block_sim.specs.Parts.{Parts}
-use Rattle.region_runs.specs.RunJobs.{RunParts}
+use Rattle.region_runs.specs.RunJobs.{RunView}
 use Rattle.compaction.specs.Compaction.{at_marks}
 use Rattle.compaction.specs.Marks.{AreLasting, AreWithBefore}
 use Rattle.compaction.proofs.PushedElements.{written_over}
@@ -9,13 +9,13 @@ use Rattle.compaction.proofs.passes.last_pairs.Goals as goal
 
 pub returns-clause-last : goal.returns-clause-last
 returns-clause-last g c =
-    let job = c.args.run.now.parts in
+    let job = c.args.run.now.whole in
     let given = c.args.given in
     let tests = given.tests.tests in
     let last = c.in_ok-last.last.items in
     let inner = c.mark_before.new.marks in
     let were = c.in_ok-set_tests.ensures.tests in
-    let same = ap (λ (r : RunParts). r.parts) c.in_ok-last.ensures.same in
+    let same = ap (λ (r : RunView). r.whole) c.in_ok-last.ensures.same in
     let are : AreLasting job.list.model job.circuit tests last =
     subst (λ (p : Parts). AreLasting p.list.model p.circuit p.tests.tests last) were
     c.in_ok-last.ensures.marks in

@@ -13,7 +13,7 @@ set_tests-requires-clause-width g c = c.in_ok-reversed.ensures.width
 
 pub returns-clause-last : goal.returns-clause-last
 returns-clause-last g c =
-    let job = c.args.run.now.parts in
+    let job = c.args.run.now.whole in
     let given = c.args.given.now.numbers.items in
     let tests = c.args.given.now.tests.tests in
     let reversed = c.in_ok-reversed.reversed.tests in

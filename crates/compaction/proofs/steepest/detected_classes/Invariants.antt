@@ -1,6 +1,8 @@
-use Rattle.compaction.specs.Detections.{detects_by}
-use Rattle.compaction.specs.News.{AreDetected}
+use Rattle.std.proofs.Common.{◌≡◌}
+use Rattle.std.specs.Prelude.{filter}
+use Rattle.patterns.specs.Least.{below}
+use Rattle.compaction.specs.Detections.{is_detected}
 use Rattle.compaction.proofs.steepest.detected_classes.Given as goal
 
 abbrev pub invariant-loop-class : goal.invariant-loop-class
-invariant-loop-class l = AreDetected (detects_by l.detections) l.class l.left.items
+invariant-loop-class l = l.left.items ≡ filter (is_detected l.detections) (below l.class)

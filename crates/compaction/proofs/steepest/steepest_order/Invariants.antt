@@ -1,13 +1,14 @@
-use Rattle.std.proofs.Common.{length}
-use Rattle.compaction.specs.Detections.{detects_by}
-use Rattle.compaction.specs.News.{AreLeft}
+use Rattle.std.proofs.Common.{◌<◌, ◌^◌, length}
+use Rattle.compaction.specs.Detections.{detects_by, is_detected}
 use Rattle.compaction.proofs.SteepestOrder.{IsSoFar}
 use Rattle.compaction.proofs.steepest.steepest_order.Given as goal
 
-abbrev pub invariant-loop-round : goal.invariant-loop-round
-invariant-loop-round l = record {
-  so : IsSoFar (detects_by l.detections) (length l.detections.words) l.detections.tests l._round
-      l.order.items l.covered.items l.news.items;
-  left : AreLeft (detects_by l.detections) (length l.detections.words) l.detections.tests
-      l.covered.items l.left.items;
+abbrev pub invariant-loop-best : goal.invariant-loop-best
+invariant-loop-best l = record {
+  few : length l.news.items < 2 ^ 32;
+  so : IsSoFar (is_detected l.detections) (detects_by l.detections)
+      (length l.detections.words) l.detections.tests l.order.items l.left.items l.news.items;
 }
+
+abbrev pub decreases-loop-best : goal.decreases-loop-best
+decreases-loop-best l = length l.left.items

@@ -10,10 +10,10 @@ returns-clause-job g c =
     let circuit = c.in_ok-circuit.circuit in
     let tests = c.in_ok-circuit.tests in
     IfOk-weaker c.run_for.result
-    (λ run. IsJobUnder c.args.model circuit tests run.parts)
-    (λ run. IsJobOf c.args.model c.args.bench.now c.args.tests.now run.parts)
+    (λ run. IsJobUnder c.args.model circuit tests run.whole)
+    (λ run. IsJobOf c.args.model c.args.bench.now c.args.tests.now run.whole)
     (λ run is. job_of_texts c.args.model c.args.bench.now c.args.tests.now circuit tests
-    run.parts c.in_ok-circuit.ensures.circuit c.in_ok-circuit.ensures.tests is)
+    run.whole c.in_ok-circuit.ensures.circuit c.in_ok-circuit.ensures.tests is)
     c.run_for.ensures.job
 
 pub returns-clause-refused : goal.returns-clause-refused

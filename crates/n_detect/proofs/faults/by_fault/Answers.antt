@@ -4,7 +4,7 @@ use Rattle.fault_model.specs.Fault.{FaultList}
 use Rattle.fault_model.specs.Collapse.{Collapsed}
 use Rattle.n_detect.specs.Detections.{IsClassCount}
 use Rattle.n_detect.proofs.ClassCounts.{class_within, counts_of_faults}
-use Rattle.n_detect.proofs.EachPushed.{push_each}
+use Rattle.region_runs.proofs.Public.{push_each}
 use Rattle.n_detect.proofs.faults.by_fault.Goals as goal
 
 pub count_of-requires-clause-class : goal.count_of-requires-clause-class
@@ -12,13 +12,13 @@ count_of-requires-clause-class c =
     let at =
     ap (λ (x : Collapsed). slice_get x.class_of c.loop-fault.fault)
     (sym (c.classes.ensures.part ∙ c.job-job.ensures.classes)) ∙ c.class_of-class.ensures in
-    class_within c.args.run.now.parts c.loop-fault.fault c.class_of-class.result
+    class_within c.args.run.now.whole c.loop-fault.fault c.class_of-class.result
     c.tests-tests.ensures.together at
 
 pub loop-fault-preserved : goal.loop-fault-preserved
 loop-fault-preserved c =
     let before = c.loop-fault.invariant in
-    let job = c.args.run.now.parts in
+    let job = c.args.run.now.whole in
     let at =
     ap (λ (x : Collapsed). slice_get x.class_of c.loop-fault.fault)
     (sym (c.classes.ensures.part ∙ c.job-job.ensures.classes)) ∙ c.class_of-class.ensures in
@@ -45,7 +45,7 @@ returns c =
     let before = c.loop-fault.invariant in
     let number =
     ap (λ (x : FaultList). length x.list) (c.faults.ensures.part ∙ c.job-job.ensures.list) in
-    counts_of_faults c.args.run.now.parts c.args.most c.loop-fault.counts.items
+    counts_of_faults c.args.run.now.whole c.args.most c.loop-fault.counts.items
     c.tests-tests.ensures.together
     (omega (
       arith,

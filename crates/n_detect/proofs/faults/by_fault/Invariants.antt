@@ -7,6 +7,6 @@ abbrev pub invariant-loop-fault : goal.invariant-loop-fault
 invariant-loop-fault l = record {
   count : vec_len l.counts ≡ l.fault;
   each : (i n class : ℕ) → slice_get l.counts.items i ≡ Some n
-      → slice_get l.run.parts.classes.class_of i ≡ Some class
-      → IsClassCount l.run.parts l.most class n;
+      → slice_get l.run.whole.classes.class_of i ≡ Some class
+      → IsClassCount l.run.whole l.most class n;
 }

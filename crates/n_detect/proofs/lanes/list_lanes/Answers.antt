@@ -8,7 +8,7 @@ use Rattle.region_sim.specs.OpenPlaces.{AreNextOpen}
 use Rattle.n_detect.specs.ListLanes.{AreListLanes}
 use Rattle.n_detect.proofs.GroupWords.{group_lanes}
 use Rattle.n_detect.proofs.ListLanes.{list_lanes_are}
-use Rattle.n_detect.proofs.RowLists.{listed_at}
+use Rattle.region_runs.proofs.Public.{row_listed}
 use Rattle.n_detect.proofs.lanes.list_lanes.Goals as goal
 
 pub simulate-requires-clause-next : goal.simulate-requires-clause-next
@@ -44,7 +44,7 @@ returns-clause-lanes c =
     (list_lanes_are job group classes rows found are count
     (group_lanes job c.tests-tests.ensures.together group c.span_of-span.result rows before found
     span.first span.whole
-    (λ place row at. listed_at job rows place row are.each at)
+    (λ place row at. row_listed job rows place row are.each at)
     (λ place n e.
     let lt = slice_get_within before place n e in
     sym (get_or_from_slice_get before place n 0 e)

@@ -28,7 +28,7 @@ pub returns-in_err-write_part-clause-written : goal.returns-in_err-write_part-cl
 returns-in_err-write_part-clause-written g c =
     let p = err_from_is_err_and c.from_residual-in_err-write_part.result
     c.from_residual-in_err-write_part.ensures.1 in
-    let job = c.args.run.now.parts in
+    let job = c.args.run.now.whole in
     let verdicts = c.in_ok-verdicts.verdicts.items in
     let wrote = rw (
       c.circuit.ensures.part,
@@ -46,7 +46,7 @@ returns-in_err-write_part-clause-written g c =
 
 pub returns-clause-written : goal.returns-clause-written
 returns-clause-written g c =
-    let job = c.args.run.now.parts in
+    let job = c.args.run.now.whole in
     let verdicts = c.in_ok-verdicts.verdicts.items in
     let wrote = rw (
       c.circuit.ensures.part,

@@ -1,6 +1,6 @@
 use Rattle.workers.specs.Stops.{no_stop}
 use Rattle.region_runs.specs.Tasks.{task_of}
-use Rattle.region_runs.proofs.RunsOfParts.{not_stopped_kept}
+use Rattle.region_runs.proofs.RunsOfStretches.{not_stopped_kept}
 use Rattle.region_runs.proofs.alone.run_alone.Goals as goal
 
 pub returns-clause-kept : goal.returns-clause-kept

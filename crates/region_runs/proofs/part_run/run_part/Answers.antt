@@ -4,9 +4,9 @@ use Rattle.fault_model.specs.Collapse.{Collapsed}
 use Rattle.region_runs.specs.declared.parts.PartVerdict.{PartVerdict}
 use Rattle.region_runs.specs.declared.parts.PartVerdict.TheVariants.{OtherPart}
 use Rattle.region_runs.specs.Part.{stretches_for}
-use Rattle.region_runs.specs.RunJobs.{RunParts}
+use Rattle.region_runs.specs.RunJobs.{RunView}
 use Rattle.region_runs.proofs.FirstHits.{firsts_kept}
-use Rattle.region_runs.proofs.PartRefusals.{fitting_part_fault}
+use Rattle.region_runs.proofs.RunRefusals.{part_fault}
 use Rattle.region_runs.proofs.PartsInView.{part_by_ledgers, part_in_view}
 use Rattle.region_runs.proofs.PartsOfClasses.{part_verdict_there, part_verdicts, part_within}
 use Rattle.region_runs.proofs.PartsOfClasses.{verdicts_under}
@@ -14,7 +14,7 @@ use Rattle.region_runs.proofs.part_run.run_part.Goals as goal
 
 pub run_list-requires-clause-within : goal.run_list-requires-clause-within
 run_list-requires-clause-within g c κs within =
-    let job = c.args.run.now.parts in
+    let job = c.args.run.now.whole in
     let classes = c.in_ok-own.own.items in
     part_within job c.args.parts c.args.part classes
     (part_in_view c.job.result.now job c.args.parts c.args.part classes
@@ -22,7 +22,7 @@ run_list-requires-clause-within g c κs within =
 
 pub returns-in_err-found-clause-refused : goal.returns-in_err-found-clause-refused
 returns-in_err-found-clause-refused g c =
-    let job = c.args.run.now.parts in
+    let job = c.args.run.now.whole in
     let classes = c.in_ok-own.own.items in
     let own = part_in_view c.job.result.now job c.args.parts c.args.part classes
     c.job.ensures.circuit c.job.ensures.list c.job.ensures.classes c.in_ok-own.ensures in
@@ -33,20 +33,21 @@ returns-in_err-found-clause-refused g c =
     c.stretches_for-stretches.ensures.count ∙ ap (λ n. stretches_for n c.args.workers) few in
     let p = err_from_is_err_and c.from_residual-in_err-found.result
     c.from_residual-in_err-found.ensures.1 in
-    rw (p.1, p.2) (fitting_part_fault job c.args.parts c.args.part c.args.workers
-    c.stretches_for-stretches.result classes (g.G.Gate.passing c.args.gate.now)
-    (g.G.Gate.stops c.args.gate.now) _ own stretches c.in_err-found.ensures.refused)
+    let P = g.G.Gate.passing c.args.gate.now in
+    let S = g.G.Gate.stops c.args.gate.now in
+    rw (p.1, p.2) (part_fault job c.args.parts c.args.part c.args.workers
+    c.stretches_for-stretches.result classes P S _ own stretches c.in_err-found.ensures.refused)
 
 pub by_class-requires-clause-within : goal.by_class-requires-clause-within
 by_class-requires-clause-within g c =
-    let job = c.args.run.now.parts in
+    let job = c.args.run.now.whole in
     let classes = c.in_ok-own.own.items in
     let own = part_in_view c.job.result.now job c.args.parts c.args.part classes
     c.job.ensures.circuit c.job.ensures.list c.job.ensures.classes c.in_ok-own.ensures in
     let count : c.count-count.result ≡ length job.classes.representative = c.count-count.ensures
     ∙ ap (λ (x : Collapsed). length x.representative) (c.classes.ensures.part
     ∙ (c.job-job.ensures.classes
-    ∙ ap (λ (r : RunParts). r.parts.classes) c.in_ok-found.ensures.same)) in
+    ∙ ap (λ (r : RunView). r.whole.classes) c.in_ok-found.ensures.same)) in
     subst (λ n. All (λ class. class < n) c.as_slice-2.result.now) (sym count)
     (subst (All (λ class. class < length job.classes.representative))
     (sym (c.as_slice-2.ensures.value ∙ c.in_ok-found.ensures.classes))
@@ -54,14 +55,14 @@ by_class-requires-clause-within g c =
 
 pub returns-clause-verdicts : goal.returns-clause-verdicts
 returns-clause-verdicts g c =
-    let job = c.args.run.now.parts in
+    let job = c.args.run.now.whole in
     let classes = c.in_ok-own.own.items in
     let firsts = c.in_ok-found.found.kept.items in
     let table = c.in_ok-table.table.items in
     let own = part_in_view c.job.result.now job c.args.parts c.args.part classes
     c.job.ensures.circuit c.job.ensures.list c.job.ensures.classes c.in_ok-own.ensures in
     let same : (c.job-job.result.now).classes ≡ job.classes = c.job-job.ensures.classes
-    ∙ ap (λ (r : RunParts). r.parts.classes) c.in_ok-found.ensures.same in
+    ∙ ap (λ (r : RunView). r.whole.classes) c.in_ok-found.ensures.same in
     let count : c.count-count.result ≡ length job.classes.representative = c.count-count.ensures
     ∙ ap (λ (x : Collapsed). length x.representative) (c.classes.ensures.part ∙ same) in
     let by = verdicts_under c.count-count.result (length job.classes.representative) _ classes _
@@ -79,14 +80,14 @@ returns-clause-verdicts g c =
 
 pub returns-clause-ledgers : goal.returns-clause-ledgers
 returns-clause-ledgers g c =
-    let job = c.args.run.now.parts in
+    let job = c.args.run.now.whole in
     let classes = c.in_ok-own.own.items in
     let firsts = c.in_ok-found.found.kept.items in
     let table = c.in_ok-table.table.items in
     let own = part_in_view c.job.result.now job c.args.parts c.args.part classes
     c.job.ensures.circuit c.job.ensures.list c.job.ensures.classes c.in_ok-own.ensures in
     let same : (c.job-job.result.now).classes ≡ job.classes = c.job-job.ensures.classes
-    ∙ ap (λ (r : RunParts). r.parts.classes) c.in_ok-found.ensures.same in
+    ∙ ap (λ (r : RunView). r.whole.classes) c.in_ok-found.ensures.same in
     let count : c.count-count.result ≡ length job.classes.representative = c.count-count.ensures
     ∙ ap (λ (x : Collapsed). length x.representative) (c.classes.ensures.part ∙ same) in
     let by = verdicts_under c.count-count.result (length job.classes.representative) _ classes _

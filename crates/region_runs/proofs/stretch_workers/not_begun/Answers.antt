@@ -3,14 +3,14 @@ use Rattle.region_runs.specs.StretchRuns.{AreKeptUpTo, IsLowestIn, unbegun_run}
 use Rattle.region_runs.specs.Tasks.{task_of}
 use Rattle.region_runs.proofs.ClaimedStretches.{starts_kept}
 use Rattle.region_runs.proofs.PartsOfClasses.{stretch_within}
-use Rattle.region_runs.proofs.RunsOfParts.{unbegun_empty, unbegun_lowest}
+use Rattle.region_runs.proofs.RunsOfStretches.{unbegun_empty, unbegun_lowest}
 use Rattle.region_runs.proofs.stretch_workers.not_begun.Goals as goal
 
 pub lowest_open-requires-clause-classes : goal.lowest_open-requires-clause-classes
 lowest_open-requires-clause-classes g c =
     subst (All (λ class. class < length c.args.job.now.classes.representative))
     (sym c.stretch-own.ensures)
-    (stretch_within c.args.job.now c.args.cut.now.size c.args.part c.args.cut.now.classes.items
+    (stretch_within c.args.job.now c.args.cut.now.size c.args.stretch c.args.cut.now.classes.items
     c.requires.cut.within)
 
 pub lowest_open-requires-clause-found : goal.lowest_open-requires-clause-found

@@ -10,6 +10,6 @@ returns-clause-few c =
     let classes = c.args.cut.now.classes.items in
     let is : c.div_ceil.result ≡ stretch_count size classes = search rules in
     subst (λ n. n ≤ max_pieces) (sym is)
-    (filled_max c.args.job.now c.args.cut.now.from c.args.cut.now.parts size classes
+    (filled_max c.args.job.now c.args.cut.now.from c.args.cut.now.stretches size classes
     c.count_in.ensures.together
     c.requires)

@@ -1,65 +1,41 @@
-use Rattle.std.proofs.Common.{◌≡◌, ◌∙◌, Some, ap, arith, sym}
+use Rattle.std.proofs.Common.{◌∙◌, Some, ap, arith, sym}
 use Rattle.std.proofs.lemmas.Option.{slice_get-get_or, slice_get_within}
-use Rattle.std.specs.Prelude.{slice_get}
 use Rattle.region_runs.proofs.Joins.{joined_more, joined_skip, next_within}
 use Rattle.region_runs.proofs.window_goal.join_window.Goals as goal
 
 pub loop-place-preserved-then-not-is_open : goal.loop-place-preserved-then-not-is_open
 loop-place-preserved-then-not-is_open g c =
-    let wants = g.A.Goal.wants c.args.goal.now in
-    let kept = c.loop-place.kept in
-    let place = c.loop-place.place in
-    let one = c.index-kept-place.result in
-    let here : slice_get kept place ≡ Some one =
-    slice_get-get_or kept place one (omega (arith, c.loop-place-test.true))
-    ∙ ap Some (sym c.index-kept-place.is) in
-    joined_skip wants (g.A.Goal.means c.args.goal.now) c.args.start c.args.kept.now
-    c.args.found.now kept place c.loop-place.next one c.loop-place.invariant here
-    (ap wants c.index-kept-place.is ∙ sym c.is_open.ensures ∙ c.if-not-is_open.true)
+    joined_skip _ _ _ _ _ c.loop-place.kept c.loop-place.place _ c.index-kept-place.result
+    c.loop-place.invariant (omega (arith, c.loop-place-test.true)) c.index-kept-place.is
+    (ap (g.A.Goal.wants c.args.goal.now) c.index-kept-place.is ∙ sym c.is_open.ensures
+    ∙ c.if-not-is_open.true)
 
 pub offset_bounds-found-next : goal.offset_bounds-found-next
 offset_bounds-found-next g c =
-    let wants = g.A.Goal.wants c.args.goal.now in
-    let kept = c.loop-place.kept in
-    let place = c.loop-place.place in
-    let one = c.index-kept-place.result in
-    let here : slice_get kept place ≡ Some one =
-    slice_get-get_or kept place one (omega (arith, c.loop-place-test.true))
-    ∙ ap Some (sym c.index-kept-place.is) in
-    let low = next_within wants (g.A.Goal.means c.args.goal.now) c.args.start c.args.kept.now
-    c.args.found.now kept place c.loop-place.next one c.loop-place.invariant here
-    (ap wants c.index-kept-place.is ∙ sym c.is_open.ensures ∙ c.if-not-is_open.false) in
+    let low = next_within _ _ _ _ _ c.loop-place.kept c.loop-place.place _
+    c.index-kept-place.result c.loop-place.invariant (omega (arith, c.loop-place-test.true))
+    c.index-kept-place.is (ap (g.A.Goal.wants c.args.goal.now) c.index-kept-place.is
+    ∙ sym c.is_open.ensures ∙ c.if-not-is_open.false) in
     omega (arith, low, c.requires.found)
 
 pub bounds-found-next : goal.bounds-found-next
 bounds-found-next g c =
-    let wants = g.A.Goal.wants c.args.goal.now in
-    let kept = c.loop-place.kept in
-    let place = c.loop-place.place in
-    let one = c.index-kept-place.result in
-    let here : slice_get kept place ≡ Some one =
-    slice_get-get_or kept place one (omega (arith, c.loop-place-test.true))
-    ∙ ap Some (sym c.index-kept-place.is) in
-    let low = next_within wants (g.A.Goal.means c.args.goal.now) c.args.start c.args.kept.now
-    c.args.found.now kept place c.loop-place.next one c.loop-place.invariant here
-    (ap wants c.index-kept-place.is ∙ sym c.is_open.ensures ∙ c.if-not-is_open.false) in
+    let low = next_within _ _ _ _ _ c.loop-place.kept c.loop-place.place _
+    c.index-kept-place.result c.loop-place.invariant (omega (arith, c.loop-place-test.true))
+    c.index-kept-place.is (ap (g.A.Goal.wants c.args.goal.now) c.index-kept-place.is
+    ∙ sym c.is_open.ensures ∙ c.if-not-is_open.false) in
     omega (arith, low, c.requires.found)
 
 pub loop-place-preserved : goal.loop-place-preserved
 loop-place-preserved g c =
-    let wants = g.A.Goal.wants c.args.goal.now in
-    let kept = c.loop-place.kept in
-    let place = c.loop-place.place in
-    let one = c.index-kept-place.result in
     let later = c.index-found-next.result in
-    let here : slice_get kept place ≡ Some one =
-    slice_get-get_or kept place one (omega (arith, c.loop-place-test.true))
-    ∙ ap Some (sym c.index-kept-place.is) in
-    let on = ap wants c.index-kept-place.is ∙ sym c.is_open.ensures ∙ c.if-not-is_open.false in
-    let low = next_within wants (g.A.Goal.means c.args.goal.now) c.args.start c.args.kept.now
-    c.args.found.now kept place c.loop-place.next one c.loop-place.invariant here on in
-    joined_more wants (g.A.Goal.means c.args.goal.now) c.args.start c.args.kept.now
-    c.args.found.now kept place c.loop-place.next one c.loop-place.invariant here later
+    let on = ap (g.A.Goal.wants c.args.goal.now) c.index-kept-place.is ∙ sym c.is_open.ensures
+    ∙ c.if-not-is_open.false in
+    let low = next_within _ _ _ _ _ c.loop-place.kept c.loop-place.place _
+    c.index-kept-place.result c.loop-place.invariant (omega (arith, c.loop-place-test.true))
+    c.index-kept-place.is on in
+    joined_more _ _ _ _ _ c.loop-place.kept c.loop-place.place _ c.index-kept-place.result
+    c.loop-place.invariant (omega (arith, c.loop-place-test.true)) c.index-kept-place.is later
     c.join_at.new.kept on
     (slice_get-get_or c.args.found.now c.loop-place.next later
     (omega (arith, low, c.requires.found)) ∙ ap Some (sym c.index-found-next.is))

@@ -3,7 +3,7 @@ use Rattle.bench_net.specs.Scan.{sources}
 use Rattle.block_sim.specs.Parts.{Parts, with_tests}
 use Rattle.region_runs.specs.Windows.{GoesOnFrom}
 use Rattle.region_runs.proofs.ReadWords.{window_taken}
-use Rattle.region_runs.proofs.WindowSteps.{step_all, step_first, step_within}
+use Rattle.region_runs.proofs.WindowSteps.{step_first, step_within}
 use Rattle.region_runs.proofs.word_reader.read_in_windows.Goals as goal
 
 pub loop-number-init : goal.loop-number-init

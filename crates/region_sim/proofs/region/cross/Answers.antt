@@ -1,8 +1,10 @@
 use Rattle.std.proofs.Common.{◌≡◌, ◌<◌, ℕ, sym, ◌∙◌, ap, arith, length}
+use Rattle.std.proofs.Common.{refl, set}
 use Rattle.std.specs.Prelude.{None}
 use Rattle.fault_model.specs.Solution.{value}
 use Rattle.flat_circuit.specs.Words.{lane, pin_bits}
-use Rattle.flat_circuit.proofs.Public.{pins_within, pins_few, pins_some, reader_within, only_lanes}
+use Rattle.flat_circuit.proofs.Public.{pins_within, pins_some, reader_within, only_lanes}
+use Rattle.flat_circuit.proofs.Public.{turned_pins}
 use Rattle.block_sim.proofs.Public.{crossed, crossed_where, read_within, reader_driven}
 use Rattle.region_sim.proofs.region.cross.Goals as goal
 
@@ -10,31 +12,19 @@ pub gate_of-requires : goal.gate_of-requires
 gate_of-requires c = reader_within c.args.view.circuit.now.arranged c.args.gate c.args.at.signal
     c.requires.read.reads
 
-pub change-requires-clause-signal : goal.change-requires-clause-signal
-change-requires-clause-signal c =
-    let lt = read_within c.args.view.circuit.now.arranged c.args.gate c.args.at.signal
-    c.requires.view.circuit.well_formed c.requires.read.reads in
-    omega (arith, lt, c.requires.room.overlay)
-
-pub evaluate_gate-word-requires-clause-some : goal.evaluate_gate-word-requires-clause-some
-evaluate_gate-word-requires-clause-some c =
+pub evaluate_turned-word-requires-clause-some : goal.evaluate_turned-word-requires-clause-some
+evaluate_turned-word-requires-clause-some c =
     pins_some c.args.view.circuit.now.arranged c.args.gate c.in-Some.driver.kind
     c.in-Some.driver.pins.now
     c.requires.view.circuit (sym c.in-Some.ensures.gate)
 
-pub evaluate_gate-word-requires-clause-pins_in : goal.evaluate_gate-word-requires-clause-pins_in
-evaluate_gate-word-requires-clause-pins_in c =
+pub evaluate_turned-word-requires-clause-pins_in : goal.evaluate_turned-word-requires-clause-pins_in
+evaluate_turned-word-requires-clause-pins_in c =
     λ k d lt.
     let within = pins_within c.args.view.circuit.now.arranged c.args.gate c.in-Some.driver.kind
     c.in-Some.driver.pins.now c.requires.view.circuit.well_formed (sym c.in-Some.ensures.gate) k d
     lt in
     omega (arith, within, c.requires.view.count)
-
-pub evaluate_gate-word-requires-clause-few : goal.evaluate_gate-word-requires-clause-few
-evaluate_gate-word-requires-clause-few c =
-    pins_few c.args.view.circuit.now.arranged c.args.gate c.in-Some.driver.kind
-    c.in-Some.driver.pins.now
-    c.requires.view.circuit (sym c.in-Some.ensures.gate)
 
 pub bounds-view-gate : goal.bounds-view-gate
 bounds-view-gate c =
@@ -60,17 +50,18 @@ returns-clause-come c = λ tests group f words come.
       low,
       c.requires.room.overlay,
     ) in
+    let delta = set c.args.changes.now.overlay s c.args.at.lanes in
     let valued : (k : ℕ) → k < 128
-    → lane c.evaluate_gate-word.result k ≡ value own.kind
-    (pin_bits None c.args.gate own.pins.now good c.change.new.self k) =
-    λ k lt. c.evaluate_gate-word.ensures.value k lt
-    ∙ ap (λ d. value own.kind (pin_bits None c.args.gate own.pins.now good d k))
-    c.words-delta.ensures in
+    → lane c.evaluate_turned-word.result k ≡ value own.kind
+    (pin_bits None c.args.gate own.pins.now good delta k) =
+    λ k lt. c.evaluate_turned-word.ensures.value k lt ∙ ap (value own.kind)
+    (turned_pins good c.args.changes.now.overlay s c.args.at.lanes k c.requires.clear.words within
+    c.args.gate own.pins.now) in
     crossed circuit tests group f good c.args.view.lanes s c.args.gate c.args.at.lanes
-    c.evaluate_gate-word.result own.kind own.pins.now c.args.changes.now.overlay
-    c.change.new.self
+    c.evaluate_turned-word.result own.kind own.pins.now c.args.changes.now.overlay
+    delta
     c.requires.view.circuit.well_formed words c.requires.read (sym c.in-Some.ensures.gate)
-    c.requires.clear.words within c.change.ensures valued come
+    c.requires.clear.words within refl valued come
 
 pub returns-clause-passed : goal.returns-clause-passed
 returns-clause-passed c = λ tests group k words lt e.
@@ -85,17 +76,18 @@ returns-clause-passed c = λ tests group k words lt e.
       low,
       c.requires.room.overlay,
     ) in
+    let delta = set c.args.changes.now.overlay s c.args.at.lanes in
     let valued : (k : ℕ) → k < 128
-    → lane c.evaluate_gate-word.result k ≡ value own.kind
-    (pin_bits None c.args.gate own.pins.now good c.change.new.self k) =
-    λ k lt. c.evaluate_gate-word.ensures.value k lt
-    ∙ ap (λ d. value own.kind (pin_bits None c.args.gate own.pins.now good d k))
-    c.words-delta.ensures in
+    → lane c.evaluate_turned-word.result k ≡ value own.kind
+    (pin_bits None c.args.gate own.pins.now good delta k) =
+    λ k lt. c.evaluate_turned-word.ensures.value k lt ∙ ap (value own.kind)
+    (turned_pins good c.args.changes.now.overlay s c.args.at.lanes k c.requires.clear.words within
+    c.args.gate own.pins.now) in
     crossed_where circuit tests group good c.args.view.lanes s c.args.gate c.args.at.lanes
-    c.evaluate_gate-word.result own.kind own.pins.now c.args.changes.now.overlay
-    c.change.new.self
+    c.evaluate_turned-word.result own.kind own.pins.now c.args.changes.now.overlay
+    delta
     c.requires.view.circuit.well_formed words c.requires.read (sym c.in-Some.ensures.gate)
-    c.requires.clear.words within c.change.ensures valued k lt e
+    c.requires.clear.words within refl valued k lt e
 
 pub returns-clause-inside : goal.returns-clause-inside
 returns-clause-inside c = λ k e. only_lanes _ c.args.view.lanes k e

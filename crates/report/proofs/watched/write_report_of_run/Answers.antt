@@ -2,7 +2,7 @@ use Rattle.std.proofs.Common.{◌∙◌, ap, length, sym}
 use Rattle.std.proofs.lemmas.Result.{err_from_is_err_and}
 use Rattle.fault_model.specs.Fault.{FaultList}
 use Rattle.byte_output.specs.Output.{TakesAll, TakesFront}
-use Rattle.region_runs.specs.RunJobs.{RunParts}
+use Rattle.region_runs.specs.RunJobs.{RunView}
 use Rattle.report.proofs.VerdictsOfRuns.{taken_by_ledgers, taken_of_job, verdicts_counted}
 use Rattle.report.proofs.watched.write_report_of_run.Goals as goal
 
@@ -10,9 +10,9 @@ pub write_report_in_threads-written-requires : goal.write_report_in_threads-writ
 write_report_in_threads-written-requires g c =
     let list = c.job.ensures.list
     ∙ (c.free_tests_in_thread-freeing.ensures.list
-    ∙ ap (λ (r : RunParts). r.parts.list) c.in_ok-verdicts.ensures.kept) in
+    ∙ ap (λ (r : RunView). r.whole.list) c.in_ok-verdicts.ensures.kept) in
     record {
-      count = verdicts_counted c.args.run.now.parts c.in_ok-verdicts.verdicts.firsts c.requires.job
+      count = verdicts_counted c.args.run.now.whole c.in_ok-verdicts.verdicts.firsts c.requires.job
           c.in_ok-verdicts.ensures.firsts
           ∙ sym (ap (λ (l : FaultList). length l.list) list);
     }
@@ -31,7 +31,7 @@ returns-in_err-written-clause-written g c =
       c.free_tests_in_thread-freeing.ensures.classes,
       c.in_ok-verdicts.ensures.kept,
     ) at c.in_err-written.ensures in
-    rw (p.1, p.2) (taken_of_job c.args.run.now.parts c.args.contents
+    rw (p.1, p.2) (taken_of_job c.args.run.now.whole c.args.contents
     c.in_ok-verdicts.verdicts.firsts (TakesFront _ _) c.in_ok-verdicts.ensures.firsts wrote)
 
 pub returns-clause-written : goal.returns-clause-written
@@ -45,7 +45,7 @@ returns-clause-written g c =
       c.free_tests_in_thread-freeing.ensures.classes,
       c.in_ok-verdicts.ensures.kept,
     ) at c.in_ok-written.ensures in
-    taken_of_job c.args.run.now.parts c.args.contents c.in_ok-verdicts.verdicts.firsts
+    taken_of_job c.args.run.now.whole c.args.contents c.in_ok-verdicts.verdicts.firsts
     (TakesAll _ _) c.in_ok-verdicts.ensures.firsts wrote
 
 pub returns-in_err-written-clause-ledgers :
@@ -62,7 +62,7 @@ returns-in_err-written-clause-ledgers g c =
       c.free_tests_in_thread-freeing.ensures.classes,
       c.in_ok-verdicts.ensures.kept,
     ) at c.in_err-written.ensures in
-    rw (p.1, p.2) (taken_by_ledgers c.args.run.now.parts c.args.parts c.args.workers
+    rw (p.1, p.2) (taken_by_ledgers c.args.run.now.whole c.args.stretches c.args.workers
     c.args.contents c.in_ok-verdicts.verdicts (TakesFront _ _) c.in_ok-verdicts.ensures.ledgers
     wrote)
 
@@ -77,5 +77,5 @@ returns-clause-ledgers g c =
       c.free_tests_in_thread-freeing.ensures.classes,
       c.in_ok-verdicts.ensures.kept,
     ) at c.in_ok-written.ensures in
-    taken_by_ledgers c.args.run.now.parts c.args.parts c.args.workers c.args.contents
+    taken_by_ledgers c.args.run.now.whole c.args.stretches c.args.workers c.args.contents
     c.in_ok-verdicts.verdicts (TakesAll _ _) c.in_ok-verdicts.ensures.ledgers wrote

@@ -2,7 +2,7 @@ use Rattle.std.proofs.Common.{◌≡◌, ◌∙◌, ap, arith, false, length, re
 use Rattle.std.proofs.lemmas.Result.{err_from_is_err_and}
 use Rattle.bench_net.proofs.Public.{some_signal}
 use Rattle.fault_model.specs.Fault.{faults}
-use Rattle.region_runs.specs.RunJobs.{RunParts}
+use Rattle.region_runs.specs.RunJobs.{RunView}
 use Rattle.report.specs.Curve.{curve}
 use Rattle.workers.specs.Verdict.{detected_count}
 use Rattle.tables.specs.CurveTables.{curve_table}
@@ -11,7 +11,7 @@ use Rattle.tables.proofs.curve_table.write_curve_table_of_run.Goals as goal
 
 pub prove-unreachable-requires : goal.prove-unreachable-requires
 prove-unreachable-requires g c =
-    let job = c.args.run.now.parts in
+    let job = c.args.run.now.whole in
     let together = c.requires.job in
     let has = c.stems.ensures job.list.model job.circuit 0 false
     (some_signal job.circuit together.circuit.well_formed) in
@@ -27,8 +27,8 @@ returns-in_err-put_text-clause-written g c =
     c.from_residual-in_err-put_text.ensures.1 in
     let firsts = c.in_ok-verdicts.verdicts.firsts in
     let count = c.count.ensures ∙ ap (λ t. length t.tests) c.tests.ensures.tests
-    ∙ ap (λ (r : RunParts). length r.parts.tests.tests) c.in_ok-verdicts.ensures.kept in
-    let points = curve (length c.args.run.now.parts.tests.tests) firsts in
+    ∙ ap (λ (r : RunView). length r.whole.tests.tests) c.in_ok-verdicts.ensures.kept in
+    let points = curve (length c.args.run.now.whole.tests.tests) firsts in
     let same : c.deref.result.now ≡ points =
     c.deref.ensures.value ∙ (c.in_ok-points.ensures ∙ ap (λ n. curve n firsts) count) in
     let text = rw (
@@ -47,8 +47,8 @@ pub returns-clause-written : goal.returns-clause-written
 returns-clause-written g c =
     let firsts = c.in_ok-verdicts.verdicts.firsts in
     let count = c.count.ensures ∙ ap (λ t. length t.tests) c.tests.ensures.tests
-    ∙ ap (λ (r : RunParts). length r.parts.tests.tests) c.in_ok-verdicts.ensures.kept in
-    let points = curve (length c.args.run.now.parts.tests.tests) firsts in
+    ∙ ap (λ (r : RunView). length r.whole.tests.tests) c.in_ok-verdicts.ensures.kept in
+    let points = curve (length c.args.run.now.whole.tests.tests) firsts in
     let same : c.deref.result.now ≡ points =
     c.deref.ensures.value ∙ (c.in_ok-points.ensures ∙ ap (λ n. curve n firsts) count) in
     let text = rw (

@@ -2,7 +2,7 @@ use Rattle.std.proofs.Common.{ap, arith, length, refl}
 use Rattle.std.proofs.lemmas.Result.{err_from_is_err_and}
 use Rattle.bench_net.proofs.Public.{some_signal}
 use Rattle.fault_model.specs.Fault.{FaultList}
-use Rattle.region_runs.specs.RunJobs.{RunParts}
+use Rattle.region_runs.specs.RunJobs.{RunView}
 use Rattle.analysis_reports.specs.Detected.{reached_count}
 use Rattle.analysis_reports.specs.Histogram.{histogram}
 use Rattle.tables.specs.HistogramTables.{histogram_table}
@@ -16,7 +16,7 @@ prove-unreachable-requires g c =
 pub text_of_counts-requires-clause-total : goal.text_of_counts-requires-clause-total
 text_of_counts-requires-clause-total g c =
     let kept = ap (λ (l : FaultList). length l.list) c.job-job.ensures.list in
-    let same = ap (λ (r : RunParts). length r.parts.list.list) c.in_ok-counts.ensures.same in
+    let same = ap (λ (r : RunView). length r.whole.list.list) c.in_ok-counts.ensures.same in
     let listed = ap (λ (l : FaultList). length l.list) c.requires.job.list in
     let own = ap (λ (l : FaultList). length l.list) c.faults.ensures.part in
     omega (

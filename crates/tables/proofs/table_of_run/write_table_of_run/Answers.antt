@@ -20,7 +20,7 @@ write_table-requires-clause-list g c =
 
 pub write_table-requires-clause-further : goal.write_table-requires-clause-further
 write_table-requires-clause-further g c =
-    let job = c.args.run.now.parts in
+    let job = c.args.run.now.whole in
     let firsts = c.in_ok-verdicts.verdicts.firsts in
     let further = map further_in c.deref.result.now in
     let first = c.in_ok-verdicts.ensures.kept in
@@ -39,7 +39,7 @@ write_table-requires-clause-further g c =
 
 pub returns-clause-written : goal.returns-clause-written
 returns-clause-written g c =
-    let job = c.args.run.now.parts in
+    let job = c.args.run.now.whole in
     let firsts = c.in_ok-verdicts.verdicts.firsts in
     let further = map further_in c.deref.result.now in
     let first = c.in_ok-verdicts.ensures.kept in

@@ -5,12 +5,12 @@ use Rattle.undetected.proofs.AddedWindows.{all_below}
 use Rattle.undetected.proofs.finding.activations.Goals as goal
 
 pub read_words-requires : goal.read_words-requires
-read_words-requires g c = c.in_ok-activations.ensures c.args.run.now.parts
+read_words-requires g c = c.in_ok-activations.ensures c.args.run.now.whole
     (c.circuit.ensures.part ∙ c.job.ensures.circuit)
 
 pub returns-clause-known : goal.returns-clause-known
 returns-clause-known g c =
-    let job = c.args.run.now.parts in
+    let job = c.args.run.now.whole in
     let known = c.read_words.new.reader in
     let below : AreActivationsBelow job (64 * blocks (length job.tests.tests)) known =
     c.in_ok-read_words.ensures.gathered in

@@ -4,11 +4,11 @@ use Rattle.undetected.proofs.finding.reason_at.Goals as goal
 
 pub first-requires : goal.first-requires
 first-requires c =
-    let list = ap length (list_is c.args.run.now.parts c.requires.together) in
+    let list = ap length (list_is c.args.run.now.whole c.requires.together) in
     omega (arith, list, c.requires.firsts.count, c.requires.fault)
 
 pub returns-in-None : goal.returns-in-None
 returns-in-None c = λ f first at found.
-    reason_known c.args.run.now.parts c.args.verdicts.now.firsts c.args.fault f c.first.result first
+    reason_known c.args.run.now.whole c.args.verdicts.now.firsts c.args.fault f c.first.result first
     c.reason_of.result c.requires.together c.requires.firsts at c.first.ensures c.in-None.is found
     (c.reason_of.ensures f at)

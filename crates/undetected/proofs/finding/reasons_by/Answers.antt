@@ -5,7 +5,7 @@ use Rattle.undetected.proofs.finding.reasons_by.Goals as goal
 
 pub loop-fault-preserved : goal.loop-fault-preserved
 loop-fault-preserved c =
-    let job = c.args.run.now.parts in
+    let job = c.args.run.now.whole in
     let firsts = c.args.verdicts.now.firsts in
     let before = c.loop-fault.reasons.items in
     let own = c.reason_at.result in

@@ -6,5 +6,5 @@ use Rattle.undetected.proofs.finding.reasons_by.Given as goal
 abbrev pub invariant-loop-fault : goal.invariant-loop-fault
 invariant-loop-fault l = record {
   count : length l.reasons.items ≡ l.fault;
-  known : AreKnown l.run.parts l.verdicts.firsts l.reasons.items;
+  known : AreKnown l.run.whole l.verdicts.firsts l.reasons.items;
 }

@@ -1,9 +1,6 @@
-use Rattle.std.proofs.Common.{◌/◌, ◌%◌, ◌∙◌, List, ap, arith, get_or}
+use Rattle.std.proofs.Common.{◌/◌, ◌%◌, ◌∙◌, List, ap, get_or}
 use Rattle.flat_circuit.specs.Words.{lane}
 use Rattle.compaction.proofs.detections.Detections.detects.Goals as goal
-
-pub bit_of-requires : goal.bit_of-requires
-bit_of-requires c = omega (arith, c.requires.test, c.row.ensures.count)
 
 pub returns : goal.returns
 returns c = c.bit_of.ensures

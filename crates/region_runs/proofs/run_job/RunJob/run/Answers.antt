@@ -1,4 +1,5 @@
-use Rattle.std.proofs.Common.{◌≡◌, ◌<◌, ◌∙◌, All, List, Option, ap, arith, length, map, subst, sym, ℕ}
+use Rattle.std.proofs.Common.{◌≡◌, ◌<◌, ◌∙◌, All, List, Option, ap, arith, length, map}
+use Rattle.std.proofs.Common.{subst, sym, ℕ}
 use Rattle.fault_model.specs.Collapse.{Collapsed}
 use Rattle.fault_model.specs.Fault.{FaultList}
 use Rattle.patterns.specs.Tests.{TestList, blocks}
@@ -7,7 +8,7 @@ use Rattle.workers.specs.Verdict.{AreClassFirsts, AreFirsts}
 use Rattle.region_sim.proofs.Public.{all_within}
 use Rattle.region_sim.specs.ClassOrder.{AreAllByRegion}
 use Rattle.region_runs.specs.FaultFirsts.{first_at, firsts_of_faults}
-use Rattle.region_runs.specs.RunJobs.{RunParts}
+use Rattle.region_runs.specs.RunJobs.{RunView}
 use Rattle.region_runs.specs.Tasks.{AreKept, first_tests}
 use Rattle.region_runs.proofs.FirstHits.{first_open, firsts_kept}
 use Rattle.region_runs.proofs.FaultFirsts.{faults_first, hits_passed, serves_faults, verdict_found}
@@ -21,20 +22,20 @@ all_firsts job classes firsts together all kept =
     firsts_kept job classes firsts together (all_within job classes all) kept
 
 pub run_goal-requires-clause-wanted : goal.run_goal-requires-clause-wanted
-run_goal-requires-clause-wanted g c κs within = first_open c.args.self.now.parts
+run_goal-requires-clause-wanted g c κs within = first_open c.args.self.now.whole
 
 pub verdicts_in-requires-clause-serves : goal.verdicts_in-requires-clause-serves
 verdicts_in-requires-clause-serves g c =
-    let job = c.args.self.now.parts in
+    let job = c.args.self.now.whole in
     let done = c.in_ok-done.done in
     let is = c.in_ok-done.ensures in
-    let together = subst (λ (r : RunParts). BelongTogether r.parts) is.same
+    let together = subst (λ (r : RunView). BelongTogether r.whole) is.same
     c.tests-tests.ensures.together in
     let own = serves_faults job done.classes.items done.positions.items done.kept.items together
     is.positions is.count
     (all_firsts job done.classes.items done.kept.items together is.classes is.kept) in
     let same : (c.job-job.result.now).classes ≡ job.classes = c.job-job.ensures.classes
-    ∙ ap (λ (r : RunParts). r.parts.classes) is.same in
+    ∙ ap (λ (r : RunView). r.whole.classes) is.same in
     record {
       classes = subst (λ (x : Collapsed). All (λ class. class < length done.positions.items)
           x.class_of) (sym same) own.classes;
@@ -43,13 +44,13 @@ verdicts_in-requires-clause-serves g c =
 
 pub returns-clause-firsts : goal.returns-clause-firsts
 returns-clause-firsts g c =
-    let job = c.args.self.now.parts in
+    let job = c.args.self.now.whole in
     let done = c.in_ok-done.done in
     let is = c.in_ok-done.ensures in
-    let together = subst (λ (r : RunParts). BelongTogether r.parts) is.same
+    let together = subst (λ (r : RunView). BelongTogether r.whole) is.same
     c.tests-tests.ensures.together in
     let same : (c.job-job.result.now).classes ≡ job.classes = c.job-job.ensures.classes
-    ∙ ap (λ (r : RunParts). r.parts.classes) is.same in
+    ∙ ap (λ (r : RunView). r.whole.classes) is.same in
     let found = c.in_ok-verdicts.verdicts.firsts in
     let all : found ≡ firsts_of_faults job done.positions.items done.kept.items =
     c.in_ok-verdicts.ensures.firsts
@@ -63,18 +64,18 @@ verdicts_in-requires-clause-few g c =
     let is = c.in_ok-done.ensures in
     let count = c.count-count.ensures
     ∙ ap (λ (x : Collapsed). length x.representative) (c.classes.ensures.part
-    ∙ (c.job-job.ensures.classes ∙ ap (λ (r : RunParts). r.parts.classes) is.same)) in
+    ∙ (c.job-job.ensures.classes ∙ ap (λ (r : RunView). r.whole.classes) is.same)) in
     omega (arith, is.kept.count, is.positions.count, is.count, count)
 
 pub finds-requires : goal.finds-requires
 finds-requires g c =
-    let job = c.args.self.now.parts in
+    let job = c.args.self.now.whole in
     let done = c.in_ok-done.done in
     let is = c.in_ok-done.ensures in
-    let together = subst (λ (r : RunParts). BelongTogether r.parts) is.same
+    let together = subst (λ (r : RunView). BelongTogether r.whole) is.same
     c.tests-tests.ensures.together in
     let same : (c.job-job.result.now).classes ≡ job.classes = c.job-job.ensures.classes
-    ∙ ap (λ (r : RunParts). r.parts.classes) is.same in
+    ∙ ap (λ (r : RunView). r.whole.classes) is.same in
     let found = c.in_ok-verdicts.verdicts.firsts in
     let all : found ≡ firsts_of_faults job done.positions.items done.kept.items =
     c.in_ok-verdicts.ensures.firsts
@@ -84,35 +85,35 @@ finds-requires g c =
     (all_firsts job done.classes.items done.kept.items together is.classes is.kept) found all in
     subst (λ (l : FaultList). AreFirsts l.model (c.job-job.result.now).circuit
     c.tests-tests.result.now.tests found) (sym (c.job-job.ensures.list
-    ∙ ap (λ (r : RunParts). r.parts.list) is.same))
+    ∙ ap (λ (r : RunView). r.whole.list) is.same))
     (subst (λ x. AreFirsts job.list.model x c.tests-tests.result.now.tests found)
-    (sym (c.job-job.ensures.circuit ∙ ap (λ (r : RunParts). r.parts.circuit) is.same))
+    (sym (c.job-job.ensures.circuit ∙ ap (λ (r : RunView). r.whole.circuit) is.same))
     (subst (λ (t : TestList). AreFirsts job.list.model job.circuit t.tests found)
-    (sym (c.tests-tests.ensures.tests ∙ ap (λ (r : RunParts). r.parts.tests) is.same)) firsts))
+    (sym (c.tests-tests.ensures.tests ∙ ap (λ (r : RunView). r.whole.tests) is.same)) firsts))
 
 pub returns-clause-skipped : goal.returns-clause-skipped
 returns-clause-skipped g c =
-    let job = c.args.self.now.parts in
+    let job = c.args.self.now.whole in
     let done = c.in_ok-done.done in
     let is = c.in_ok-done.ensures in
-    let together = subst (λ (r : RunParts). BelongTogether r.parts) is.same
+    let together = subst (λ (r : RunView). BelongTogether r.whole) is.same
     c.tests-tests.ensures.together in
     let count : c.blocks-2.result ≡ blocks (length job.tests.tests) = c.blocks-2.ensures
     ∙ ap (λ (t : TestList). blocks (length t.tests)) (c.tests-tests.ensures.tests
-    ∙ ap (λ (r : RunParts). r.parts.tests) is.same) in
+    ∙ ap (λ (r : RunView). r.whole.tests) is.same) in
     hits_passed job done.classes.items done.positions.items done.kept.items together is.positions
     is.count (all_firsts job done.classes.items done.kept.items together is.classes is.kept)
     c.blocks-2.result c.in_ok-verdicts.verdicts.skipped count c.in_ok-verdicts.ensures.skipped
 
 pub returns-clause-ledgers : goal.returns-clause-ledgers
 returns-clause-ledgers g c =
-    let job = c.args.self.now.parts in
+    let job = c.args.self.now.whole in
     let done = c.in_ok-done.done in
     let is = c.in_ok-done.ensures in
-    let together = subst (λ (r : RunParts). BelongTogether r.parts) is.same
+    let together = subst (λ (r : RunView). BelongTogether r.whole) is.same
     c.tests-tests.ensures.together in
     let same : (c.job-job.result.now).classes ≡ job.classes = c.job-job.ensures.classes
-    ∙ ap (λ (r : RunParts). r.parts.classes) is.same in
+    ∙ ap (λ (r : RunView). r.whole.classes) is.same in
     let found = c.in_ok-verdicts.verdicts.firsts in
     let all : found ≡ firsts_of_faults job done.positions.items done.kept.items =
     c.in_ok-verdicts.ensures.firsts

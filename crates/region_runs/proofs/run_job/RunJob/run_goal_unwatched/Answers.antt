@@ -2,8 +2,9 @@ use Rattle.std.proofs.Common.{sym}
 use Rattle.std.proofs.lemmas.Result.{IfErr-weaker, IfOk-weaker}
 use Rattle.block_sim.specs.Parts.{with_tests}
 use Rattle.region_runs.specs.Refused.{IsGoalFault, IsOpenFault}
+use Rattle.region_runs.specs.StretchRuns.{GoalWaitsFor}
 use Rattle.region_runs.specs.Tasks.{task_of}
-use Rattle.region_runs.proofs.PartRefusals.{open_goal_fault, passing_fault}
+use Rattle.region_runs.proofs.RunRefusals.{fault_of_open, passing_fault}
 use Rattle.region_runs.proofs.WindowSteps.{all_with}
 use Rattle.region_runs.proofs.run_job.RunJob.run_goal_unwatched.Goals as goal
 
@@ -19,10 +20,11 @@ returns-in-None-clause-open g c = λ lets.
     let task = task_of c.self.inside.job 0 (g.A.Goal.wants c.args.goal.now)
     (g.A.Goal.means c.args.goal.now) in
     IfErr-weaker c.run_goal.result
-    (IsGoalFault task c.args.parts c.args.workers (g.G.Gate.passing c.args.gate.now)
+    (IsGoalFault task c.args.stretches c.args.workers (g.G.Gate.passing c.args.gate.now)
     (g.G.Gate.stops c.args.gate.now)) (IsOpenFault c.args.workers)
-    (λ f h. passing_fault task c.args.parts c.args.workers (g.G.Gate.passing c.args.gate.now)
-    (g.G.Gate.stops c.args.gate.now) f lets h) c.run_goal.ensures.refused
+    (λ f h. passing_fault task.job c.args.workers (g.G.Gate.passing c.args.gate.now)
+    (GoalWaitsFor task c.args.stretches c.args.workers (g.G.Gate.stops c.args.gate.now)) f lets h)
+    c.run_goal.ensures.refused
 
 pub returns-in-Some-clause-refused : goal.returns-in-Some-clause-refused
 returns-in-Some-clause-refused g c =
@@ -30,7 +32,8 @@ returns-in-Some-clause-refused g c =
     (g.A.Goal.wants c.args.goal.now) (g.A.Goal.means c.args.goal.now) in
     rw (sym c.self.view_is, c.in-Some.is) (IfErr-weaker c.run_goal_in_windows.result
     (IsOpenFault c.args.workers)
-    (IsGoalFault task c.args.parts c.args.workers (g.G.Gate.passing c.args.gate.now)
+    (IsGoalFault task c.args.stretches c.args.workers (g.G.Gate.passing c.args.gate.now)
     (g.G.Gate.stops c.args.gate.now))
-    (open_goal_fault task c.args.parts c.args.workers (g.G.Gate.passing c.args.gate.now)
-    (g.G.Gate.stops c.args.gate.now)) c.run_goal_in_windows.ensures.refused)
+    (fault_of_open task.job c.args.workers (g.G.Gate.passing c.args.gate.now)
+    (GoalWaitsFor task c.args.stretches c.args.workers (g.G.Gate.stops c.args.gate.now)))
+    c.run_goal_in_windows.ensures.refused)

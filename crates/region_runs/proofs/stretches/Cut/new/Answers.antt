@@ -7,8 +7,8 @@ returns-clause-cut c =
     let count = c.count_in.ensures.count ∙ ap (λ (l : List ℕ). length l) c.as_slice.ensures.value in
     record {
       from_within = c.requires.from;
-      some = c.requires.parts;
-      size_is = c.div_ceil-size.ensures ∙ ap (λ n. div_ceil n c.args.parts) count;
+      some = c.requires.stretches;
+      size_is = c.div_ceil-size.ensures ∙ ap (λ n. div_ceil n c.args.stretches) count;
       few = c.requires.few;
       within = c.requires.within;
     }

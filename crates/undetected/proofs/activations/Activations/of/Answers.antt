@@ -17,13 +17,13 @@ pub signal_on-signal-requires : goal.signal_on-signal-requires
 signal_on-signal-requires c =
     subst (λ x. (n : Name) × (name_on x c.line_of.result ≡ Some n) × Contains (names x) n)
     (sym (c.circuit.ensures.part ∙ c.job-job.ensures.circuit))
-    (listed_named c.args.run.now.parts c.faults-list.result.now c.args.fault c.line_of.result
+    (listed_named c.args.run.now.whole c.faults-list.result.now c.args.fault c.line_of.result
     (c.faults-list.ensures.part ∙ c.job-job.ensures.list) c.tests-tests.ensures.together
     c.line_of.ensures c.requires.fault)
 
 pub returns-then-stuck_of : goal.returns-then-stuck_of
 returns-then-stuck_of c = λ f at.
-    let job = c.args.run.now.parts in
+    let job = c.args.run.now.whole in
     let own = faults job.list.model job.circuit in
     let together = c.tests-tests.ensures.together in
     let same = ap (λ l. l.list)
@@ -54,7 +54,7 @@ returns-then-stuck_of c = λ f at.
 
 pub returns-else-stuck_of : goal.returns-else-stuck_of
 returns-else-stuck_of c = λ f at.
-    let job = c.args.run.now.parts in
+    let job = c.args.run.now.whole in
     let own = faults job.list.model job.circuit in
     let together = c.tests-tests.ensures.together in
     let same = ap (λ l. l.list)
