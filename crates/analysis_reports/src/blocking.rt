@@ -87,12 +87,7 @@ pub fn write_blocking_of_run<R: Threads + Wait, G: Watch + Sync, W: Out>(
 /// Writes the coverage of the faults of a job, and the pins that block effects of undetected
 /// faults, as [`write_blocking_of_run`] does. `detected` has a flag for each fault of the list:
 /// whether a test detects it.
-///
-/// # Errors
-///
-/// [`SimFault::Memory`] if there is no memory; nothing was written. [`SimFault::Report`] if the
-/// output failed; it has a beginning of the report.
-pub fn write_blocking<W: Out>(
+fn write_blocking<W: Out>(
     alloc: Global,
     job: &Job,
     detected: &[bool],

@@ -71,7 +71,7 @@ pub fn write_detections_of_run<R: Threads + Wait, G: Watch + Sync, W: Out>(
 
 /// Writes the report of how many tests detect each fault of a job. With `listed` it writes a line
 /// for each fault. Then it writes how many faults at least `most` tests detect. It takes no memory.
-pub fn write_detections<W: Out>(
+pub(crate) fn write_detections<W: Out>(
     job: &Job,
     counts: &[u32],
     most: u32,

@@ -15,9 +15,9 @@ use test_columns::{columns_line, test_file};
 /// names its columns ([`test_columns::columns_line`]): for each test two rows, the test itself and
 /// its capture test ([`pairs::launch_pairs`]).
 ///
-/// It fails as [`crate::responses_text_in`] does, and with [`patterns::TestFault::TooMany`] if the
+/// It fails as [`crate::responses_text`] does, and with [`patterns::TestFault::TooMany`] if the
 /// pairs are more rows than a test file may have. It writes nothing before all pairs are there.
-pub fn pairs_text_in<W: Out>(
+pub fn pairs_text<W: Out>(
     alloc: Global,
     bench: &[u8],
     tests: &[u8],

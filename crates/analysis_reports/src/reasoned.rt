@@ -69,7 +69,7 @@ pub fn write_reasons_of_run<R: Threads + Wait, G: Watch + Sync, W: Out>(
     let verdicts = run.run(rt, alloc, stretches, workers, gate)?;
     let reasons = reasons(rt, alloc, run, &verdicts, workers)?;
     gate.explains(reason_counts(&reasons));
-    write_reasons_in_threads(
+    write_reasons(
         rt,
         alloc,
         run.job(),
@@ -83,38 +83,9 @@ pub fn write_reasons_of_run<R: Threads + Wait, G: Watch + Sync, W: Out>(
 }
 
 /// Writes the report of the undetected faults of a job with their reasons, as
-/// [`undetected::reasons`] returns them. The report has a line for each, and then the coverage
-/// line. With `classes` the coverage of the classes follows. Last comes the number of faults for
-/// each reason. It takes no memory.
-///
-/// # Errors
-///
-/// [`ReportFault::Write`] if the output fails. The output has a beginning of the report.
-pub fn write_reasons<W: Out>(
-    job: &Job,
-    verdicts: &Verdicts,
-    reasons: &[Option<Reason>],
-    classes: bool,
-    out: &mut W,
-) -> Result<(), ReportFault>
-    requires verdicts { length verdicts.now.firsts ≡ length job.now.list.list }
-    requires reasons { length reasons.now ≡ length job.now.list.list }
-    ensures { Writes result (W.seen out.old) (W.seen out.new)
-        (reason_report job.now.list.model job.now.circuit job.now.classes verdicts.now.firsts
-        reasons.now classes) }
-{
-    put_reasons(job.circuit(), job.faults(), reasons, out)?;
-    write_totals(job, verdicts, reasons, classes, out)
-}
-
-/// Writes the report of the undetected faults of a job with their reasons, with the same bytes as
-/// [`write_reasons`]. At most as many threads as there are workers put the lines together, as in
-/// [`report::write_report_in_threads`].
-///
-/// # Errors
-///
-/// [`ReportFault::Write`] if the output takes nothing more. It has a beginning of the report.
-pub fn write_reasons_in_threads<R: Threads + Wait, W: Out>(
+/// [`undetected::reasons`] returns them. At most as many threads as there are workers put the lines
+/// together. If the output takes nothing more, it has a beginning of the report.
+fn write_reasons<R: Threads + Wait, W: Out>(
     rt: &R,
     alloc: Global,
     job: &Job,
@@ -131,7 +102,7 @@ pub fn write_reasons_in_threads<R: Threads + Wait, W: Out>(
         reasons.now classes) }
 {
     let (circuit, list) = (job.circuit(), job.faults());
-    put_reasons_in_threads(rt, alloc, circuit, list, reasons, workers, out)?;
+    put_reasons(rt, alloc, circuit, list, reasons, workers, out)?;
     write_totals(job, verdicts, reasons, classes, out)
 }
 
@@ -158,7 +129,7 @@ fn write_totals<W: Out>(
 }
 
 /// Writes a line for each fault that has a reason, by [`put_in_threads`].
-fn put_reasons_in_threads<R: Threads + Wait, W: Out>(
+fn put_reasons<R: Threads + Wait, W: Out>(
     rt: &R,
     alloc: Global,
     circuit: &Circuit,
@@ -179,22 +150,6 @@ fn put_reasons_in_threads<R: Threads + Wait, W: Out>(
         reasons,
     };
     put_in_threads(rt, alloc, &lines, workers, out)
-}
-
-/// Writes a line for each fault that has a reason.
-fn put_reasons<W: Out>(
-    circuit: &Circuit,
-    list: &Faults,
-    reasons: &[Option<Reason>],
-    out: &mut W,
-) -> Result<(), OutFailed>
-    requires list { list.now.list ≡ faults list.now.model circuit.now }
-    requires count { length reasons.now ≡ length list.now.list }
-    ensures { Writes result (W.seen out.old) (W.seen out.new)
-        (flat_map (reason_line circuit.now)
-        (zip (faults list.now.model circuit.now) reasons.now)) }
-{
-    put_reason_lines(circuit, list, reasons, 0, list.count(), out)
 }
 
 /// Writes a line for each fault of a stretch of the list that has a reason. The stretch has the

@@ -18,7 +18,7 @@ use std::alloc::Global;
 /// It reads the bench file before the tests, and fails for each as [`report::simulate_text_in`]
 /// does. There is no limit on pieces, because no fault is simulated. It writes nothing before all
 /// responses are there.
-pub fn responses_text_in<W: Out>(
+pub fn responses_text<W: Out>(
     alloc: Global,
     bench: &[u8],
     tests: &[u8],

@@ -6,7 +6,7 @@ use byte_output::{Out, put_all};
 use job_loading::ReportFault;
 
 /// Writes a text.
-pub fn put_text<W: Out>(text: &[u8], out: &mut W) -> Result<(), ReportFault>
+pub(crate) fn put_text<W: Out>(text: &[u8], out: &mut W) -> Result<(), ReportFault>
     ensures { Writes result (W.seen out.old) (W.seen out.new) text.now }
 {
     Ok(put_all(text, out)?)

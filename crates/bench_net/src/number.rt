@@ -29,7 +29,7 @@ pub struct StatedLine<'a> {
 pub type Names<'a> = IndexSet<&'a str>;
 
 /// Returns the name that a statement defines.
-fn defined<'a>(statement: &Stated<'a>) -> Option<&'a str>
+pub fn defined<'a>(statement: &Stated<'a>) -> Option<&'a str>
     ensures { defined (stands_for statement.now) ≡ option_to_list (option_map (λ n. n.now) result) }
 {
     match statement {

@@ -6,8 +6,9 @@ ghost use Rattle.bench_net.specs.Text.{Word, Equals};
 ghost use Rattle.bench_net.specs.Statement.{Name};
 ghost use Rattle.bench_net.specs.reader.Parsed.{tokens_of, kind_of, has_arity, port, driven_by};
 ghost use Rattle.bench_net.specs.reader.Parsed.{read_tokens, stated_of, names_of, stands_for};
-ghost use Rattle.bench_net.specs.reader.Parsed.{args_in, IsReadAs};
+ghost use Rattle.bench_net.specs.reader.Parsed.{args_in, IsFoundAs, IsReadAs};
 
+use crate::line_error::{Expected, LineError, Reason, Wrong};
 use crate::tokens::{Front, next_token};
 use crate::{BenchFault, Kind};
 use smallvec::SmallVec;
@@ -67,19 +68,23 @@ fn takes(kind: Kind, count: usize) -> bool
     }
 }
 
+/// Returns the error of a line whose token at the front of these bytes, its rest, doesn't fit.
+fn expected(what: Expected, rest: &[u8]) -> Wrong
+    ensures reason { result.reason ≡ Reason.Expected what }
+    ensures left { result.left ≡ length rest.now }
+{
+    Wrong::before(rest, Reason::Expected(what))
+}
+
 /// Returns the arguments up to the parenthesis that ends the line, or the error of the line.
-fn read_arguments<'a>(
-    alloc: Global,
-    bytes: &'a [u8],
-    refusal: BenchFault,
-) -> Result<Arguments<'a>, BenchFault>
-    ensures { IsReadAs refusal (λ args. names_of args.items) (args_in bytes.now) result }
+fn read_arguments<'a>(alloc: Global, bytes: &'a [u8]) -> Result<Arguments<'a>, LineError>
+    ensures { IsFoundAs (λ args. names_of args.items) (args_in bytes.now) result }
 {
     let mut arguments = SmallVec::new(alloc);
     let mut rest = bytes;
     loop {
         let (Front::Word(name), behind) = next_token(rest) else {
-            return Err(refusal);
+            return Err(LineError::Wrong(expected(Expected::Argument, rest)));
         };
         match next_token(behind) {
             (Front::Comma, more) => {
@@ -90,7 +95,8 @@ fn read_arguments<'a>(
                 arguments.push(name)?;
                 return Ok(arguments);
             }
-            _ => return Err(refusal),
+            (Front::Close, end) => return Err(LineError::Wrong(expected(Expected::End, end))),
+            _ => return Err(LineError::Wrong(expected(Expected::CommaOrClose, behind))),
         }
     }
 }
@@ -127,47 +133,97 @@ fn driven<'a>(name: &'a str, word: &str, arguments: Arguments<'a>) -> Option<Sta
     }
 }
 
+/// Returns the reason why `word ( n , .. )` with this number of names is no statement.
+fn port_reason(word: &str, count: usize) -> Reason {
+    if is_keyword(word, "INPUT") || is_keyword(word, "OUTPUT") {
+        Reason::OneArgument(count)
+    } else {
+        Reason::UnknownPort
+    }
+}
+
+/// Returns the reason why `n = word ( a , .. )` with this number of arguments is no statement.
+fn kind_reason(word: &str, count: usize) -> Reason {
+    if is_keyword(word, "DFF") || kind_named(word).is_some() {
+        Reason::OneArgument(count)
+    } else {
+        Reason::UnknownKind
+    }
+}
+
 /// Returns the statement of a line that begins with this word, from the bytes after it.
 fn read_behind<'a>(
     alloc: Global,
+    line: &'a [u8],
     word: &'a str,
     bytes: &'a [u8],
-    refusal: BenchFault,
-) -> Result<Stated<'a>, BenchFault>
-    ensures { IsReadAs refusal stands_for
+) -> Result<Stated<'a>, LineError>
+    ensures { IsFoundAs stands_for
         (option_and_then (λ ts. read_tokens (Word word.now ∷ ts)) (tokens_of bytes.now)) result }
 {
     match next_token(bytes) {
         (Front::Open, rest) => {
-            let arguments = read_arguments(alloc, rest, refusal)?;
-            port(word, arguments).ok_or(refusal)
+            let arguments = read_arguments(alloc, rest)?;
+            let count = arguments.len();
+            match port(word, arguments) {
+                Some(statement) => Ok(statement),
+                None => Err(LineError::Wrong(Wrong::before(line, port_reason(word, count)))),
+            }
         }
-        (Front::Equals, rest) => {
-            let (Front::Word(kind), rest) = next_token(rest) else {
-                return Err(refusal);
-            };
-            let (Front::Open, rest) = next_token(rest) else {
-                return Err(refusal);
-            };
-            let arguments = read_arguments(alloc, rest, refusal)?;
-            driven(word, kind, arguments).ok_or(refusal)
-        }
-        _ => Err(refusal),
+        (Front::Equals, rest) => read_driver(alloc, word, rest),
+        _ => Err(LineError::Wrong(expected(Expected::OpenOrEquals, bytes))),
+    }
+}
+
+/// Returns the statement of a line that begins with this name and `=`, from the bytes after it.
+fn read_driver<'a>(alloc: Global, name: &'a str, bytes: &'a [u8]) -> Result<Stated<'a>, LineError>
+    ensures { IsFoundAs stands_for
+        (option_and_then (λ ts. read_tokens (Word name.now ∷ Equals ∷ ts)) (tokens_of bytes.now))
+        result }
+{
+    let (Front::Word(kind), behind) = next_token(bytes) else {
+        return Err(LineError::Wrong(expected(Expected::Kind, bytes)));
+    };
+    let (Front::Open, rest) = next_token(behind) else {
+        return Err(LineError::Wrong(expected(Expected::Open, behind)));
+    };
+    let arguments = read_arguments(alloc, rest)?;
+    let count = arguments.len();
+    match driven(name, kind, arguments) {
+        Some(statement) => Ok(statement),
+        None => Err(LineError::Wrong(Wrong::before(bytes, kind_reason(kind, count)))),
+    }
+}
+
+/// Returns the statement of a line without its end, or none if the line has no token.
+///
+/// # Errors
+///
+/// `LineError::Wrong` with the first token that doesn't fit if the line is no statement, and
+/// `LineError::Memory`.
+pub fn read_statement<'a>(alloc: Global, line: &'a [u8]) -> Result<Option<Stated<'a>>, LineError>
+    ensures { IsFoundAs (option_map stands_for) (stated_of line.now) result }
+{
+    match next_token(line) {
+        (Front::End, _) => Ok(None),
+        (Front::Word(word), rest) => Ok(Some(read_behind(alloc, line, word, rest)?)),
+        _ => Err(LineError::Wrong(expected(Expected::Name, line))),
     }
 }
 
 /// Returns the statement of a line, or none if the line has no token. It fails with this error if
 /// the line is no statement.
-pub fn read_line<'a>(
+#[inline(always)]
+pub(crate) fn read_line<'a>(
     alloc: Global,
     line: &'a [u8],
     refusal: BenchFault,
 ) -> Result<Option<Stated<'a>>, BenchFault>
     ensures { IsReadAs refusal (option_map stands_for) (stated_of line.now) result }
 {
-    match next_token(line) {
-        (Front::End, _) => Ok(None),
-        (Front::Word(word), rest) => Ok(Some(read_behind(alloc, word, rest, refusal)?)),
-        _ => Err(refusal),
+    match read_statement(alloc, line) {
+        Ok(statement) => Ok(statement),
+        Err(LineError::Wrong(_)) => Err(refusal),
+        Err(LineError::Memory) => Err(BenchFault::Memory),
     }
 }

@@ -102,7 +102,7 @@ fn tables_of_in_threads<R: Threads + Wait, S: Drop>(
 
 /// Makes the circuit of numbered statements as [`bench_net::read_bench`] does, with the same
 /// errors, in three threads, one of which frees what reading no longer needs.
-pub fn circuit_of_in_threads<R: Threads + Wait, S: Drop>(
+pub(crate) fn circuit_of_in_threads<R: Threads + Wait, S: Drop>(
     rt: &R,
     alloc: Global,
     lines: Lines,

@@ -25,10 +25,10 @@ const MAX_THREADS: u32 = 64;
 /// Statements over numbers, and what threads read on the way to them, which takes some milliseconds
 /// to free.
 #[derive(Drop)]
-pub struct LinesRead<'a> {
-    pub lines: Lines,
+pub(crate) struct LinesRead<'a> {
+    pub(crate) lines: Lines,
     /// The stretches, if threads read them.
-    pub spent: Option<File<'a>>,
+    pub(crate) spent: Option<File<'a>>,
 }
 
 /// Returns the statements of a file over numbers, or its error, as [`read_lines`] does, in about as
@@ -36,7 +36,7 @@ pub struct LinesRead<'a> {
 /// and meanwhile the caller's thread numbers the names of the stretches before. Then threads number
 /// the statements, each those of one stretch. The caller's thread alone reads a short file, and it
 /// reads a file with an error again.
-pub fn read_lines_in_threads<'a, R: Threads + Wait>(
+pub(crate) fn read_lines_in_threads<'a, R: Threads + Wait>(
     rt: &R,
     alloc: Global,
     text: &'a [u8],
@@ -68,7 +68,7 @@ fn lines_by_caller<'a>(alloc: Global, text: &'a [u8]) -> Result<LinesRead<'a>, B
 }
 
 /// Returns the number of threads that are worth their start.
-pub fn threads_for(text: &[u8], workers: u32) -> u32 {
+pub(crate) fn threads_for(text: &[u8], workers: u32) -> u32 {
     let most = workers.min(MAX_THREADS) as usize;
     most.min(text.len() / BYTES_OF_A_THREAD) as u32
 }

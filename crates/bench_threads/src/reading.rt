@@ -32,7 +32,7 @@ const BYTES_OF_A_NAME: usize = 32;
 
 /// The stretches of a whole file, and the names that they define.
 #[derive(Drop)]
-pub struct File<'a> {
+pub(crate) struct File<'a> {
     pub(crate) stretches: Vec<Stretch<'a>>,
     /// The names, in the order of their definitions.
     pub(crate) names: Names<'a>,

@@ -6,22 +6,22 @@ use bench_net::read::Counts;
 
 /// The statements of consecutive lines.
 #[derive(Drop)]
-pub struct Stretch<'a> {
+pub(crate) struct Stretch<'a> {
     /// The place in the file at which the first of the lines begins, counted from 0 in bytes.
-    pub start: usize,
+    pub(crate) start: usize,
     /// The place after the last of the lines.
-    pub end: usize,
+    pub(crate) end: usize,
     /// The statements of the lines.
-    pub stated: Vec<StatedLine<'a>>,
+    pub(crate) stated: Vec<StatedLine<'a>>,
     /// The numbers of names that the statements define and read.
-    pub counts: Counts,
+    pub(crate) counts: Counts,
 }
 
 /// The statements of a stretch over numbers.
 #[derive(Drop)]
-pub struct Numbered {
+pub(crate) struct Numbered {
     /// The statements.
-    pub lines: Vec<NumberedLine>,
+    pub(crate) lines: Vec<NumberedLine>,
     /// The numbers of the lines that define a name.
-    pub at: Vec<u64>,
+    pub(crate) at: Vec<u64>,
 }

@@ -23,9 +23,7 @@ use fault_model::{Classes, Faults};
 use flat_circuit::block_lanes::block_word;
 use flat_circuit::block_span::BlockSpan;
 use flat_circuit::block_view::GroupWords;
-use flat_circuit::class_lists::{
-    ClassLists, class_lists, class_lists_under, class_lists_under_in_threads,
-};
+use flat_circuit::class_lists::{ClassLists, class_lists, class_lists_under};
 use flat_circuit::fault_free::{fault_free_rows, fault_free_rows_in_threads};
 use flat_circuit::flat::{FlatCircuit, FlatRows, flat_rows, flat_rows_in_threads};
 use flat_circuit::origin::ListedClass;
@@ -104,6 +102,15 @@ pub struct SpentTests {
 #[derive(Drop)]
 pub struct SpareWords {
     rows: Vec<Vec<u128>>,
+}
+
+impl SpareWords {
+    /// Returns no memory.
+    pub fn none(alloc: Global) -> SpareWords {
+        SpareWords {
+            rows: Vec::new(alloc),
+        }
+    }
 }
 
 impl JobParts {
@@ -344,27 +351,8 @@ impl Job {
     }
 
     /// Takes other tests as [`Job::set_tests_of_any_size`] does, in at most as many threads as there
-    /// are workers, which share the words of their blocks.
-    pub fn set_tests_of_any_size_in_threads<R: Threads + Wait>(
-        &mut self,
-        rt: &R,
-        alloc: Global,
-        tests: Tests,
-        workers: u32,
-    ) -> Result<(), AllocError>
-        requires tests { IsTestList tests }
-        requires width { tests.width ≡ length (sources self.old.circuit) }
-        ensures job { OnOk result (self.new ≡ with_tests self.old tests) }
-        ensures kept { IfErr result (λ fault. self.new ≡ self.old) }
-    {
-        let none = SpareWords {
-            rows: Vec::new(alloc),
-        };
-        self.set_tests_over(rt, alloc, tests, none, workers)
-    }
-
-    /// Takes other tests as [`Job::set_tests_of_any_size_in_threads`] does. Their words take the
-    /// memory of spare words, as far as these are of as many signals.
+    /// are workers, which share the words of their blocks. The words take the memory of spare words,
+    /// as far as these are of as many signals.
     pub fn set_tests_over<R: Threads + Wait>(
         &mut self,
         rt: &R,
@@ -564,22 +552,6 @@ fn words_of(alloc: Global, flat: &FlatCircuit, tests: &Tests) -> Result<Vec<Vec<
     fault_free_rows(alloc, flat, tests, Vec::new(alloc))
 }
 
-/// Makes the lists of the classes of a circuit under a model, in one thread or two.
-fn lists_beside<R: Threads + Wait>(
-    alloc: Global,
-    circuit: &Circuit,
-    model: fault_model::Model,
-    threads: u32,
-) -> Result<ClassLists, AllocError>
-    ensures lists { IfOk result (λ lists. AreClassLists circuit.now lists) }
-    ensures model { IfOk result (λ lists. lists.faults.model ≡ model) }
-{
-    if threads < 2 {
-        return class_lists_under(alloc, circuit, model);
-    }
-    class_lists_under_in_threads(&StandIn::<R>::new(), alloc, circuit, model)
-}
-
 /// Makes the flat arrays of a circuit and the lists of its classes under a model. If the circuit is
 /// large, and there is a second worker, a thread or two make the lists at the same time.
 fn rows_and_lists<R: Threads + Wait>(
@@ -595,12 +567,12 @@ fn rows_and_lists<R: Threads + Wait>(
 {
     if workers < 2 || circuit.signals() < LARGE_CIRCUIT {
         let rows = flat_rows(alloc, circuit);
-        return (rows, class_lists_under(alloc, circuit, model));
+        return (rows, class_lists_under(rt, alloc, circuit, model, 1));
     }
     let threads = if workers < WORKERS_FOR_LISTS { 1 } else { 2 };
     let (lists, rows) = thread::join(
         rt,
-        move || lists_beside::<R>(alloc, circuit, model, threads),
+        move || class_lists_under(&StandIn::<R>::new(), alloc, circuit, model, threads),
         move || flat_rows_in_threads(rt, alloc, circuit, workers - threads),
     );
     (rows, lists)

@@ -2,10 +2,12 @@
 //! models, and the statuses with which they end.
 #![tactic(auto)]
 
+mod memory;
 mod models;
 mod source;
 mod status;
 
+pub use memory::keep_freed_memory;
 pub use models::{MODELS, model_named};
 pub use source::{FileId, Files, Source, SourceFault, WriteFault, is_standard_input};
 pub use status::{DONE, FAILED, MISUSED, REFUSED, status_of};

@@ -4,7 +4,7 @@ ghost use Rattle.std.specs.Prelude.{◌≤◌};
 
 use crate::command::run_words;
 use crate::status::{CommandError, MISSED, NO_MEMORY, UNWRITTEN, answer_fault};
-use command_basics::{DONE, Files, REFUSED};
+use command_basics::{DONE, Files, REFUSED, keep_freed_memory};
 use report::{Out, Plain};
 use std::alloc::{AllocError, Global};
 use std::env;
@@ -23,6 +23,7 @@ pub fn run_arguments<
 >(rt: &R, input: Stdin, out: W, err: &mut E) -> u8
     ensures { result ≤ 4 }
 {
+    keep_freed_memory(rt.alloc());
     match read_arguments(rt) {
         Ok(arguments) => run_on_files(rt, &arguments, input, out, err),
         Err(fault) => answer_fault(&fault, None, err),

@@ -11,7 +11,7 @@ use crate::status::{CommandError, NO_MEMORY, UNWRITTEN, answer_fault};
 use crate::tasks::{Task, command_line};
 use crate::values::{has_word, read_contents, read_format, read_model, read_workers};
 use crate::wanted::{read_compact, read_curve, read_run};
-use analysis_reports::{pairs_text_in, responses_text_in};
+use analysis_reports::{pairs_text, responses_text};
 use clap::error::ErrorKind;
 use clap::{ArgMatches, Error};
 use command_basics::{DONE, MISUSED, Source};
@@ -146,9 +146,9 @@ fn do_responses<S: Source, W: Out>(
 ) -> Result<(), CommandError> {
     let InputFiles { bench, tests } = read_inputs(alloc, matches, files)?;
     if matches.get_flag("pairs") {
-        pairs_text_in(alloc, &bench, &tests, out)?;
+        pairs_text(alloc, &bench, &tests, out)?;
     } else {
-        responses_text_in(alloc, &bench, &tests, out)?;
+        responses_text(alloc, &bench, &tests, out)?;
     }
     Ok(())
 }

@@ -212,7 +212,8 @@ classes, and so on, until no kept test detects a class anew. (A test that is not
 kept may detect more than the first.) Under transition-pairs the pairs are in
 this order; transition has only the order of the list.
 
-Each FILE is read whole. One FILE can be -, the standard input.";
+A test file of 4 MiB or more is read piece by piece, each other FILE whole. One
+FILE can be -, the standard input.";
 
 /// The end of the long help of `responses`.
 pub(crate) const ABOUT_RESPONSES: &str = "\

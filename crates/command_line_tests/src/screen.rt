@@ -5,7 +5,7 @@ use std::alloc::Global;
 
 /// An output that takes at most `step` bytes a call, and fails past `limit` bytes.
 #[derive(Drop)]
-pub struct Screen {
+pub(crate) struct Screen {
     bytes: Vec<u8>,
     limit: usize,
     step: usize,
@@ -14,7 +14,7 @@ pub struct Screen {
 
 impl Screen {
     /// Returns an output with a limit of bytes, and of bytes a call.
-    pub fn cut(alloc: Global, limit: usize, step: usize) -> Screen {
+    pub(crate) fn cut(alloc: Global, limit: usize, step: usize) -> Screen {
         Screen {
             bytes: Vec::new(alloc),
             limit,
@@ -24,12 +24,12 @@ impl Screen {
     }
 
     /// Returns an output that takes 4,096 bytes.
-    pub fn new(alloc: Global) -> Screen {
+    pub(crate) fn new(alloc: Global) -> Screen {
         Screen::cut(alloc, 4096, 4096)
     }
 
     /// Returns the bytes that it has taken.
-    pub fn text(&self) -> &[u8] {
+    pub(crate) fn text(&self) -> &[u8] {
         self.bytes.as_slice()
     }
 }

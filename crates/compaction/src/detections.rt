@@ -22,7 +22,7 @@ pub(crate) const GROUP_SIZE: u32 = 128;
 
 /// The tests of a job that detect each class: for each class a word for each group of 128 tests.
 #[derive(Drop)]
-pub struct Detections {
+pub(crate) struct Detections {
     /// For each class, by its number, its position.
     positions: Vec<u32>,
     /// At each position the words of the class there.
@@ -49,7 +49,7 @@ impl Model for Detections {
 impl Detections {
     /// Simulates each class of a job under all of its tests. The run is one in this number of
     /// stretches, under a gate that lets each piece pass.
-    pub fn new<G: Watch + Sync, R: Threads + Wait>(
+    pub(crate) fn new<G: Watch + Sync, R: Threads + Wait>(
         rt: &R,
         alloc: Global,
         job: &Job,
@@ -81,28 +81,28 @@ impl Detections {
     }
 
     /// Returns the number of classes.
-    pub fn classes(&self) -> usize
+    pub(crate) fn classes(&self) -> usize
         ensures { result ≡ length self.now.words }
     {
         self.positions.len()
     }
 
     /// Returns the number of tests.
-    pub fn tests(&self) -> u32
+    pub(crate) fn tests(&self) -> u32
         ensures { result ≡ self.now.tests }
     {
         self.tests
     }
 
     /// Returns the number of groups of 128 tests.
-    pub fn groups(&self) -> usize
+    pub(crate) fn groups(&self) -> usize
         ensures { result ≡ groups self.now.tests }
     {
         self.tests.div_ceil(GROUP_SIZE) as usize
     }
 
     /// Returns whether a test detects a class.
-    pub fn detects(&self, class: usize, test: u32) -> bool
+    pub(crate) fn detects(&self, class: usize, test: u32) -> bool
         ensures { result ≡ detects_by self.now class test }
     {
         bit_of(self.row(class), test)
@@ -110,7 +110,7 @@ impl Detections {
 
     /// Returns the words of a class, one for each group of 128 tests. A lane is 1 if its test
     /// detects the class.
-    pub fn row(&self, class: usize) -> &[u128]
+    pub(crate) fn row(&self, class: usize) -> &[u128]
         ensures words { result.now ≡ slice_index_or self.now.words class [] }
         ensures count { class < length self.now.words → length result.now ≡ groups self.now.tests }
     {

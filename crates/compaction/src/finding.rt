@@ -14,7 +14,7 @@ use workers::{RunFault, Verdicts};
 
 /// Returns for each test of a job whether it is the first to detect some fault. The run is one in
 /// this number of stretches, under a gate that lets each piece pass.
-pub fn finding_tests<G: Watch + Sync, R: Threads + Wait>(
+pub(crate) fn finding_tests<G: Watch + Sync, R: Threads + Wait>(
     rt: &R,
     alloc: Global,
     run: &mut RunJob,
@@ -48,7 +48,7 @@ fn marks_of(alloc: Global, verdicts: &Verdicts, tests: u32) -> Result<Vec<bool>,
 }
 
 /// Marks the first or the last test of a fault, if it is one of these tests.
-pub fn mark_test(marks: &mut [bool], test: Option<u32>)
+pub(crate) fn mark_test(marks: &mut [bool], test: Option<u32>)
     ensures count { length marks.new ≡ length marks.old }
     ensures each { (t : ℕ) → t < length marks.old → slice_index_or marks.new t false
         ≡ (slice_index_or marks.old t false || is_first t test) }
@@ -63,7 +63,7 @@ pub fn mark_test(marks: &mut [bool], test: Option<u32>)
 }
 
 /// Marks the test before each marked test too.
-pub fn mark_before(marks: &mut [bool])
+pub(crate) fn mark_before(marks: &mut [bool])
     ensures count { length marks.new ≡ length marks.old }
     ensures each { (t : ℕ) → t < length marks.old → slice_index_or marks.new t false
         ≡ (slice_index_or marks.old t false || slice_index_or marks.old (t + 1) false) }

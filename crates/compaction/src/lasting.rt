@@ -16,7 +16,7 @@ use workers::RunFault;
 
 /// Returns for each test of a job whether it is the last to detect some fault. The run is one in
 /// this number of stretches, under a gate that lets each piece pass.
-pub fn lasting_tests<G: Watch + Sync, R: Threads + Wait>(
+pub(crate) fn lasting_tests<G: Watch + Sync, R: Threads + Wait>(
     rt: &R,
     alloc: Global,
     run: &mut RunJob,

@@ -12,7 +12,7 @@ use patterns::{PushFault, Tests};
 use std::alloc::{AllocError, Global};
 
 /// Returns the numbers of the tests, from 0.
-pub fn all_numbers(alloc: Global, tests: u32) -> Result<Vec<u32>, AllocError>
+pub(crate) fn all_numbers(alloc: Global, tests: u32) -> Result<Vec<u32>, AllocError>
     ensures { IfOk result (λ numbers. numbers.items ≡ below tests) }
 {
     let mut numbers = Vec::with_capacity(alloc, tests as usize)?;
@@ -23,7 +23,7 @@ pub fn all_numbers(alloc: Global, tests: u32) -> Result<Vec<u32>, AllocError>
 }
 
 /// Returns the marked tests of a list, in order, each with the number that the list has for it.
-pub fn kept_tests(
+pub(crate) fn kept_tests(
     alloc: Global,
     tests: &Tests,
     numbers: &[u32],
@@ -72,7 +72,7 @@ fn marked_tests(alloc: Global, tests: &Tests, marks: &[bool]) -> Result<Tests, A
 }
 
 /// Returns the tests of a list from the last to the first.
-pub fn reversed_tests(alloc: Global, tests: &Tests) -> Result<Tests, AllocError>
+pub(crate) fn reversed_tests(alloc: Global, tests: &Tests) -> Result<Tests, AllocError>
     ensures count { IfOk result (λ reversed. length reversed.tests ≡ length tests.now.tests) }
     ensures rows { IfOk result (λ reversed.
         ReversedBelow tests.now.tests reversed.tests (length tests.now.tests)) }
@@ -88,7 +88,7 @@ pub fn reversed_tests(alloc: Global, tests: &Tests) -> Result<Tests, AllocError>
 }
 
 /// Adds a test of a list to another list of the same width, if there is room for it.
-pub fn push_test(
+pub(crate) fn push_test(
     alloc: Global,
     tests: &Tests,
     test: u32,

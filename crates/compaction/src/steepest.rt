@@ -23,7 +23,7 @@ struct Split {
 /// that none before it detects, the first of such tests. It leaves out a test that would detect
 /// none. It counts each class once at all tests, and takes it off once. Beside that each test takes
 /// time for the classes that some test detects, and none so far.
-pub fn steepest_order(alloc: Global, detections: &Detections) -> Result<Vec<u32>, AllocError>
+pub(crate) fn steepest_order(alloc: Global, detections: &Detections) -> Result<Vec<u32>, AllocError>
     ensures { IfOk result (λ order. IsSteepest (detects_by detections.now)
         (length detections.now.words) detections.now.tests order.items) }
 {

@@ -121,29 +121,21 @@ fn faults_and_classes(
     Ok((faults, classes))
 }
 
-/// Lists the faults of a circuit under a model, collapses them, and makes the lists of the classes.
-pub fn class_lists_under(
-    alloc: Global,
-    circuit: &Circuit,
-    model: Model,
-) -> Result<ClassLists, AllocError>
-    ensures lists { IfOk result (λ lists. AreClassLists circuit.now lists) }
-    ensures model { IfOk result (λ lists. lists.faults.model ≡ model) }
-{
-    let (faults, classes) = faults_and_classes(alloc, circuit, model)?;
-    class_lists(alloc, circuit, faults, classes)
-}
-
-/// Makes the lists of [`class_lists_under`], the last of them in two threads.
-pub fn class_lists_under_in_threads<R: Threads + Wait>(
+/// Lists the faults of a circuit under a model, collapses them, and makes the lists of the classes,
+/// the last of them in two threads if there are two.
+pub fn class_lists_under<R: Threads + Wait>(
     rt: &R,
     alloc: Global,
     circuit: &Circuit,
     model: Model,
+    threads: u32,
 ) -> Result<ClassLists, AllocError>
     ensures lists { IfOk result (λ lists. AreClassLists circuit.now lists) }
     ensures model { IfOk result (λ lists. lists.faults.model ≡ model) }
 {
     let (faults, classes) = faults_and_classes(alloc, circuit, model)?;
+    if threads < 2 {
+        return class_lists(alloc, circuit, faults, classes);
+    }
     class_lists_in_threads(rt, alloc, circuit, faults, classes)
 }

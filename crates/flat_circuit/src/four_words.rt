@@ -159,7 +159,7 @@ fn signal_words(
 
 /// Writes the fault-free word of every signal on four groups, the first of which is given, as
 /// [`evaluate`](crate::words::evaluate) does on one.
-pub fn evaluate_four(
+pub(crate) fn evaluate_four(
     circuit: &FlatCircuit,
     tests: &Tests,
     group: u32,

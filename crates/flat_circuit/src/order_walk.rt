@@ -57,7 +57,7 @@ struct Walk {
 ///
 /// No clause promises anything about these numbers: they affect the speed of a simulation, and no
 /// result.
-pub fn walk_ranks(alloc: Global, circuit: &Circuit) -> Result<Vec<u32>, AllocError>
+pub(crate) fn walk_ranks(alloc: Global, circuit: &Circuit) -> Result<Vec<u32>, AllocError>
     requires { IsCircuit circuit.now }
     ensures { IfOk result (λ ranks. length ranks.items ≡ length (names circuit.now)) }
 {

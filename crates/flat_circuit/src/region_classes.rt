@@ -16,7 +16,7 @@ use fault_model::{Classes, Faults, Line};
 use std::alloc::{AllocError, Global};
 
 /// Returns the stem of each class: the stem of the region of its representative's line.
-pub fn class_stems(
+pub(crate) fn class_stems(
     alloc: Global,
     circuit: &Circuit,
     faults: &Faults,
@@ -42,7 +42,11 @@ pub fn class_stems(
 
 /// Returns for each class the next one with its stem, and for the last the first, for this number
 /// of signals.
-pub fn next_with_stem(alloc: Global, stems: &[u32], signals: u32) -> Result<Vec<u32>, AllocError>
+pub(crate) fn next_with_stem(
+    alloc: Global,
+    stems: &[u32],
+    signals: u32,
+) -> Result<Vec<u32>, AllocError>
     requires stems { All (λ stem. stem < signals) stems.now }
     requires few { length stems.now < 2 ^ 32 }
     ensures count { IfOk result (λ next. length next.items ≡ length stems.now) }

@@ -20,7 +20,7 @@ use std::alloc::{AllocError, Global};
 /// the signals that it reads. No result depends on which topological order it is. This one comes
 /// from a walk against the flow: the position of a gate is the step at which the walk leaves it. In
 /// any case a gate follows all signals that it reads.
-pub fn flow_order(alloc: Global, circuit: &Circuit) -> Result<Vec<u32>, AllocError>
+pub(crate) fn flow_order(alloc: Global, circuit: &Circuit) -> Result<Vec<u32>, AllocError>
     requires { IsCircuit circuit.now }
     ensures { IfOk result (λ order. IsFlowOrder circuit.now order.items) }
 {

@@ -10,7 +10,11 @@ use bench_net::Circuit;
 use std::alloc::{AllocError, Global};
 
 /// Returns the place of each signal in a topological order, at the signal's number.
-pub fn places_of(alloc: Global, circuit: &Circuit, order: &[u32]) -> Result<Vec<u32>, AllocError>
+pub(crate) fn places_of(
+    alloc: Global,
+    circuit: &Circuit,
+    order: &[u32],
+) -> Result<Vec<u32>, AllocError>
     requires circuit { IsCircuit circuit.now }
     requires order { IsFlowOrder circuit.now order.now }
     ensures count { IfOk result (λ places. length places.items ≡ length (names circuit.now)) }

@@ -32,8 +32,8 @@ use patterns::Tests;
 /// for all its readers. A transition fault is detected if this fault is and the test before fits.
 #[derive(Clone, Copy)]
 pub struct Stuck {
-    pub model: fault_model::Model,
     pub line: Line,
+    pub model: fault_model::Model,
     pub at_one: bool,
 }
 

@@ -18,7 +18,7 @@ use Rattle.input_check.specs.declared.tests.TestCheck.TheVariants as test_check
 use Rattle.input_check.specs.declared.answer.Answer.{Answer}
 use Rattle.input_check.specs.declared.answer.Answer.TheVariants as answer
 use Rattle.input_check.specs.Counts.{AreSizesOf, IsExcessOf}
-use Rattle.input_errors.specs.declared.finding.InputError.TheVariants as fault
+use Rattle.input_check.specs.declared.finding.InputError.TheVariants as fault
 
 -- a bench file is accepted with its circuit, and else has the first of the reported errors
 abbrev pub IsBenchCheckOf : List ℕ → BenchCheck → Type 0

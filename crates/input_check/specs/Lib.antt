@@ -1,3 +1,4 @@
 pub mod Checks
 pub mod Counts
 pub mod Objects
+pub mod Words

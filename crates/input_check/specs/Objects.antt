@@ -6,9 +6,9 @@ use Rattle.std.specs.List.{flat_map}
 use Rattle.json.specs.Print.{quoted}
 use Rattle.fault_model.specs.declared.Model.{Model}
 use Rattle.fault_model.specs.declared.Model.TheVariants.{StuckAt, Transition, TransitionPairs}
-use Rattle.input_errors.specs.declared.finding.Finding.{Finding}
-use Rattle.input_errors.specs.declared.finding.Findings.{Findings}
-use Rattle.input_errors.specs.Words.{line_of, words}
+use Rattle.input_check.specs.declared.finding.Finding.{Finding}
+use Rattle.input_check.specs.declared.finding.Findings.{Findings}
+use Rattle.input_check.specs.Words.{line_of, words}
 use Rattle.input_check.specs.declared.answer.Answer.{Answer}
 use Rattle.input_check.specs.declared.answer.Answer.TheVariants as answer
 use Rattle.input_check.specs.declared.errors.ErrorRow.{ErrorRow}

@@ -7,12 +7,13 @@ ghost use Rattle.input_check.specs.Checks.{IsAnswerTo, IsCircuitAnswer, IsTestsA
 ghost use Rattle.input_check.specs.Checks.{IsTextAnswer};
 
 use crate::bench::{BenchCheck, check_bench};
+use crate::finding::Findings;
 use crate::sizes::Sizes;
 use crate::summary::{Excess, count_circuit, count_tests, excess_of};
 use crate::tests::{TestCheck, check_tests};
+use crate::warning::warnings_of;
 use bench_net::Circuit;
 use fault_model::Model;
-use input_errors::{Findings, add_circuit_warnings, add_pair_warnings, add_test_warnings};
 use patterns::Tests;
 use std::alloc::{AllocError, Global};
 
@@ -61,13 +62,11 @@ fn answer_for<'a>(
         Some(text) => answer_for_text(alloc, model, circuit, text),
         None => {
             let counts = count_circuit(alloc, model, circuit)?;
-            let mut warnings = Vec::new(alloc);
-            add_circuit_warnings(&mut warnings, alloc, circuit)?;
             Ok(Answer::Accepted(Sizes {
                 counts,
                 tests_a_run: counts.tests_a_run(),
                 tests: None,
-                warnings,
+                warnings: warnings_of(alloc, model, circuit, None)?,
             }))
         }
     }
@@ -108,26 +107,8 @@ fn answer_for_tests<'a>(
                 counts,
                 tests_a_run: counts.tests_a_run(),
                 tests: Some(taken),
-                warnings: warnings_of(alloc, model, circuit, tests)?,
+                warnings: warnings_of(alloc, model, circuit, Some(tests))?,
             }))
         }
     }
-}
-
-/// Returns the warnings of a circuit and of tests for it.
-fn warnings_of(
-    alloc: Global,
-    model: Model,
-    circuit: &Circuit,
-    tests: &Tests,
-) -> Result<Vec<String>, AllocError> {
-    let mut warnings = Vec::new(alloc);
-    add_circuit_warnings(&mut warnings, alloc, circuit)?;
-    match model {
-        Model::StuckAt | Model::Transition => {
-            add_test_warnings(&mut warnings, alloc, circuit, tests)?;
-        }
-        Model::TransitionPairs => add_pair_warnings(&mut warnings, alloc, circuit, tests)?,
-    }
-    Ok(warnings)
 }

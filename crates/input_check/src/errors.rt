@@ -6,9 +6,10 @@ ghost use Rattle.input_check.specs.Objects.{AreErrorsOf, cells_of, excess_cells,
 ghost use Rattle.input_check.specs.Objects.{column_of, error_of, error_text, errors_object};
 ghost use Rattle.input_check.specs.Objects.{without_hint};
 
+use crate::finding::{Finding, Findings};
 use crate::json_text::{add_pieces, number_or_null, quoted, quoted_or_null, without_first};
+use crate::note::Note;
 use crate::summary::Excess;
-use input_errors::{Finding, Findings, Note};
 use itoa::Buffer;
 use std::alloc::{AllocError, Global};
 

@@ -16,4 +16,4 @@ pub use pieces::{LONG_TESTS, piece_bytes};
 pub use region_runs::{ReasonCounts, RunJob, Watch};
 pub use runs::{Limit, read_run, read_run_in_pieces};
 pub use sums::{FileSums, sum_of};
-pub use texts::{job_for, job_of, read_inputs, read_inputs_in_threads};
+pub use texts::{job_for, job_of, read_inputs};

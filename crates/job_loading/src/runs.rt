@@ -34,9 +34,9 @@ pub enum Limit {
 /// Reads the job of a bench file and a test file under a model, for a run of all its classes or of
 /// a part of them.
 ///
-/// It reads the files as [`crate::read_inputs_in_threads`] does. Only with [`Limit::Pieces`] does
-/// it check the number of pieces. If `apart` is set, the tests may stand apart, so that the run
-/// goes window by window.
+/// It reads the files in about as many threads as there are workers, with the errors of
+/// [`crate::read_inputs`]. Only with [`Limit::Pieces`] does it check the number of pieces. If
+/// `apart` is set, the tests may stand apart, so that the run goes window by window.
 pub fn read_run<R: Threads + Wait>(
     rt: &R,
     alloc: Global,

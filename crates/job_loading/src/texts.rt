@@ -68,7 +68,7 @@ pub fn read_inputs(alloc: Global, bench: &[u8], tests: &[u8]) -> Result<(Circuit
 /// bench file is long and the test file is very long, they read both at the same time: one thread
 /// the bench file, and the others the tests, with the width of their first row as a guess. If the
 /// circuit has another number of sources, they read the tests again.
-pub fn read_inputs_in_threads<R: Threads + Wait>(
+pub(crate) fn read_inputs_in_threads<R: Threads + Wait>(
     rt: &R,
     alloc: Global,
     bench: &[u8],

@@ -21,7 +21,6 @@ mod Joins
 mod WindowValues
 mod WindowSteps
 mod RunRefusals
-mod GivenTests
 mod ReadWords
 mod PartsInView
 pub mod Public

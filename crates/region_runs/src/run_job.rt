@@ -24,7 +24,7 @@ use crate::windows::{
     Window, forget_tests, run_goal_in_windows, run_windows, take_window, window_blocks,
 };
 use crate::word_reader::{WordReader, read_in_windows};
-use block_sim::{Job, SpentTests};
+use block_sim::{Job, SpareWords};
 use patterns::{BLOCK_SIZE, MAX_TESTS, Tests};
 use region_sim::FirstTest;
 use std::alloc::{AllocError, Global};
@@ -147,8 +147,7 @@ impl RunJob {
         if tests.blocks() <= self.step() {
             return self.set_own_tests(rt, alloc, tests, workers);
         }
-        let none = Tests::new(alloc, tests.width());
-        self.job.set_tests_of_any_size(alloc, none)?;
+        drop(self.job.give_tests(alloc)?);
         self.apart = Some(tests);
         Ok(())
     }
@@ -167,8 +166,8 @@ impl RunJob {
         ensures own { OnOk result (self.new.apart ≡ false) }
         ensures kept { IfErr result (λ fault. self.new ≡ self.old) }
     {
-        let job = &mut self.job;
-        job.set_tests_of_any_size_in_threads(rt, alloc, tests, workers)?;
+        let none = SpareWords::none(alloc);
+        self.job.set_tests_over(rt, alloc, tests, none, workers)?;
         self.apart = None;
         Ok(())
     }
@@ -192,20 +191,6 @@ impl RunJob {
         take_all(rt, alloc, &mut self.job, tests, workers)?;
         self.apart = None;
         Ok(())
-    }
-
-    /// Returns the tests of the job and their fault-free words, so that another thread can free
-    /// them. The run has none then, unless they stand apart. It returns `None` if memory runs out,
-    /// and then the run is as it was.
-    pub fn give_tests(&mut self, alloc: Global) -> Option<SpentTests>
-        ensures kept { (some : TestList) × (self.new.whole ≡ with_tests self.old.whole some) }
-        ensures none { IfNone result (self.new ≡ self.old) }
-        ensures apart { self.old.apart ≡ true → self.new ≡ self.old }
-        ensures given { self.old.apart ≡ false → IfSome result (λ spent. self.new.whole
-            ≡ with_tests self.old.whole
-            (record { width = self.old.whole.tests.width; tests = [] })) }
-    {
-        self.job.give_tests(alloc).ok()
     }
 
     /// Runs all classes in a number of stretches, by workers in threads of their own, and returns

@@ -207,8 +207,7 @@ pub(crate) fn forget_tests(alloc: Global, job: &mut Job) -> Result<(), AllocErro
     ensures none { OnOk result (job.new.tests.tests ≡ []) }
     ensures kept { job.new ≡ with_tests job.old job.new.tests }
 {
-    let none = Tests::new(alloc, job.circuit().sources());
-    job.set_tests_of_any_size(alloc, none)?;
+    drop(job.give_tests(alloc)?);
     Ok(())
 }
 

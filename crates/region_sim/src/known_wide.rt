@@ -9,9 +9,9 @@ use wide_words::Wide;
 
 /// A signal and its word.
 #[derive(Clone, Copy)]
-pub struct KnownWord {
-    pub signal: u32,
-    pub word: Wide,
+pub(crate) struct KnownWord {
+    pub(crate) signal: u32,
+    pub(crate) word: Wide,
 }
 
 /// The wide words that are known. They stand in the order in which they came, so the memory that is
@@ -19,7 +19,7 @@ pub struct KnownWord {
 /// there is a place among them, which counts only if the word there is the signal's: so all words
 /// are forgotten at once.
 #[derive(Drop)]
-pub struct KnownWide {
+pub(crate) struct KnownWide {
     places: Vec<u32>,
     known: Vec<KnownWord>,
 }
@@ -38,7 +38,7 @@ impl Model for KnownWide {
 
 impl KnownWide {
     /// Makes room for the words of this many signals.
-    pub fn new(alloc: Global, signals: u32) -> Result<KnownWide, AllocError>
+    pub(crate) fn new(alloc: Global, signals: u32) -> Result<KnownWide, AllocError>
         ensures { IfOk result (λ known. length known ≡ signals) }
     {
         let places = vec![in alloc; 0u32; signals as usize]?;
@@ -49,7 +49,7 @@ impl KnownWide {
     /// Forgets all words.
     #[inline(always)]
     #[tactic(auto, using(crate::proofs::KnownWideWords::none_known))]
-    pub fn forget(&mut self)
+    pub(crate) fn forget(&mut self)
         ensures room { length self.new ≡ length self.old }
         ensures none { (signal : ℕ) → slice_index_or self.new signal None ≡ None }
     {
@@ -58,7 +58,7 @@ impl KnownWide {
 
     /// Returns the word of a signal, if it is known.
     #[inline(always)]
-    pub fn of(&self, signal: u32) -> Option<Wide>
+    pub(crate) fn of(&self, signal: u32) -> Option<Wide>
         requires { signal < length self.now }
         ensures { result ≡ slice_index_or self.now signal None }
     {
@@ -72,7 +72,7 @@ impl KnownWide {
 
     /// Records the word of a signal.
     #[inline(always)]
-    pub fn keep(&mut self, signal: u32, word: Wide)
+    pub(crate) fn keep(&mut self, signal: u32, word: Wide)
         requires { signal < length self.old }
         ensures { self.new ≡ slice_set self.old signal (Some word) }
     {

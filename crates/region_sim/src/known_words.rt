@@ -10,7 +10,7 @@ use std::marker::Model;
 /// known only in that unit, so the next unit forgets all words. After the last number, which takes
 /// 4 billion units, all marks are cleared.
 #[derive(Drop)]
-pub struct KnownWords {
+pub(crate) struct KnownWords {
     words: Vec<u128>,
     marks: Vec<u32>,
     unit: u32,
@@ -29,7 +29,7 @@ impl Model for KnownWords {
 
 impl KnownWords {
     /// Makes room for the words of this many signals.
-    pub fn new(alloc: Global, signals: u32) -> Result<KnownWords, AllocError>
+    pub(crate) fn new(alloc: Global, signals: u32) -> Result<KnownWords, AllocError>
         ensures { IfOk result (λ known. length known ≡ signals) }
     {
         let words = vec![in alloc; 0u128; signals as usize]?;
@@ -43,7 +43,7 @@ impl KnownWords {
 
     /// Forgets all words.
     #[inline(always)]
-    pub fn forget(&mut self)
+    pub(crate) fn forget(&mut self)
         ensures room { length self.new ≡ length self.old }
         ensures none { (signal : ℕ) → slice_index_or self.new signal None ≡ None }
     {
@@ -52,7 +52,7 @@ impl KnownWords {
 
     /// Returns the word of a signal, if it is known.
     #[inline(always)]
-    pub fn of(&self, signal: u32) -> Option<u128>
+    pub(crate) fn of(&self, signal: u32) -> Option<u128>
         requires { signal < length self.now }
         ensures { result ≡ slice_index_or self.now signal None }
     {
@@ -65,7 +65,7 @@ impl KnownWords {
 
     /// Records the word of a signal.
     #[inline(always)]
-    pub fn keep(&mut self, signal: u32, word: u128)
+    pub(crate) fn keep(&mut self, signal: u32, word: u128)
         requires { signal < length self.old }
         ensures { self.new ≡ slice_set self.old signal (Some word) }
     {

@@ -41,24 +41,24 @@ use wide_words::{Copies, Wide, WideOverlay};
 /// A stem that differs in the lanes of one slot from the start, and the part of the followed
 /// classes that came to it: from one up to another.
 #[derive(Clone, Copy)]
-pub struct Slot {
-    pub stem: u32,
-    pub begin: usize,
-    pub end: usize,
+pub(crate) struct Slot {
+    pub(crate) stem: u32,
+    pub(crate) begin: usize,
+    pub(crate) end: usize,
 }
 
 /// The words that differ, the gates that wait, and the stems of a pack.
 #[derive(Drop)]
-pub struct Pack {
-    pub deltas: WideOverlay,
-    pub waiting: Places,
-    pub slots: Vec<Slot>,
+pub(crate) struct Pack {
+    pub(crate) deltas: WideOverlay,
+    pub(crate) waiting: Places,
+    pub(crate) slots: Vec<Slot>,
 }
 
 impl Pack {
     /// Makes room for this many signals and for eight stems: no signal differs, no gate waits, and
     /// there is no stem.
-    pub fn new(alloc: Global, signals: u32) -> Result<Pack, AllocError>
+    pub(crate) fn new(alloc: Global, signals: u32) -> Result<Pack, AllocError>
         ensures clear { IfOk result IsPackClear }
         ensures room { IfOk result (λ pack. (length pack.deltas ≡ signals)
             × (signals < length pack.waiting)) }
@@ -434,7 +434,7 @@ fn next_gate(kept: Wide, from: u32, waiting: &mut Places) -> Option<u32>
 
 /// Complements the stems of a pack, none of which is observed, and returns lanes in which an
 /// observer sees that: all of them, or of each class up to the least, as the goal asks for.
-pub fn propagate<C: Copies, G: Goal>(
+pub(crate) fn propagate<C: Copies, G: Goal>(
     circuit: &FlatCircuit,
     copies: C,
     followed: &[Followed],

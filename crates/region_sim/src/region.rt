@@ -27,15 +27,20 @@ use fault_model::Line;
 
 /// A signal that a fault reaches, and the lanes in which it does.
 #[derive(Clone, Copy)]
-pub struct Arrival {
-    pub signal: u32,
-    pub lanes: u128,
+pub(crate) struct Arrival {
+    pub(crate) signal: u32,
+    pub(crate) lanes: u128,
 }
 
 /// Returns the lanes in which a fault passes the only gate that reads a signal, among the lanes in
 /// which it has reached the signal. There is at least one of these.
 #[inline(always)]
-pub fn cross(view: BlockView<'_>, at: Arrival, gate: u32, changes: &mut PropagationState) -> u128
+pub(crate) fn cross(
+    view: BlockView<'_>,
+    at: Arrival,
+    gate: u32,
+    changes: &mut PropagationState,
+) -> u128
     requires view { HasWords view.circuit.now.arranged view.good.now }
     requires room { HasRoomFor view.circuit.now.arranged changes.old }
     requires clear { IsClear changes.old }
@@ -66,7 +71,7 @@ pub fn cross(view: BlockView<'_>, at: Arrival, gate: u32, changes: &mut Propagat
 
 /// The point up to which a fault is followed on a group before it shares its way with others.
 #[derive(Clone, Copy)]
-pub enum Reach {
+pub(crate) enum Reach {
     /// To an observer, or nowhere: the lanes in which it is detected.
     Observed(u128),
     /// To a signal, in some lanes.
@@ -77,7 +82,7 @@ pub enum Reach {
 /// that signal, a fault on a gate's pin to the gate's signal. A fault on an observer's line is
 /// detected if it complements that line.
 #[inline(always)]
-pub fn set_out(view: BlockView<'_>, origin: Origin, changes: &mut PropagationState) -> Reach
+pub(crate) fn set_out(view: BlockView<'_>, origin: Origin, changes: &mut PropagationState) -> Reach
     requires view { HasWords view.circuit.now.arranged view.good.now }
     requires words { (tests : List Test) × (group : ℕ)
         × AreWords view.circuit.now.arranged tests group None view.good.now }
@@ -122,7 +127,7 @@ pub fn set_out(view: BlockView<'_>, origin: Origin, changes: &mut PropagationSta
 
 /// The result of following a class by itself on some blocks.
 #[derive(Clone, Copy)]
-pub enum Approach {
+pub(crate) enum Approach {
     /// The first test that detects the class is known: the least lane that is 1.
     Known(u128),
     /// The class reached the stem of its region, in some lanes.

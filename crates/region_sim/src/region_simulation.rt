@@ -466,7 +466,7 @@ fn conclude_slots<C: Copies, G: Goal>(
 }
 
 /// Returns the class at a place of a list.
-pub fn row_at(rows: &[ListedClass], place: usize) -> ListedClass
+pub(crate) fn row_at(rows: &[ListedClass], place: usize) -> ListedClass
     requires { place < length rows.now }
     ensures { slice_get rows.now place ≡ Some result }
 {
@@ -475,7 +475,7 @@ pub fn row_at(rows: &[ListedClass], place: usize) -> ListedClass
 
 /// Returns the next place whose class may be open.
 #[inline(always)]
-pub fn next_open(next: &[usize], place: usize) -> usize
+pub(crate) fn next_open(next: &[usize], place: usize) -> usize
     requires { place < length next.now }
     ensures { slice_get next.now place ≡ Some result }
 {
@@ -484,7 +484,7 @@ pub fn next_open(next: &[usize], place: usize) -> usize
 
 /// Returns the circuit as the job's simulation reads it, with the words of a span's group and the
 /// lanes of its tests.
-pub fn view_of(job: &Job, span: BlockSpan) -> BlockView<'_>
+pub(crate) fn view_of(job: &Job, span: BlockSpan) -> BlockView<'_>
     requires { IsSpan (length job.now.tests.tests) span }
     ensures { IsViewOf job.now span result }
 {
@@ -693,7 +693,13 @@ fn conclude<G: Goal>(
 
 /// Lets a goal take the tests of a group of a class, which stands at a place of a list.
 #[inline(always)]
-pub fn take_at<G: Goal>(goal: &G, group: u32, lanes: u128, kept: &mut [G::Kept], place: usize)
+pub(crate) fn take_at<G: Goal>(
+    goal: &G,
+    group: u32,
+    lanes: u128,
+    kept: &mut [G::Kept],
+    place: usize,
+)
     requires group { group < 2 ^ 21 }
     requires place { place < length kept.old }
     ensures places { length kept.new ≡ length kept.old }

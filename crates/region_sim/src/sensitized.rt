@@ -27,16 +27,16 @@ use std::alloc::{AllocError, Global};
 /// complements the stem. They are computed when a fault first reaches the signal, and kept for the
 /// following faults.
 #[derive(Drop)]
-pub struct Sensitized {
-    pub stem: u32,
-    pub lanes: u128,
-    pub known: KnownWords,
-    pub path: Vec<u32>,
+pub(crate) struct Sensitized {
+    pub(crate) stem: u32,
+    pub(crate) lanes: u128,
+    pub(crate) known: KnownWords,
+    pub(crate) path: Vec<u32>,
 }
 
 impl Sensitized {
     /// Makes room for a circuit of this many signals.
-    pub fn new(alloc: Global, signals: u32) -> Result<Sensitized, AllocError>
+    pub(crate) fn new(alloc: Global, signals: u32) -> Result<Sensitized, AllocError>
         ensures { IfOk result (HasRoomForRegions signals) }
     {
         let known = KnownWords::new(alloc, signals)?;
@@ -50,7 +50,7 @@ impl Sensitized {
     }
 
     /// Begins with the region of a stem, on the tests of these lanes.
-    pub fn begin(&mut self, view: BlockView<'_>, stem: u32)
+    pub(crate) fn begin(&mut self, view: BlockView<'_>, stem: u32)
         requires view { HasWords view.circuit.now.arranged view.good.now }
         requires room { HasRoomForRegions (length (names view.circuit.now.arranged)) self.old }
         requires within { stem < length (names view.circuit.now.arranged) }
@@ -212,7 +212,7 @@ fn lanes_before(
 /// Follows a fault as [`crate::region::follow`] does, to the stem of the current region. Among the
 /// lanes in which it reaches its first signal, it takes those in which that signal complements the
 /// stem.
-pub fn follow_within(
+pub(crate) fn follow_within(
     view: BlockView<'_>,
     origin: Origin,
     region: &mut Sensitized,

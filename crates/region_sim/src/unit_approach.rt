@@ -26,21 +26,21 @@ use wide_words::{Four, Wide, side_by_side};
 
 /// The circuit, and the fault-free words of the four groups of a unit.
 #[derive(Clone, Copy)]
-pub struct UnitView<'a> {
-    pub circuit: &'a FlatCircuit,
-    pub words: Four<'a>,
+pub(crate) struct UnitView<'a> {
+    pub(crate) circuit: &'a FlatCircuit,
+    pub(crate) words: Four<'a>,
 }
 
 /// The result of following a class on a unit: the lanes that detect it, or those in which it came
 /// to the stem.
 #[derive(Clone, Copy)]
-pub enum UnitApproach {
+pub(crate) enum UnitApproach {
     Known(Wide),
     AtStem(Wide),
 }
 
 /// Returns the words of a unit that begins with a group.
-pub fn unit_view(job: &Job, group: u32) -> UnitView<'_>
+pub(crate) fn unit_view(job: &Job, group: u32) -> UnitView<'_>
     requires low { group < 2 ^ 20 }
     requires full { 128 * group + 512 ≤ length job.now.tests.tests }
     ensures { IsUnitViewOf job.now group result }
@@ -79,7 +79,7 @@ fn launch_in_unit(job: &Job, group: u32, stuck: Stuck) -> Wide
 /// Follows a class to the stem of the current region. Each lane in which it comes to an observed
 /// stem detects it.
 #[inline(always)]
-pub fn approach(
+pub(crate) fn approach(
     job: &Job,
     view: UnitView<'_>,
     group: u32,

@@ -20,7 +20,7 @@ use wide_words::{Copies, Wide};
 
 /// The pins of a gate that are complemented: those that read a signal, or one.
 #[derive(Clone, Copy)]
-pub enum Turned {
+pub(crate) enum Turned {
     Signal(u32),
     Pin(u32),
 }
@@ -107,7 +107,7 @@ fn gate_turned<C: Copies>(gate: FlatGate<'_>, copies: C, turned: Turned, lanes: 
 /// Evaluates a gate with some of its pins complemented in some lanes. Returns those of these lanes
 /// in which its signal is another one then.
 #[inline(always)]
-pub fn pass<C: Copies>(
+pub(crate) fn pass<C: Copies>(
     circuit: &FlatCircuit,
     copies: C,
     gate: u32,

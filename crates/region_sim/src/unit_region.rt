@@ -25,23 +25,23 @@ use wide_words::{Copies, Wide};
 
 /// A signal, and the lanes of a wide word in which a change arrives there.
 #[derive(Clone, Copy)]
-pub struct WideArrival {
-    pub signal: u32,
-    pub lanes: Wide,
+pub(crate) struct WideArrival {
+    pub(crate) signal: u32,
+    pub(crate) lanes: Wide,
 }
 
 /// For signals of a region, the lanes in which the complemented signal complements the stem. They
 /// are computed when a fault first reaches the signal, and kept for the following faults.
 #[derive(Drop)]
-pub struct UnitRegion {
-    pub stem: u32,
-    pub known: KnownWide,
-    pub path: Vec<u32>,
+pub(crate) struct UnitRegion {
+    pub(crate) stem: u32,
+    pub(crate) known: KnownWide,
+    pub(crate) path: Vec<u32>,
 }
 
 impl UnitRegion {
     /// Makes room for a circuit of this many signals.
-    pub fn new(alloc: Global, signals: u32) -> Result<UnitRegion, AllocError>
+    pub(crate) fn new(alloc: Global, signals: u32) -> Result<UnitRegion, AllocError>
         ensures { IfOk result (HasUnitRoom signals) }
     {
         let known = KnownWide::new(alloc, signals)?;
@@ -54,7 +54,7 @@ impl UnitRegion {
     }
 
     /// Begins with the region of a stem.
-    pub fn begin(&mut self, circuit: &FlatCircuit, stem: u32)
+    pub(crate) fn begin(&mut self, circuit: &FlatCircuit, stem: u32)
         requires circuit { IsCircuit circuit.now.arranged }
         requires room { HasUnitRoom (length (names circuit.now.arranged)) self.old }
         requires within { stem < length (names circuit.now.arranged) }
@@ -73,7 +73,12 @@ impl UnitRegion {
     /// Returns the lanes of a signal of the region. It evaluates the gates on its way to the stem,
     /// up to the first signal whose lanes are known.
     #[inline(always)]
-    pub fn lanes_of<C: Copies>(&mut self, circuit: &FlatCircuit, copies: C, signal: u32) -> Wide
+    pub(crate) fn lanes_of<C: Copies>(
+        &mut self,
+        circuit: &FlatCircuit,
+        copies: C,
+        signal: u32,
+    ) -> Wide
         requires circuit { IsCircuit circuit.now.arranged }
         requires view { HaveCounts circuit.now.arranged C.layout (C.rows copies) }
         requires region { IsUnitRegion circuit.now.arranged C.layout (C.rows copies) self.old }

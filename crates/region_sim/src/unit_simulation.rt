@@ -37,24 +37,24 @@ const MOST: usize = 256;
 
 /// A class that came to the stem of its region in some lanes of a unit.
 #[derive(Clone, Copy)]
-pub struct UnitClass {
-    pub class: u32,
-    pub place: usize,
-    pub lanes: Wide,
+pub(crate) struct UnitClass {
+    pub(crate) class: u32,
+    pub(crate) place: usize,
+    pub(crate) lanes: Wide,
 }
 
 /// What the simulation on a unit uses: the region, the classes that came to its stem, and the same
 /// classes group by group.
 #[derive(Drop)]
-pub struct Unit {
-    pub region: UnitRegion,
-    pub classes: Vec<UnitClass>,
-    pub followed: Vec<Followed>,
+pub(crate) struct Unit {
+    pub(crate) region: UnitRegion,
+    pub(crate) classes: Vec<UnitClass>,
+    pub(crate) followed: Vec<Followed>,
 }
 
 impl Unit {
     /// Makes room for a circuit of this many signals.
-    pub fn new(alloc: Global, signals: u32) -> Result<Unit, AllocError>
+    pub(crate) fn new(alloc: Global, signals: u32) -> Result<Unit, AllocError>
         ensures region { IfOk result (λ unit. HasUnitRoom signals unit.region) }
         ensures classes { IfOk result (λ unit. 256 ≤ vec_capacity unit.classes) }
         ensures followed { IfOk result (λ unit. 1024 ≤ vec_capacity unit.followed) }
@@ -73,7 +73,7 @@ impl Unit {
 /// Simulates the region whose classes are in a list from a place on, on a unit that begins with a
 /// group: at most [`MOST`] of its open classes. Returns the place after the last class
 /// that was simulated.
-pub fn simulate_unit<G: Goal>(
+pub(crate) fn simulate_unit<G: Goal>(
     job: &Job,
     group: u32,
     rows: &[ListedClass],

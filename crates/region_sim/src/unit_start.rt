@@ -25,7 +25,7 @@ use wide_words::{Copies, Wide};
 
 /// The point up to which a fault is followed before it shares its way with others.
 #[derive(Clone, Copy)]
-pub enum WideReach {
+pub(crate) enum WideReach {
     /// To an observer, or nowhere: the lanes in which it is detected.
     Observed(Wide),
     /// To a signal, in some lanes.
@@ -36,7 +36,12 @@ pub enum WideReach {
 /// that signal, a fault on a gate's pin to the gate's signal. A fault on an observer's line is
 /// detected if it complements that line.
 #[inline(always)]
-pub fn start<C: Copies>(circuit: &FlatCircuit, copies: C, origin: Origin, lanes: Wide) -> WideReach
+pub(crate) fn start<C: Copies>(
+    circuit: &FlatCircuit,
+    copies: C,
+    origin: Origin,
+    lanes: Wide,
+) -> WideReach
     requires circuit { IsCircuit circuit.now.arranged }
     requires view { HaveCounts circuit.now.arranged C.layout (C.rows copies) }
     requires listed { Contains (faults origin.fault.model circuit.now.arranged)
@@ -87,7 +92,7 @@ fn first_signal(line: Line) -> Option<u32>
 /// no lane, it ends there. Otherwise it takes, among the lanes in which that signal complements the
 /// stem, those in which the fault complements the signal.
 #[inline(always)]
-pub fn follow_to_stem<C: Copies>(
+pub(crate) fn follow_to_stem<C: Copies>(
     circuit: &FlatCircuit,
     copies: C,
     origin: Origin,

@@ -151,7 +151,7 @@ fn points_of(
 ///
 /// If the output fails, it fails with [`ReportFault::Write`], and the output has a beginning of the
 /// text.
-pub fn write_curve<W: Out>(
+fn write_curve<W: Out>(
     job: &Job,
     verdicts: &Verdicts,
     points: &[CurvePoint],

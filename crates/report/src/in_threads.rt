@@ -28,7 +28,7 @@ use workers::Verdicts;
 /// # Errors
 ///
 /// [`ReportFault::Write`] if the output takes nothing more. It has a beginning of the report.
-pub fn write_report_in_threads<R: Threads + Wait, W: Out>(
+pub(crate) fn write_report_in_threads<R: Threads + Wait, W: Out>(
     rt: &R,
     alloc: Global,
     job: &Job,

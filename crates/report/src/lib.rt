@@ -23,8 +23,7 @@ mod watched;
 pub use byte_output::{Formatted, Out, OutFailed, Plain};
 pub use contents::{Contents, Lines};
 pub use counts::{RunCounts, count_run};
-pub use curve::{CurvePoint, curve_of, write_curve, write_curve_of_run};
-pub use in_threads::write_report_in_threads;
+pub use curve::{CurvePoint, curve_of, write_curve_of_run};
 pub use job_loading::{Limit, ReasonCounts, ReportFault, SimFault, Watch, job_of};
 pub use laws::class_firsts_are;
 pub use report::{
@@ -34,7 +33,7 @@ pub use report::{
 pub use run_identity::model_name;
 pub use text::{
     faults_text, faults_text_in, listing_bytes, report_bytes, schedule_text, schedule_text_in,
-    schedule_text_with, simulate_text, simulate_text_in, simulate_text_with,
+    schedule_text_with, simulate_text, simulate_text_in,
 };
 pub use watched::{simulate_text_watched, write_report_of_run};
 pub use workers::{Gate, MAX_WORKERS, OpenGate, RunFault, Verdicts};

@@ -46,7 +46,7 @@ pub fn simulate_text<R: Threads + Wait, W: Out>(
 
 /// Reads a circuit and tests for it, and writes the report of the faults of a model: if `list` is
 /// set, each fault with its first detecting test, and then the coverage. For other reports call
-/// [`simulate_text_with`], which does the work.
+/// [`simulate_text_watched`], which does the work.
 pub fn simulate_text_in<R: Threads + Wait, W: Out>(
     rt: &R,
     alloc: Global,
@@ -66,14 +66,9 @@ pub fn simulate_text_in<R: Threads + Wait, W: Out>(
     simulate_text_with(rt, alloc, model, bench, tests, workers, contents, out)
 }
 
-/// Reads a circuit and tests for it, and writes the report of the faults of a model: the requested
-/// faults with the first test that detects each, and then the coverage. Workers in threads of their
-/// own do the work, and are joined before this returns. The report is the same for every number of
-/// workers.
-///
-/// It reads the bench file before the tests, then checks the number of pieces, and then the number
-/// of workers. It writes nothing before the verdicts are there.
-pub fn simulate_text_with<R: Threads + Wait, W: Out>(
+/// Writes the report as [`simulate_text_watched`] does, with the limit on pieces and under a gate
+/// that is open.
+fn simulate_text_with<R: Threads + Wait, W: Out>(
     rt: &R,
     alloc: Global,
     model: Model,
@@ -150,7 +145,7 @@ pub fn schedule_text_in<W: Out>(
 }
 
 /// Reads a circuit, tests for it and an order of moves, and writes the report of the faults of a
-/// model, as [`simulate_text_with`] does and with the same bytes. One thread does the work: it
+/// model, as [`simulate_text_watched`] does and with the same bytes. One thread does the work: it
 /// makes the moves of the workers in the order of the file, and then lets all move in turn.
 ///
 /// It reads the bench file before the tests, and the tests before the order. Then it checks the
@@ -200,7 +195,8 @@ fn report_schedule<W: Out>(
     Ok(())
 }
 
-/// Reads a circuit and tests for it, and returns the report that [`simulate_text_with`] writes.
+/// Reads a circuit and tests for it, and returns the report that [`simulate_text_watched`] writes
+/// with the limit on pieces and under a gate that is open.
 pub fn report_bytes<R: Threads + Wait>(
     rt: &R,
     alloc: Global,

@@ -16,7 +16,7 @@ use std::alloc::{AllocError, Global};
 /// A run of all classes, as far as some piece asked for it. It sweeps over the blocks in their
 /// order, and knows the first test of each class on the blocks behind it.
 #[derive(Drop)]
-pub struct Swept {
+pub(crate) struct Swept {
     simulation: RegionSimulation,
     workspace: Workspace,
     /// The classes, region by region.
@@ -47,7 +47,7 @@ fn successors(alloc: Global, places: usize) -> Result<Vec<usize>, AllocError>
 impl Swept {
     /// Makes room for a job, of which no block is swept. It takes what a [`RegionSimulation`] and a
     /// [`Workspace`] take, and a few numbers for each class.
-    pub fn new(alloc: Global, job: &Job) -> Result<Swept, AllocError>
+    pub(crate) fn new(alloc: Global, job: &Job) -> Result<Swept, AllocError>
         ensures { IfOk result (λ swept. IsSweptOf job.now swept) }
     {
         let _parts = job.classes();
@@ -73,7 +73,7 @@ impl Swept {
 
     /// Returns the outcome of a class on a block. It sweeps over the blocks up to this one first.
     /// If an earlier block detects the class, it simulates the class by itself.
-    pub fn outcome(&mut self, job: &Job, class: u32, block: u32) -> Outcome
+    pub(crate) fn outcome(&mut self, job: &Job, class: u32, block: u32) -> Outcome
         requires serves { IsSweptOf job.now self.old }
         requires class { class < length job.now.classes.representative }
         requires block { block < blocks (length job.now.tests.tests) }

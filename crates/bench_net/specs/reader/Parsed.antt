@@ -2,7 +2,7 @@
 -- that read lines.
 use Rattle.std.specs.Prelude.{◌≡◌, ◌⊎◌, ◌<◌, ℕ, Bool, true, false, ◌==◌, nat_le, List, [], ◌∷◌}
 use Rattle.std.specs.Prelude.{◌++◌, length, map, Option, Some, None, if◌then◌else◌, option_map}
-use Rattle.std.specs.Prelude.{option_and_then, codes, Result, Ok, Err}
+use Rattle.std.specs.Prelude.{option_and_then, codes, Result, Ok, Err, ⊤}
 use Rattle.std.specs.List.{find}
 use Rattle.std.specs.Str.{str_eq_ignore_ascii_case}
 use Rattle.std.specs.Borrow.{Bor}
@@ -10,6 +10,8 @@ use Rattle.bench_net.specs.declared.Kind.{Kind}
 use Rattle.bench_net.specs.declared.Kind.TheVariants.{And, Nand, Or, Nor, Xor, Xnor, Not, Buff}
 use Rattle.bench_net.specs.declared.BenchFault.{BenchFault}
 use Rattle.bench_net.specs.declared.BenchFault.TheVariants.{Memory}
+use Rattle.bench_net.specs.declared.line_error.LineError.{LineError}
+use Rattle.bench_net.specs.declared.line_error.LineError.TheVariants as error
 use Rattle.bench_net.specs.declared.tokens.Front.{Front}
 use Rattle.bench_net.specs.declared.tokens.Front.TheVariants as front
 use Rattle.bench_net.specs.declared.statement.Stated.{Stated}
@@ -133,7 +135,13 @@ args_in bytes = option_and_then args_of (tokens_of bytes)
 abbrev pub FailsBy : BenchFault → Type 0 → BenchFault → Type 0
 FailsBy refusal Gone fault = (fault ≡ Memory) ⊎ ((fault ≡ refusal) × Gone)
 
--- the result stands for what is found, and an error means that nothing is found
+-- the result stands for what is found, and an error of the line means that nothing is found
+abbrev pub IsFoundAs : {T S : Type 0} → (T → S) → Option S → Result T LineError → Type 0
+IsFoundAs stands found (Ok s) = found ≡ Some (stands s)
+IsFoundAs stands found (Err (error.Wrong wrong)) = found ≡ None
+IsFoundAs stands found (Err error.Memory) = ⊤
+
+-- and so with this error in place of the line's
 abbrev pub IsReadAs : {T S : Type 0} → BenchFault → (T → S) → Option S → Result T BenchFault
     → Type 0
 IsReadAs refusal stands found (Ok s) = found ≡ Some (stands s)

@@ -6,7 +6,7 @@ use crate::memory::parts::{ORDER, is_want};
 use crate::memory::sweep::{Outcome, Trial, answered, refused};
 use crate::memory::written::{LISTING, REPORT};
 use analysis_reports::{
-    KeptForm, KeptLayout, TestOrder, responses_text_in, write_detections_of_run, write_kept_of_run,
+    KeptForm, KeptLayout, TestOrder, responses_text, write_detections_of_run, write_kept_of_run,
 };
 use fault_model::Model;
 use job_loading::read_run;
@@ -161,7 +161,7 @@ impl<R: Threads + Wait> Written<'_, R> {
             TextCall::InParts | TextCall::Curve | TextCall::Detections | TextCall::Compact => {
                 self.write_of_run(alloc, screen)
             }
-            TextCall::Responses => responses_text_in(alloc, C17, tests, screen),
+            TextCall::Responses => responses_text(alloc, C17, tests, screen),
         }
     }
 
@@ -188,7 +188,7 @@ impl<R: Threads + Wait> Trial for Written<'_, R> {
             TextCall::Curve => "write_curve_of_run",
             TextCall::Detections => "write_detections_of_run",
             TextCall::Compact => "write_kept_of_run",
-            TextCall::Responses => "responses_text_in",
+            TextCall::Responses => "responses_text",
         }
     }
 

@@ -1,7 +1,7 @@
 use Rattle.std.proofs.Common.{◌≤◌, arith, length}
 use Rattle.std.proofs.lemmas.Result.{err_from_is_err_and}
 use Rattle.analysis_reports.proofs.LaunchedPairs.{pairs_input_fault, pairs_made}
-use Rattle.analysis_reports.proofs.launched.pairs_text_in.Goals as goal
+use Rattle.analysis_reports.proofs.launched.pairs_text.Goals as goal
 
 pub launch_pairs-requires : goal.launch_pairs-requires
 launch_pairs-requires g c = c.in_ok-circuit.ensures.fit.width

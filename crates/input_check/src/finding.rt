@@ -1,10 +1,10 @@
 //! Errors of a file with their places, and how they are printed.
 
 ghost use Rattle.std.specs.Prelude.{◌≡◌};
-ghost use Rattle.input_errors.specs.Words.{line_of, words};
+ghost use Rattle.input_check.specs.Words.{line_of, words};
 
 use crate::note::Note;
-use crate::tokens::Place;
+use crate::place::{NO_PLACE, Place, line_at, word_place};
 use bench_net::{BenchFault, Limit};
 use patterns::TestFault;
 use std::alloc::{AllocError, Global};
@@ -39,8 +39,19 @@ impl InputError {
         ensures { result.now ≡ words self }
     {
         match self {
-            InputError::Bench(fault) => bench_words(fault),
-            InputError::Tests(fault) => test_words(fault),
+            InputError::Bench(BenchFault::TooLarge(Limit::Bytes)) => "more than 16777216 bytes",
+            InputError::Bench(BenchFault::TooLarge(Limit::Signals)) => "more than 1000000 signals",
+            InputError::Bench(BenchFault::TooLarge(Limit::Sinks)) => "more than 4000000 sinks",
+            InputError::Bench(BenchFault::Syntax(_)) => "syntax",
+            InputError::Bench(BenchFault::Redefined(_)) => "name defined before",
+            InputError::Bench(BenchFault::Undefined(_)) => "name not defined",
+            InputError::Bench(BenchFault::Cycle(_)) => "cycle",
+            InputError::Bench(BenchFault::Empty) => "no signal",
+            InputError::Bench(BenchFault::Memory) => "out of memory",
+            InputError::Tests(TestFault::BadByte(_)) => "not 0 or 1",
+            InputError::Tests(TestFault::BadWidth(_)) => "wrong width",
+            InputError::Tests(TestFault::TooMany) => "more than 65536 rows",
+            InputError::Tests(TestFault::Memory) => "out of memory",
         }
     }
 }
@@ -49,35 +60,6 @@ impl Display for InputError {
     /// Writes the words of the error, without the file and the line that it names.
     fn fmt<W: fmt::Write>(&self, f: &mut Formatter<W>) -> fmt::Result {
         f.write_str(self.words())
-    }
-}
-
-/// Returns the words of a bench file's error.
-fn bench_words(fault: BenchFault) -> &'static str
-    ensures { result.now ≡ words (InputError.Bench fault) }
-{
-    match fault {
-        BenchFault::TooLarge(Limit::Bytes) => "more than 16777216 bytes",
-        BenchFault::TooLarge(Limit::Signals) => "more than 1000000 signals",
-        BenchFault::TooLarge(Limit::Sinks) => "more than 4000000 sinks",
-        BenchFault::Syntax(_) => "syntax",
-        BenchFault::Redefined(_) => "name defined before",
-        BenchFault::Undefined(_) => "name not defined",
-        BenchFault::Cycle(_) => "cycle",
-        BenchFault::Empty => "no signal",
-        BenchFault::Memory => "out of memory",
-    }
-}
-
-/// Returns the words of a test file's error.
-fn test_words(fault: TestFault) -> &'static str
-    ensures { result.now ≡ words (InputError.Tests fault) }
-{
-    match fault {
-        TestFault::BadByte(_) => "not 0 or 1",
-        TestFault::BadWidth(_) => "wrong width",
-        TestFault::TooMany => "more than 65536 rows",
-        TestFault::Memory => "out of memory",
     }
 }
 
@@ -94,20 +76,6 @@ pub struct Finding<'a> {
     pub note: Note,
 }
 
-impl Finding<'_> {
-    /// Returns an error of a whole file.
-    pub fn whole(fault: InputError, note: Note) -> Self
-        ensures { result.fault ≡ fault }
-    {
-        Finding {
-            fault,
-            text: &[],
-            place: Place { start: 0, len: 0 },
-            note,
-        }
-    }
-}
-
 /// All errors of a file: the first, then others, and how many more there are.
 #[derive(Drop)]
 pub struct Findings<'a> {
@@ -119,52 +87,107 @@ pub struct Findings<'a> {
     pub more: u64,
 }
 
-/// The number of errors that are kept beside the first.
-const MAX_OTHERS: usize = 19;
-
-/// Errors in the order in which they were found.
-#[derive(Drop)]
-pub struct Found<'a> {
-    /// The first error.
-    pub first: Option<Finding<'a>>,
-    /// Others, at most 19.
-    pub others: Vec<Finding<'a>>,
-    /// The number of further errors.
-    pub more: u64,
-}
-
-impl<'a> Found<'a> {
-    /// Makes a list without errors.
-    pub(crate) fn new(alloc: Global) -> Self {
-        Found {
-            first: None,
+impl<'a> Findings<'a> {
+    /// Returns an error of a whole file.
+    pub(crate) fn of_file(alloc: Global, fault: InputError, note: Note) -> Self
+        ensures { result.first.fault ≡ fault }
+    {
+        Findings {
+            first: Finding {
+                fault,
+                text: &[],
+                place: NO_PLACE,
+                note,
+            },
             others: Vec::new(alloc),
             more: 0,
         }
     }
+}
 
-    /// Returns whether one more error is only counted.
-    pub(crate) fn is_full(&self) -> bool {
-        self.others.len() >= MAX_OTHERS
+/// The number of errors that are kept beside the first.
+const MAX_OTHERS: usize = 19;
+
+/// A search for all errors of a file.
+#[derive(Drop)]
+pub(crate) struct Search<'a> {
+    pub(crate) alloc: Global,
+    /// The bytes of the file.
+    pub(crate) text: &'a [u8],
+    /// What was found, in its order. The first error has no note before it was found.
+    findings: Findings<'a>,
+}
+
+impl<'a> Search<'a> {
+    /// Begins a search in these bytes, whose first error is this one.
+    pub(crate) fn new(alloc: Global, text: &'a [u8], fault: InputError) -> Self {
+        Search {
+            alloc,
+            text,
+            findings: Findings::of_file(alloc, fault, Note::Nothing),
+        }
     }
 
-    /// Counts one more error.
-    pub(crate) fn count(&mut self) {
-        self.more = self.more.saturating_add(1);
+    /// Returns whether there is room for one more error. If not, it is counted.
+    pub(crate) fn has_room(&mut self) -> bool {
+        let has_room = self.findings.others.len() < MAX_OTHERS;
+        if !has_room {
+            self.findings.more = self.findings.more.saturating_add(1);
+        }
+        has_room
     }
 
-    /// Adds an error, or only counts it.
-    pub(crate) fn push(&mut self, finding: Finding<'a>) -> Result<(), AllocError> {
-        if self.is_full() {
-            self.count();
-            return Ok(());
+    /// Adds an error at a place of the line that it names, with these words.
+    pub(crate) fn add(
+        &mut self,
+        fault: InputError,
+        place: Place,
+        words: String,
+    ) -> Result<(), AllocError> {
+        let finding = Finding {
+            fault,
+            text: self.line_of(fault),
+            place,
+            note: Note::Words(words),
+        };
+        if matches!(self.findings.first.note, Note::Nothing) {
+            self.findings.first = finding;
+        } else {
+            self.findings.others.push(finding)?;
         }
-        if self.first.is_none() {
-            self.first = Some(finding);
-            return Ok(());
-        }
-        self.others.push(finding)?;
         Ok(())
+    }
+
+    /// Adds an error at the word of a number, from 0, of the line that it names.
+    pub(crate) fn add_at_word(
+        &mut self,
+        fault: BenchFault,
+        word: usize,
+        words: String,
+    ) -> Result<(), AllocError> {
+        let error = InputError::Bench(fault);
+        let place = word_place(self.line_of(error), word);
+        self.add(error, place, words)
+    }
+
+    /// Returns the line that an error names, without its end.
+    fn line_of(&self, fault: InputError) -> &'a [u8] {
+        match fault.line() {
+            Some(line) => line_at(self.text, line),
+            None => &[],
+        }
+    }
+
+    /// Returns what was found, with this error first.
+    pub(crate) fn findings(self, fault: InputError) -> Findings<'a>
+        ensures { result.first.fault ≡ fault }
+    {
+        let found = self.findings;
+        let first = Finding {
+            fault,
+            ..found.first
+        };
+        Findings { first, ..found }
     }
 }
 

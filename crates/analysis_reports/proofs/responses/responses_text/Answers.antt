@@ -2,7 +2,7 @@ use Rattle.std.proofs.Common.{◌≡◌, ◌∙◌}
 use Rattle.std.proofs.lemmas.Result.{err_from_is_err_and}
 use Rattle.patterns.specs.Making.{test_text}
 use Rattle.analysis_reports.proofs.ResponseTexts.{input_fault}
-use Rattle.analysis_reports.proofs.responses.responses_text_in.Goals as goal
+use Rattle.analysis_reports.proofs.responses.responses_text.Goals as goal
 
 pub responses-requires : goal.responses-requires
 responses-requires g c = c.in_ok-circuit.ensures.fit.width

@@ -3,8 +3,8 @@ use Rattle.std.specs.Prelude.{ℕ, List, codes, Option, Some, None}
 use Rattle.bench_net.specs.declared.Limit.TheVariants.{Bytes, Signals, Sinks}
 use Rattle.bench_net.specs.declared.BenchFault.TheVariants as bench
 use Rattle.patterns.specs.declared.TestFault.TheVariants as tests
-use Rattle.input_errors.specs.declared.finding.InputError.{InputError}
-use Rattle.input_errors.specs.declared.finding.InputError.TheVariants as fault
+use Rattle.input_check.specs.declared.finding.InputError.{InputError}
+use Rattle.input_check.specs.declared.finding.InputError.TheVariants as fault
 
 -- the line, from 1
 abbrev pub line_of : InputError → Option ℕ
