@@ -10,10 +10,10 @@
 #include <inttypes.h>
 #include <string.h>
 
-enum { IDLE = 50, MOST = 4096 };
+enum { IDLE = 50, MOST = 4096, TURN = 16 };
 
 /* A job, the classes that no kept test detects, and the kept tests: 64 to a block, as the words of
- * fs_set_words. `words` has a block of tests that are tried. */
+ * fs_set_words. `words` has the blocks of tests that are tried, at most TURN. */
 struct loop {
     fs_job job;
     fs_fault fault;
@@ -32,45 +32,47 @@ static void take(struct loop *it, uint32_t tests, const uint64_t *words) {
     done(fs_set_words(&it->job, tests, words, len, &it->fault));
 }
 
-static void try_random(struct loop *it) {
-    for (uint32_t i = 0; i < it->n.sources; i++)
+static void try_random(struct loop *it, uint32_t blocks) {
+    for (size_t i = 0; i < (size_t)blocks * it->n.sources; i++)
         it->words[i] = next(&it->state);
-    take(it, 64, it->words);
+    take(it, 64 * blocks, it->words);
 }
 
-/* Keeps the test of a lane of the block that is tried. */
-static void keep(struct loop *it, uint32_t lane) {
+/* Keeps one of the tests that are tried. */
+static void keep(struct loop *it, uint32_t test) {
     if (it->kept == MOST)
         end("too many tests");
+    const uint64_t *from = it->words + (size_t)(test / 64) * it->n.sources;
     uint64_t *block = it->tests + (size_t)(it->kept / 64) * it->n.sources;
     for (uint32_t i = 0; i < it->n.sources; i++)
-        block[i] |= (it->words[i] >> lane & 1) << it->kept % 64;
+        block[i] |= (from[i] >> test % 64 & 1) << it->kept % 64;
     it->kept++;
 }
 
-/* Simulates the classes that are left, and drops those that a test detects. Returns the tests that
- * are the first of a class, as lanes of the first block. */
-static uint64_t drop(struct loop *it) {
-    uint64_t news = 0;
+/* Simulates the classes that are left, and drops those that a test detects. Sets the lane of each
+ * test that is the first of a class, in a word for each block. */
+static void drop(struct loop *it, uint64_t news[TURN]) {
     uint32_t still = 0;
+    memset(news, 0, TURN * sizeof *news);
     done(fs_simulate(&it->job, it->left, it->count, it->firsts, it->count));
     for (uint32_t i = 0; i < it->count; i++)
         if (it->firsts[i] == FS_NONE)
             it->left[still++] = it->left[i];
         else
-            news |= (uint64_t)1 << it->firsts[i] % 64;
+            news[it->firsts[i] / 64] |= (uint64_t)1 << it->firsts[i] % 64;
     it->count = still;
-    return news;
 }
 
-/* Random tests with fault dropping: 64 tests a call, and only the classes that are left. */
+/* Random tests with fault dropping: TURN blocks of 64 tests a call, and only the classes that are
+ * left. One block a call takes twice the time or more. */
 static void by_random(struct loop *it) {
-    for (int idle = 0; idle < IDLE && it->count; idle++) {
-        try_random(it);
-        uint64_t news = drop(it);
-        for (uint32_t lane = 0; lane < 64; lane++)
-            if (news >> lane & 1)
-                keep(it, lane), idle = -1;
+    uint64_t news[TURN];
+    for (int idle = 0; idle < IDLE && it->count; idle += TURN) {
+        try_random(it, TURN);
+        drop(it, news);
+        for (uint32_t test = 0; test < 64 * TURN; test++)
+            if (news[test / 64] >> test % 64 & 1)
+                keep(it, test), idle = -TURN;
     }
 }
 
@@ -79,7 +81,7 @@ static void by_random(struct loop *it) {
 static uint32_t search(struct loop *it, uint32_t target) {
     for (int tried = 0; tried < IDLE; tried++) {
         uint64_t lanes;
-        try_random(it);
+        try_random(it, 1);
         done(fs_detecting(&it->job, target, 0, &lanes));
         for (uint32_t lane = 0; lane < 64; lane++)
             if (lanes >> lane & 1)
@@ -91,6 +93,7 @@ static uint32_t search(struct loop *it, uint32_t target) {
 /* One test at a time: a test for the first class that is left, and then all classes on this test. A
  * class for which no test is found goes to the end, and is no target again. */
 static void one_by_one(struct loop *it) {
+    uint64_t news[TURN];
     for (uint32_t skipped = 0; skipped < it->count;) {
         uint32_t target = it->left[skipped], lane = search(it, target);
         if (lane == 64) {
@@ -100,7 +103,7 @@ static void one_by_one(struct loop *it) {
         for (uint32_t i = 0; i < it->n.sources; i++)
             it->words[i] = it->words[i] >> lane & 1;
         take(it, 1, it->words);
-        drop(it);
+        drop(it, news);
         keep(it, 0);
     }
 }
@@ -131,11 +134,11 @@ static void drop_lane(struct loop *it, uint32_t lane) {
  * best, one bit of eight complemented. If no test of a population detects a class that is left, the
  * next one is random. */
 static void by_lanes(struct loop *it) {
-    try_random(it);
+    try_random(it, 1);
     for (int idle = 0; idle < IDLE && it->count; idle++) {
         uint32_t second = 0, best = best_of(it, &second);
         if (best == 64) {
-            try_random(it);
+            try_random(it, 1);
             continue;
         }
         keep(it, best);
@@ -219,7 +222,7 @@ int main(int argc, char **argv) {
     uint8_t *bench = read_file(argv[1], &size);
     done(fs_job_read(FS_STUCK_AT, bench, size, &it.job, &it.fault));
     done(fs_sizes_of(&it.job, &it.n));
-    it.words = room(it.n.sources, sizeof *it.words);
+    it.words = room((size_t)TURN * it.n.sources, sizeof *it.words);
     it.lanes = room(it.n.classes, sizeof *it.lanes);
     it.tests = room((size_t)MOST / 64 * it.n.sources, sizeof *it.tests);
     it.left = room(it.n.classes, sizeof *it.left);
