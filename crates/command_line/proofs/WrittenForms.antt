@@ -24,17 +24,13 @@ pub same_form : (job : Parts) (b t bench tests : List ℕ) (form : Form) (bytes 
     → (NeedsSums form → b ≡ bench) → (NeedsSums form → t ≡ tests)
     → IsFormOfJob job b t form bytes → IsFormOfJob job bench tests form bytes
 same_form job b t bench tests (form.Report contents) bytes one other is = is
-same_form job b t bench tests (form.Table lines wanted format) bytes one other is = is
+same_form job b t bench tests (form.View view format) bytes one other is = is
 same_form job b t bench tests (form.Reasons classes) bytes one other is = is
 same_form job b t bench tests (form.Blocks separator) bytes one other is = is
-same_form job b t bench tests (form.BlockTable separator format) bytes one other is = is
 same_form job b t bench tests form.Blocking bytes one other is = is
-same_form job b t bench tests (form.BlockingTable format) bytes one other is = is
 same_form job b t bench tests form.Curve bytes one other is = is
-same_form job b t bench tests (form.CurveTable format) bytes one other is = is
 same_form job b t bench tests (form.Detections most list) bytes one other is = is
 same_form job b t bench tests (form.Histogram most list) bytes one other is = is
-same_form job b t bench tests (form.HistogramTable most format) bytes one other is = is
 same_form job b t bench tests (form.Kept layout) bytes one other is = is
 same_form job b t bench tests (form.Part part) bytes one other is =
     subst (λ x. IsFormOfJob job x tests (form.Part part) bytes) (one tt)

@@ -20,11 +20,7 @@ use Rattle.analysis_reports.specs.Compacted.{IsKeptTextOfJob}
 use Rattle.analysis_reports.specs.Detected.{IsDetectionReportOfJob}
 use Rattle.analysis_reports.specs.Histogram.{IsHistogramReportOfJob}
 use Rattle.analysis_reports.specs.Reasons.{IsReasonReportOfJob}
-use Rattle.tables.specs.BlockTables.{IsBlockTableOfJob}
-use Rattle.tables.specs.BlockingTables.{IsBlockingTableOfJob}
-use Rattle.tables.specs.CurveTables.{IsCurveTableOfJob}
-use Rattle.tables.specs.HistogramTables.{IsHistogramTableOfJob}
-use Rattle.tables.specs.Tables.{IsFirstTableOfJob}
+use Rattle.tables.specs.Views.{IsTableOfJob}
 use Rattle.command_line.specs.declared.form.Form.{Form}
 use Rattle.command_line.specs.declared.form.Form.TheVariants as form
 use Rattle.command_line.specs.declared.form_run.Sums.{Sums}
@@ -38,24 +34,16 @@ IsKeptOfJob job layout bytes = (count : KeptCount) × IsKeptTextOfJob job layout
 -- the bytes are such an output of a job whose bench file and test file have these sums
 abbrev pub IsFormOfJob : Parts → List ℕ → List ℕ → Form → List ℕ → Type 0
 IsFormOfJob job bench tests (form.Report contents) bytes = IsReportOfJob job contents bytes
-IsFormOfJob job bench tests (form.Table lines wanted format) bytes =
-    IsFirstTableOfJob job lines wanted format bytes
+IsFormOfJob job bench tests (form.View view format) bytes = IsTableOfJob job view format bytes
 IsFormOfJob job bench tests (form.Reasons classes) bytes = IsReasonReportOfJob job classes bytes
 IsFormOfJob job bench tests (form.Blocks separator) bytes =
     IsBlockReportOfJob job (byte_of separator) bytes
-IsFormOfJob job bench tests (form.BlockTable separator format) bytes =
-    IsBlockTableOfJob job (byte_of separator) format bytes
 IsFormOfJob job bench tests form.Blocking bytes = IsBlockingReportOfJob job bytes
-IsFormOfJob job bench tests (form.BlockingTable format) bytes =
-    IsBlockingTableOfJob job format bytes
 IsFormOfJob job bench tests form.Curve bytes = IsCurveOfJob job bytes
-IsFormOfJob job bench tests (form.CurveTable format) bytes = IsCurveTableOfJob job format bytes
 IsFormOfJob job bench tests (form.Detections most list) bytes =
     IsDetectionReportOfJob job most list bytes
 IsFormOfJob job bench tests (form.Histogram most list) bytes =
     IsHistogramReportOfJob job most list bytes
-IsFormOfJob job bench tests (form.HistogramTable most format) bytes =
-    IsHistogramTableOfJob job most format bytes
 IsFormOfJob job bench tests (form.Kept layout) bytes = IsKeptOfJob job layout bytes
 IsFormOfJob job bench tests (form.Part part) bytes =
     IsPartTextOfJob (head_with job.list.model bench tests part.part part.parts) job bytes

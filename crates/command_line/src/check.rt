@@ -2,11 +2,11 @@
 
 use crate::inputs::{InputFile, check_names};
 use crate::status::{CommandError, UNWRITTEN};
-use crate::values::read_model;
 use block_sim::JobFault;
 use byte_output::put_all;
 use clap::ArgMatches;
 use command_basics::Source;
+use command_options::read_model;
 use input_check::{
     Answer, ErrorRow, Findings, InputError, Located, answer_object, check_texts, errors_object,
 };

@@ -5,16 +5,16 @@ ghost use Rattle.std.specs.Prelude.{◌≤◌};
 use crate::check::do_check;
 use crate::inputs::{InputFile, InputFiles, check_streams, read_inputs};
 use crate::merge::do_merge;
-use crate::misuse::Misuse;
 use crate::run::do_run;
 use crate::status::{CommandError, NO_MEMORY, UNWRITTEN, answer_fault};
-use crate::tasks::{Task, command_line};
-use crate::values::{has_word, read_contents, read_format, read_model, read_workers};
 use crate::wanted::{read_compact, read_curve, read_run};
 use analysis_reports::{pairs_text, responses_text};
 use clap::error::ErrorKind;
 use clap::{ArgMatches, Error};
 use command_basics::{DONE, MISUSED, Source};
+use command_options::{
+    Misuse, Subcommand, Task, command_line, read_contents, read_format, read_model, read_workers,
+};
 use report::{Formatted, Out, faults_text_in, schedule_text_with};
 use std::alloc::Global;
 use std::fmt::Write;
@@ -38,7 +38,7 @@ pub fn run_words<'a, R: Threads + Wait, S: Source, W: Out, E: Out + Send>(
 ) -> u8
     ensures { result ≤ 4 }
 {
-    let Ok(command) = command_line(alloc, has_word(words)) else {
+    let Ok(command) = command_line(alloc, words) else {
         return answer_fault(&NO_MEMORY, None, err);
     };
     match command.try_get_matches_from(words) {
@@ -64,10 +64,10 @@ fn answer_error<W: Out, E: Out>(error: &Error, out: &mut W, err: &mut E) -> u8
     DONE
 }
 
-/// Returns the task of a command line, and its options.
-fn task_of<'m, 'a>(matches: &'m ArgMatches<'a>) -> Option<(Task, &'m ArgMatches<'a>)> {
+/// Returns the subcommand of a command line, and its options.
+fn subcommand_of<'m, 'a>(matches: &'m ArgMatches<'a>) -> Option<(Subcommand, &'m ArgMatches<'a>)> {
     let (name, options) = matches.subcommand()?;
-    Some((Task::named(name)?, options))
+    Some((Subcommand::named(name)?, options))
 }
 
 /// Runs a command line.
@@ -81,14 +81,14 @@ fn run_matched<R: Threads + Wait, S: Source, W: Out, E: Out + Send>(
 ) -> u8
     ensures { result ≤ 4 }
 {
-    let Some((task, options)) = task_of(matches) else {
+    let Some((subcommand, options)) = subcommand_of(matches) else {
         return answer_fault(&CommandError::Misused(Misuse::Unset), None, err);
     };
-    match do_task(rt, alloc, task, options, files, out, err) {
+    match do_task(rt, alloc, subcommand, options, files, out, err) {
         Ok(()) => DONE,
         Err(fault) => {
             let status = answer_fault(&fault, Some(options), err);
-            write_hint(task, options, &fault, err);
+            write_hint(subcommand.task, options, &fault, err);
             status
         }
     }
@@ -118,14 +118,14 @@ fn write_hint<E: Out>(task: Task, matches: &ArgMatches<'_>, fault: &CommandError
 fn do_task<R: Threads + Wait, S: Source, W: Out, E: Out + Send>(
     rt: &R,
     alloc: Global,
-    task: Task,
+    subcommand: Subcommand,
     matches: &ArgMatches<'_>,
     files: &mut S,
     out: &mut W,
     err: &mut E,
 ) -> Result<(), CommandError> {
-    check_streams(alloc, task, matches, files)?;
-    match task {
+    check_streams(alloc, subcommand.options(), matches, files)?;
+    match subcommand.task {
         Task::Check => do_check(alloc, matches, files, out, err),
         Task::Run => do_run(rt, alloc, matches, read_run(matches)?, files, out, err),
         Task::Curve => do_run(rt, alloc, matches, read_curve(matches)?, files, out, err),

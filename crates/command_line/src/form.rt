@@ -16,57 +16,31 @@ use analysis_reports::{
 use block_coverage::Separator;
 use job_loading::{FileSums, RunJob};
 use part_files::write_part_of_run;
-use report::{Contents, Lines, Out, SimFault, Watch, write_curve_of_run, write_report_of_run};
+use report::{Contents, Out, SimFault, Watch, write_curve_of_run, write_report_of_run};
 use std::alloc::Global;
 use std::sync::Wait;
 use std::thread::Threads;
-use tables::{
-    Format, FurtherColumns, write_block_table_of_run, write_blocking_table_of_run,
-    write_curve_table_of_run, write_histogram_table_of_run, write_table_of_run,
-};
+use tables::{Format, View, write_view_of_run};
 
 /// The output of a run, of all classes or of a part.
 #[derive(Clone, Copy)]
 pub(crate) enum Form {
     /// The report.
     Report(Contents),
-    /// The table of the first tests, with the further columns that are requested.
-    Table {
-        lines: Lines,
-        wanted: FurtherColumns,
-        format: Format,
-    },
+    /// A table.
+    View(View, Format),
     /// The report of the undetected faults with their reasons.
-    Reasons {
-        classes: bool,
-    },
+    Reasons { classes: bool },
     /// The coverage of each block.
     Blocks(Separator),
-    /// The table of the coverage of each block.
-    BlockTable(Separator, Format),
     /// The pins that block the effects of undetected faults.
     Blocking,
-    /// The table of these pins.
-    BlockingTable(Format),
     /// The curve.
     Curve,
-    /// The table of the curve.
-    CurveTable(Format),
     /// The report of how many tests detect each fault, with a line for each if `list` is set.
-    Detections {
-        most: u32,
-        list: bool,
-    },
+    Detections { most: u32, list: bool },
     /// That report, and then the histogram.
-    Histogram {
-        most: u32,
-        list: bool,
-    },
-    /// The table of the histogram.
-    HistogramTable {
-        most: u32,
-        format: Format,
-    },
+    Histogram { most: u32, list: bool },
     /// The tests that a compaction keeps.
     Kept(KeptLayout),
     /// The file of one part of the classes.
@@ -105,12 +79,8 @@ pub(crate) fn write_form_of_run<R: Threads + Wait, G: Watch + Sync, W: Out>(
         Form::Report(contents) => {
             write_report_of_run(rt, alloc, run, stretches, workers, contents, gate, out)
         }
-        Form::Table {
-            lines,
-            wanted,
-            format,
-        } => write_table_of_run(
-            rt, alloc, run, stretches, workers, lines, wanted, format, gate, out,
+        Form::View(view, format) => write_view_of_run(
+            rt, alloc, run, stretches, workers, view, format, gate, out,
         ),
         Form::Reasons { classes } => {
             write_reasons_of_run(rt, alloc, run, stretches, workers, classes, gate, out)
@@ -118,29 +88,13 @@ pub(crate) fn write_form_of_run<R: Threads + Wait, G: Watch + Sync, W: Out>(
         Form::Blocks(separator) => {
             write_blocks_of_run(rt, alloc, run, stretches, workers, separator, gate, out)
         }
-        Form::BlockTable(separator, format) => {
-            write_block_table_of_run(
-                rt, alloc, run, stretches, workers, separator, format, gate, out,
-            )
-        }
         Form::Blocking => write_blocking_of_run(rt, alloc, run, stretches, workers, gate, out),
-        Form::BlockingTable(format) => {
-            write_blocking_table_of_run(rt, alloc, run, stretches, workers, format, gate, out)
-        }
         Form::Curve => write_curve_of_run(rt, alloc, run, stretches, workers, gate, out),
-        Form::CurveTable(format) => {
-            write_curve_table_of_run(rt, alloc, run, stretches, workers, format, gate, out)
-        }
         Form::Detections { most, list } => {
             write_detections_of_run(rt, alloc, run, stretches, workers, most, list, gate, out)
         }
         Form::Histogram { most, list } => {
             write_histogram_of_run(rt, alloc, run, stretches, workers, most, list, gate, out)
-        }
-        Form::HistogramTable { most, format } => {
-            write_histogram_table_of_run(
-                rt, alloc, run, stretches, workers, most, format, gate, out,
-            )
         }
         Form::Kept(layout) => {
             write_kept(rt, alloc, run, stretches, workers, layout, gate, tally, out)

@@ -1,12 +1,10 @@
 //! The files that the command line names.
 
-use crate::misuse::Misuse;
-use crate::options::{PART_FILES, Takes};
 use crate::status::{CommandError, NO_MEMORY};
-use crate::tasks::Task;
 use bench_net::read::MAX_BYTES;
 use clap::ArgMatches;
 use command_basics::{FileId, Source, SourceFault, is_standard_input};
+use command_options::{Misuse, OptionRow, PART_FILES, Takes};
 use std::alloc::{AllocError, Global};
 use std::io::BufReader;
 use test_columns::{ColumnFault, check_columns, read_front};
@@ -100,11 +98,11 @@ pub(crate) fn check_opened<S: Source>(
 /// Returns the paths of the files to read.
 fn paths_of<'a>(
     alloc: Global,
-    task: Task,
+    options: &[OptionRow],
     matches: &ArgMatches<'a>,
 ) -> Result<Vec<&'a str>, AllocError> {
     let mut paths = Vec::new(alloc);
-    for option in task.options() {
+    for option in options {
         if let (Takes::File | Takes::Files, Some(values)) = (
             option.takes,
             matches.get_strs(option.name),
@@ -133,11 +131,11 @@ fn has_one_twice<S: Source>(alloc: Global, paths: &[&str], files: &S) -> Result<
 /// second.
 pub(crate) fn check_streams<S: Source>(
     alloc: Global,
-    task: Task,
+    options: &[OptionRow],
     matches: &ArgMatches<'_>,
     files: &S,
 ) -> Result<(), CommandError> {
-    let paths = paths_of(alloc, task, matches)?;
+    let paths = paths_of(alloc, options, matches)?;
     let inputs = paths.iter().filter(|path| is_standard_input(**path));
     if inputs.count() > 1 {
         return Err(CommandError::Misused(Misuse::TwoInputs));

@@ -5,23 +5,21 @@ ghost use Rattle.fault_model.specs.Fault.{faults};
 ghost use Rattle.part_files.specs.Merging.{run_of};
 
 use crate::inputs::InputFile;
-use crate::misuse::Misuse;
-use crate::options::PART_FILES;
 use crate::status::CommandError;
 use crate::threshold::{check_threshold, read_threshold};
-use crate::values::{read_format, read_lines, read_separator};
 use analysis_reports::write_blocks;
 use bench_net::{Circuit, read_bench};
 use block_coverage::Separator;
 use clap::ArgMatches;
 use command_basics::{Source, model_named};
+use command_options::{Misuse, PART_FILES, read_format, read_lines, read_separator};
 use fault_model::{Classes, Faults, Model, collapse, list_faults_in};
 use job_loading::sum_of;
 use part_files::{Merge, MergeFault, Merged, read_part, write_merged, write_merged_with_classes};
 use report::{Lines, Out, SimFault};
 use std::alloc::Global;
 use std::str::from_utf8;
-use tables::{Format, merged_flags, write_block_table, write_merged_table};
+use tables::{Format, MergedView, merged_flags, write_view_of_merged};
 
 /// An output of `merge` that needs the circuit.
 #[derive(Clone, Copy)]
@@ -29,11 +27,9 @@ enum Outcome {
     /// The report with the coverage of the classes.
     Classes(Lines),
     /// A table.
-    Table(Lines, Format),
+    View(MergedView, Format),
     /// The coverage of each block.
     Blocks(Separator),
-    /// The table of the coverage of each block.
-    BlockTable(Separator, Format),
 }
 
 /// Reads from the command line the output that it requests, if that needs the circuit.
@@ -41,9 +37,13 @@ fn read_outcome(matches: &ArgMatches<'_>) -> Result<Option<Outcome>, Misuse> {
     let lines = read_lines(matches);
     let has_circuit = matches.get_str("bench").is_some();
     match (read_separator(matches)?, read_format(matches)) {
-        (Some(separator), Some(format)) => Ok(Some(Outcome::BlockTable(separator, format))),
+        (Some(separator), Some(format)) => {
+            Ok(Some(Outcome::View(MergedView::Blocks(separator), format)))
+        }
         (Some(separator), None) => Ok(Some(Outcome::Blocks(separator))),
-        (None, Some(format)) if has_circuit => Ok(Some(Outcome::Table(lines, format))),
+        (None, Some(format)) if has_circuit => {
+            Ok(Some(Outcome::View(MergedView::Faults(lines), format)))
+        }
         (None, Some(_)) => Err(Misuse::NoCircuit),
         (None, None) if matches.get_flag("classes") => Ok(Some(Outcome::Classes(lines))),
         (None, None) if has_circuit => Err(Misuse::NoUse),
@@ -218,17 +218,14 @@ fn write_listed<W: Out>(
     requires list { list.now.list ≡ faults list.now.model circuit.now }
     requires count { length (run_of merged.now).firsts ≡ length list.now.list }
 {
-    let detected = merged_flags(alloc, merged)?;
     match outcome {
         Outcome::Classes(lines) => write_merged(merged, lines, out)?,
-        Outcome::Table(lines, format) => {
-            write_merged_table(alloc, merged, circuit, list, lines, format, out)?;
+        Outcome::View(view, format) => {
+            write_view_of_merged(alloc, merged, circuit, list, view, format, out)?;
         }
         Outcome::Blocks(separator) => {
+            let detected = merged_flags(alloc, merged)?;
             write_blocks(alloc, circuit, list, &detected, separator, out)?;
-        }
-        Outcome::BlockTable(separator, format) => {
-            write_block_table(alloc, circuit, list, &detected, separator, format, out)?;
         }
     }
     Ok(())

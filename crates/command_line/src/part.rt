@@ -2,7 +2,7 @@
 
 ghost use Rattle.std.specs.Prelude.{◌<◌};
 
-use crate::options::MAX_PARTS;
+use command_options::MAX_PARTS;
 
 /// A part of the classes.
 #[derive(Clone, Copy)]

@@ -35,7 +35,7 @@ struct Place {
     settled: AtomicU64,
     /// The settled pieces of the stretches that it has run.
     done: AtomicU64,
-    /// the classes of the stretch that it runs: the watched ones at block 0, because it comes to
+    /// The classes of the stretch that it runs: the watched ones at block 0, because it comes to
     /// all of them there.
     classes: AtomicU64,
     /// The current block of the worker, counted from the first of the window.
@@ -175,17 +175,10 @@ impl<'a, E: Out> Progress<'a, E> {
     }
 
     /// Ends the line, if the run didn't end it.
-    pub(crate) fn close(self) {
-        let Progress {
-            places: _,
-            classes: _,
-            pieces: _,
-            first: _,
-            blocks: _,
-            pen,
-            tally: _,
-        } = self;
-        pen.into_inner().end_line();
+    pub(crate) fn close(&self) {
+        if let Some(mut pen) = self.pen.try_lock() {
+            pen.end_line();
+        }
     }
 
     /// Returns how many of the pieces are settled: those before the window, and in it as many as

@@ -3,10 +3,10 @@
 ghost use Rattle.std.specs.Prelude.{◌<◌, ◌≤◌};
 
 use crate::inputs::InputFile;
-use crate::misuse::Misuse;
 use bench_net::BenchFault;
 use clap::ArgMatches;
 use command_basics::{FAILED, MISUSED, REFUSED, SourceFault, status_of};
+use command_options::Misuse;
 use input_check::Excess;
 use part_files::{MergeFault, PartFault};
 use patterns::TestFault;

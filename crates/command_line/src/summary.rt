@@ -1,11 +1,10 @@
 //! The option `--summary FILE`: the results of a run in numbers, for scripts.
 
 use crate::form_run::Outcome;
-use crate::misuse::Misuse;
 use crate::status::CommandError;
-use crate::values::read_model;
 use clap::ArgMatches;
 use command_basics::{Source, VERSION, WriteFault, is_standard_input};
+use command_options::{Misuse, read_model};
 use std::alloc::Global;
 use tables::{Summary, summary_text};
 

@@ -2,9 +2,9 @@
 
 ghost use Rattle.std.specs.Prelude.{◌*◌, ◌<◌, ◌≤◌, ◌↔◌, IsTrue};
 
-use crate::misuse::Misuse;
 use crate::status::CommandError;
 use clap::ArgMatches;
+use command_options::Misuse;
 
 /// The greatest number of decimals of a percentage.
 const DECIMALS: usize = 6;

@@ -1,16 +1,16 @@
 //! What the command line requests of `run`, `curve` and `compact`.
 
 use crate::form::Form;
-use crate::misuse::Misuse;
-use crate::options::STEEPEST;
 use crate::part::part_of;
 use crate::threshold::{Threshold, read_threshold};
-use crate::values::{Split, read_contents, read_format, read_model, read_separator, read_split};
 use analysis_reports::{KeptForm, KeptLayout, TestOrder};
 use clap::ArgMatches;
+use command_options::{
+    Misuse, STEEPEST, Split, read_contents, read_format, read_model, read_separator, read_split,
+};
 use fault_model::Model;
 use report::{Limit, Lines};
-use tables::FurtherColumns;
+use tables::{FurtherColumns, View};
 
 /// What the command line requests of a run.
 #[derive(Clone, Copy)]
@@ -51,7 +51,7 @@ pub(crate) fn read_run(matches: &ArgMatches<'_>) -> Result<Wanted, Misuse> {
 /// Returns what the command line requests of `curve`.
 pub(crate) fn read_curve(matches: &ArgMatches<'_>) -> Result<Wanted, Misuse> {
     let form = match read_format(matches) {
-        Some(format) => Form::CurveTable(format),
+        Some(format) => Form::View(View::Curve, format),
         None => Form::Curve,
     };
     Ok(Wanted {
@@ -101,18 +101,20 @@ fn read_form(matches: &ArgMatches<'_>) -> Result<Form, Misuse> {
     let why = matches.get_flag("why");
     match (read_separator(matches)?, format) {
         (Some(separator), None) => Ok(Form::Blocks(separator)),
-        (Some(separator), Some(format)) => Ok(Form::BlockTable(separator, format)),
+        (Some(separator), Some(format)) => Ok(Form::View(View::Blocks(separator), format)),
         (None, None) if matches.get_flag("blocking") => Ok(Form::Blocking),
-        (None, Some(format)) if matches.get_flag("blocking") => Ok(Form::BlockingTable(format)),
-        (None, Some(format)) => Ok(Form::Table {
-            lines: contents.lines,
-            wanted: FurtherColumns {
+        (None, Some(format)) if matches.get_flag("blocking") => {
+            Ok(Form::View(View::Blocking, format))
+        }
+        (None, Some(format)) => {
+            let further = FurtherColumns {
                 reasons: why,
                 detections,
                 classes: contents.classes,
-            },
-            format,
-        }),
+            };
+            let lines = contents.lines;
+            Ok(Form::View(View::Faults { lines, further }, format))
+        }
         (None, None) if !why => Ok(Form::Report(contents)),
         (None, None) if contents.lines == Lines::Undetected => Ok(Form::Reasons {
             classes: contents.classes,
@@ -135,7 +137,7 @@ fn read_count_form(matches: &ArgMatches<'_>, most: u32) -> Result<Form, Misuse> 
     }
     match read_format(matches) {
         Some(_) if list => Err(Misuse::BesideTable),
-        Some(format) => Ok(Form::HistogramTable { most, format }),
+        Some(format) => Ok(Form::View(View::Histogram { most }, format)),
         None if matches.get_flag("histogram") => Ok(Form::Histogram { most, list }),
         None => Ok(Form::Detections { most, list }),
     }

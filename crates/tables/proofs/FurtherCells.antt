@@ -1,16 +1,17 @@
 -- The cells of further columns in the form of the program.
 use Rattle.std.proofs.Common.{◌≡◌, ◌<◌, ◌∙◌, ◌++◌, [], ◌∷◌, ℕ, List, ap, arith, length, map, refl}
 use Rattle.std.proofs.Common.{subst, sym}
-use Rattle.std.specs.Prelude.{All, Bool, true, false, Option, Some, None, flat_map}
+use Rattle.std.specs.Prelude.{All, Bool, true, false, Option, Some, None}
 use Rattle.std.proofs.lemmas.List.{length-map}
 use Rattle.std.proofs.lemmas.List.Elements.{All-append, All-cons, All-head, All-nil, All-tail}
 use Rattle.std.proofs.lemmas.List.Elements.{All-weaker}
 use Rattle.fault_model.specs.Fault.{faults}
 use Rattle.block_sim.specs.Parts.{Parts}
 use Rattle.tables.specs.declared.further.Further.{Further}
-use Rattle.tables.specs.declared.table_of_run.FurtherColumns.{FurtherColumns}
+use Rattle.tables.specs.declared.further.FurtherColumns.{FurtherColumns}
 use Rattle.tables.specs.FurtherColumns.{AreFurtherColumns, FurtherColumn, HasClasses, HasCounts}
-use Rattle.tables.specs.FurtherColumns.{HasReasons, HaveCells, Number, class_cells, count_cells}
+use Rattle.table_rows.specs.Cells.{Number}
+use Rattle.tables.specs.FurtherColumns.{HasReasons, HaveCells, class_cells, count_cells}
 use Rattle.tables.specs.FurtherColumns.{further_in, reason_cell, reason_cells}
 
 -- a map of a map
@@ -18,12 +19,6 @@ pub mapped_twice : {A B C : Type 0} (g : B → C) (f : A → B) (xs : List A)
     → map (λ x. g (f x)) xs ≡ map g (map f xs)
 mapped_twice g f [] = refl
 mapped_twice g f (x ∷ xs) = ap (λ l. g (f x) ∷ l) (mapped_twice g f xs)
-
--- the texts of a map
-pub texts_mapped : {A B : Type 0} (g : B → List ℕ) (f : A → B) (xs : List A)
-    → flat_map (λ x. g (f x)) xs ≡ flat_map g (map f xs)
-texts_mapped g f [] = refl
-texts_mapped g f (x ∷ xs) = ap (λ l. g (f x) ++ l) (texts_mapped g f xs)
 
 cells_of : (count : ℕ) (fs : List Further) → HaveCells count (map further_in fs)
     → All (λ f. length (further_in f).cells ≡ count) fs

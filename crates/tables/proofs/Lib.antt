@@ -1,8 +1,5 @@
-mod BlockPieces
-mod BlockingPieces
-mod CurvePieces
 mod FurtherCells
-mod HistogramPieces
+mod Heads
 mod Nets
 mod RowsByPairs
 mod TablesOfTexts

@@ -1,19 +1,19 @@
--- Rows of a list of faults with their values, one after another.
-use Rattle.std.proofs.Common.{◌≡◌, ◌≤◌, ◌∙◌, ℕ, zero, suc, ◌+◌, List, [], ◌∷◌, ◌++◌, length, take}
-use Rattle.std.proofs.Common.{ap, append-nil, arith, drop, get_or, refl}
+-- The items of two lists by their places, and those of them that pass a test.
+use Rattle.std.proofs.Common.{◌≡◌, ◌<◌, ◌≤◌, ◌∙◌, ℕ, zero, suc, ◌+◌, List}
+use Rattle.std.proofs.Common.{[], ◌∷◌, ◌++◌, length, take}
+use Rattle.std.proofs.Common.{ap, append-nil, arith, get_or, map, refl, subst, sym, take_all}
+use Rattle.std.proofs.lemmas.List.{get_or-map, map-append, take_more}
+use Rattle.std.proofs.lemmas.List.Elements.{All-filter, All-from_get_or, All-get_or}
+use Rattle.std.proofs.lemmas.List.Elements.{filter-append}
 use Rattle.std.proofs.lemmas.List.FromFn.{get_or-enumerate_from, length-enumerate_from}
 use Rattle.std.proofs.lemmas.Option.{get_or_from_slice_get, slice_get-get_or, slice_get_within}
-use Rattle.std.specs.List.{enumerate_from}
-use Rattle.std.specs.Prelude.{Option, Some, None, true, false, slice_get, unwrap_or, zip}
-use Rattle.std.specs.Prelude.{if◌then◌else◌}
-use Rattle.bench_net.specs.Statement.{Statement}
-use Rattle.fault_model.specs.Fault.{Fault}
-use Rattle.byte_output.proofs.Public.{flat_map_taken}
-use Rattle.report.specs.declared.contents.Lines.{Lines}
-use Rattle.tables.specs.Rows.{RowCells, row_cells}
-use Rattle.tables.specs.Tables.{has_row, numbered, rows_text}
+use Rattle.std.proofs.lemmas.Slice.Zip.{length-zip}
+use Rattle.list_lemmas.proofs.Places.{within_place}
+use Rattle.std.specs.List.{enumerate_from, filter}
+use Rattle.std.specs.Prelude.{All, Bool, None, Option, Some, cond, false}
+use Rattle.std.specs.Prelude.{slice_get, true, unwrap_or, zip}
 
-pub zipped_at : {F X : Type 0} (fs : List F) (xs : List X) (i : ℕ) (f : F) (x : X)
+zipped_at : {F X : Type 0} (fs : List F) (xs : List X) (i : ℕ) (f : F) (x : X)
     → slice_get fs i ≡ Some f → slice_get xs i ≡ Some x → slice_get (zip fs xs) i ≡ Some (f, x)
 zipped_at [] xs i f x e h = let bad : None ≡ Some f = e in cc
 zipped_at (g ∷ fs) [] i f x e h = let bad : None ≡ Some x = h in cc
@@ -21,69 +21,105 @@ zipped_at (g ∷ fs) (z ∷ xs) zero f x e h = let p : g ≡ f = ap (λ o. unwra
     let q : z ≡ x = ap (λ o. unwrap_or o x) h in rw (p, q) refl
 zipped_at (g ∷ fs) (z ∷ xs) (suc i) f x e h = zipped_at fs xs i f x e h
 
--- all pairs
-pub all_zipped : {F X : Type 0} (fs : List F) (xs : List X) (i : ℕ) → length xs ≡ length fs
-    → length fs ≤ i → take i (zip fs xs) ≡ zip fs xs
-all_zipped [] xs zero same e = refl
-all_zipped [] xs (suc i) same e = refl
-all_zipped (f ∷ fs) [] i same e = absurd (omega (arith, same))
-all_zipped (f ∷ fs) (x ∷ xs) zero same e = absurd (omega (arith, e))
-all_zipped (f ∷ fs) (x ∷ xs) (suc i) same e =
-    ap (λ l. (f, x) ∷ l) (all_zipped fs xs i (omega (arith, same)) (omega (arith, e)))
+module _ {F X : Type 0} (fs : List F) (xs : List X) where
+  -- the items at a place, with its number
+  numbered_at : (i : ℕ) (f : F) (x : X) → slice_get fs i ≡ Some f → slice_get xs i ≡ Some x
+      → slice_get (enumerate_from 0 (zip fs xs)) i ≡ Some (i, (f, x))
+  numbered_at i f x e h =
+      let pairs = zip fs xs in
+      let at = zipped_at fs xs i f x e h in
+      let lt = slice_get_within pairs i (f, x) at in
+      let all = length-enumerate_from 0 pairs in
+      let own : get_or (enumerate_from 0 pairs) i (i, (f, x)) ≡ (i, (f, x)) =
+      get_or-enumerate_from 0 pairs i (i, (f, x)) lt
+      ∙ (ap (λ k. (k, get_or pairs i (f, x))) (omega arith)
+      ∙ ap (λ p. (i, p)) (get_or_from_slice_get pairs i (f, x) (f, x) at)) in
+      slice_get-get_or (enumerate_from 0 pairs) i (i, (f, x)) (omega (arith, all, lt)) ∙ ap Some own
 
--- a fault with its value and its number
-pub numbered_at : (fs : List Fault) (xs : List (Option ℕ)) (i : ℕ) (f : Fault) (x : Option ℕ)
-    → slice_get fs i ≡ Some f → slice_get xs i ≡ Some x
-    → slice_get (numbered fs xs) i ≡ Some (i, (f, x))
-numbered_at fs xs i f x e h =
-    let pairs = zip fs xs in
-    let at = zipped_at fs xs i f x e h in
-    let lt = slice_get_within pairs i (f, x) at in
-    let all = length-enumerate_from 0 pairs in
-    let own : get_or (enumerate_from 0 pairs) i (i, (f, x)) ≡ (i, (f, x)) =
-    get_or-enumerate_from 0 pairs i (i, (f, x)) lt
-    ∙ (ap (λ k. (k, get_or pairs i (f, x))) (omega arith)
-    ∙ ap (λ p. (i, p)) (get_or_from_slice_get pairs i (f, x) (f, x) at)) in
-    slice_get-get_or (enumerate_from 0 pairs) i (i, (f, x)) (omega (arith, all, lt)) ∙ ap Some own
+  -- all of them
+  pub all_numbered : (i : ℕ) → length fs ≤ i
+      → take i (enumerate_from 0 (zip fs xs)) ≡ enumerate_from 0 (zip fs xs)
+  all_numbered i le =
+      let both = length-zip fs xs in
+      let long = length-enumerate_from 0 (zip fs xs) in
+      take_all i (enumerate_from 0 (zip fs xs)) (omega (arith, both, long, le))
 
-taken_from : {X : Type 0} (k i : ℕ) (xs : List X) → take i xs ≡ xs
-    → take i (enumerate_from k xs) ≡ enumerate_from k xs
-taken_from k zero [] e = refl
-taken_from k (suc i) [] e = refl
-taken_from k zero (x ∷ xs) e = absurd (omega (arith, ap length e))
-taken_from k (suc i) (x ∷ xs) e =
-    ap (λ l. (k, x) ∷ l) (taken_from (k + 1) i xs (ap (drop 1) e))
+  module _ (test : X → Bool) where
+    abbrev passing : List (ℕ × (F × X)) → List (ℕ × (F × X))
+    passing all = filter (λ at. test at.1.1) all
 
--- all faults with their values and numbers
-pub all_numbered : (fs : List Fault) (xs : List (Option ℕ)) (i : ℕ) → length xs ≡ length fs
-    → length fs ≤ i → take i (numbered fs xs) ≡ numbered fs xs
-all_numbered fs xs i same le = taken_from 0 i (zip fs xs) (all_zipped fs xs i same le)
+    next_at : (i : ℕ) (f : F) (x : X) → slice_get fs i ≡ Some f → slice_get xs i ≡ Some x
+        → map (λ at. at.0) (passing (take (i + 1) (enumerate_from 0 (zip fs xs))))
+        ≡ map (λ at. at.0) (passing (take i (enumerate_from 0 (zip fs xs))))
+        ++ map (λ at. at.0) (passing ((i, (f, x)) ∷ []))
+    next_at i f x e h =
+        let all = enumerate_from 0 (zip fs xs) in
+        let here = numbered_at i f x e h in
+        let lt = slice_get_within all i (i, (f, x)) here in
+        let step : take (i + 1) all ≡ take i all ++ (i, (f, x)) ∷ [] =
+        take_more all i (i, (f, x)) lt ∙ ap (λ a. take i all ++ a ∷ [])
+        (get_or_from_slice_get all i (i, (f, x)) (i, (f, x)) here) in
+        ap (λ l. map (λ at. at.0) (passing l)) step
+        ∙ (ap (map (λ at. at.0)) (filter-append (λ at. test at.1.1) (take i all)
+        ((i, (f, x)) ∷ []))
+        ∙ map-append (λ at. at.0) (passing (take i all)) (passing ((i, (f, x)) ∷ [])))
 
--- the row of a fault that has one comes after the rows before it
-pub row_added : (row : RowCells → Option ℕ → ℕ → List ℕ) (c : List Statement) (lines : Lines)
-    (fs : List Fault) (xs : List (Option ℕ)) (i : ℕ) (f : Fault) (x : Option ℕ)
-    → slice_get fs i ≡ Some f → slice_get xs i ≡ Some x → has_row lines x ≡ true
-    → rows_text row c lines (take (i + 1) (numbered fs xs))
-    ≡ rows_text row c lines (take i (numbered fs xs)) ++ row (row_cells c f) x i
-row_added row c lines fs xs i f x e h has =
-    let at = numbered_at fs xs i f x e h in
-    flat_map_taken
-    (λ at. if has_row lines at.1.1 then row (row_cells c at.1.0) at.1.1 at.0 else [])
-    (numbered fs xs) i (i, (f, x)) (row (row_cells c f) x i)
-    (slice_get_within (numbered fs xs) i (i, (f, x)) at)
-    (rw (get_or_from_slice_get (numbered fs xs) i (i, (f, x)) (i, (f, x)) at, has) refl)
+    -- the next place passes the test
+    pub place_added : (i : ℕ) (f : F) (x : X) → slice_get fs i ≡ Some f → slice_get xs i ≡ Some x
+        → test x ≡ true
+        → map (λ at. at.0) (passing (take (i + 1) (enumerate_from 0 (zip fs xs))))
+        ≡ map (λ at. at.0) (passing (take i (enumerate_from 0 (zip fs xs)))) ++ i ∷ []
+    place_added i f x e h passes = next_at i f x e h ∙ rw (passes) refl
 
--- a fault without a row adds nothing
-pub row_skipped : (row : RowCells → Option ℕ → ℕ → List ℕ) (c : List Statement) (lines : Lines)
-    (fs : List Fault) (xs : List (Option ℕ)) (i : ℕ) (f : Fault) (x : Option ℕ)
-    → slice_get fs i ≡ Some f → slice_get xs i ≡ Some x → has_row lines x ≡ false
-    → rows_text row c lines (take (i + 1) (numbered fs xs))
-    ≡ rows_text row c lines (take i (numbered fs xs))
-row_skipped row c lines fs xs i f x e h has =
-    let at = numbered_at fs xs i f x e h in
-    flat_map_taken
-    (λ at. if has_row lines at.1.1 then row (row_cells c at.1.0) at.1.1 at.0 else [])
-    (numbered fs xs) i (i, (f, x)) []
-    (slice_get_within (numbered fs xs) i (i, (f, x)) at)
-    (rw (get_or_from_slice_get (numbered fs xs) i (i, (f, x)) (i, (f, x)) at, has) refl)
-    ∙ append-nil _
+    -- it doesn't
+    pub place_skipped : (i : ℕ) (f : F) (x : X) → slice_get fs i ≡ Some f → slice_get xs i ≡ Some x
+        → test x ≡ false
+        → map (λ at. at.0) (passing (take (i + 1) (enumerate_from 0 (zip fs xs))))
+        ≡ map (λ at. at.0) (passing (take i (enumerate_from 0 (zip fs xs))))
+    place_skipped i f x e h fails = next_at i f x e h ∙ rw (fails) (append-nil _)
+
+    abbrev IsAt : ℕ × (F × X) → Type 0
+    IsAt at = (slice_get fs at.0 ≡ Some at.1.0) × (slice_get xs at.0 ≡ Some at.1.1)
+
+    -- the items of each place that passes
+    passing_at : (i : ℕ) (d : ℕ × (F × X)) → length xs ≡ length fs
+        → i < length (passing (enumerate_from 0 (zip fs xs)))
+        → IsAt (get_or (passing (enumerate_from 0 (zip fs xs))) i d)
+    passing_at i d same lt =
+        let all = enumerate_from 0 (zip fs xs) in
+        let each : (k : ℕ) → k < length all → IsAt (get_or all k d) = λ k less.
+        let both = length-zip fs xs in
+        let long = length-enumerate_from 0 (zip fs xs) in
+        let f = within_place fs k (omega (arith, less, both, long, same)) in
+        let x = within_place xs k (omega (arith, less, both, long, same)) in
+        let here = numbered_at k f.0 x.0 f.1 x.1 in
+        subst IsAt (sym (get_or_from_slice_get all k (k, (f.0, x.0)) d here)) (f.1, x.1) in
+        All-get_or IsAt (passing all) i d lt
+        (All-filter (λ at. test at.1.1) IsAt all (All-from_get_or IsAt all d each))
+
+    -- the number of such a place, and the items there
+    pub listed_at : (vs : List ℕ) (i : ℕ) (d : ℕ × (F × X)) → length xs ≡ length fs
+        → vs ≡ map (λ at. at.0) (passing (enumerate_from 0 (zip fs xs)))
+        → i < length (passing (enumerate_from 0 (zip fs xs)))
+        → (f : F) × (x : X) × (slice_get fs (get_or vs i 0) ≡ Some f)
+        × (slice_get xs (get_or vs i 0) ≡ Some x)
+        × (get_or (passing (enumerate_from 0 (zip fs xs))) i d ≡ (get_or vs i 0, (f, x)))
+    listed_at vs i d same is lt =
+        let rows = passing (enumerate_from 0 (zip fs xs)) in
+        let at = get_or rows i d in
+        let own : at.0 ≡ get_or vs i 0 = sym (ap (λ l. get_or l i 0) is
+        ∙ get_or-map (λ at. at.0) rows i d 0 lt) in
+        let here = passing_at i d same lt in (
+          at.1.0,
+          at.1.1,
+          subst (λ k. slice_get fs k ≡ Some at.1.0) own here.0,
+          subst (λ k. slice_get xs k ≡ Some at.1.1) own here.1,
+          ap (λ k. (k, at.1)) own,
+        )
+
+-- an element of a list, at any default
+pub get_or_same : {X : Type 0} (xs : List X) (i : ℕ) (d e : X) → i < length xs
+    → get_or xs i e ≡ get_or xs i d
+get_or_same [] i d e lt = absurd (omega (arith, lt))
+get_or_same (x ∷ xs) zero d e lt = refl
+get_or_same (x ∷ xs) (suc i) d e lt = get_or_same xs i d e (omega (arith, lt))

@@ -1,6 +1,6 @@
 -- From the table of a circuit or a job to the table of the files that it was read from.
-use Rattle.std.proofs.Common.{◌≡◌, ◌∙◌, ℕ, List, ap, length, subst}
-use Rattle.std.specs.Prelude.{Err, Ok, Option, Result}
+use Rattle.std.proofs.Common.{◌≡◌, ◌∙◌, [], ℕ, List, ap, length, subst}
+use Rattle.std.specs.Prelude.{Option}
 use Rattle.bench_net.specs.Refusal.{IsAccepted}
 use Rattle.bench_net.specs.Statement.{Statement}
 use Rattle.block_sim.specs.Parts.{Parts}
@@ -10,31 +10,20 @@ use Rattle.fault_model.specs.Fault.{FaultList, fault_list, faults}
 use Rattle.workers.specs.Verdict.{AreFirsts}
 use Rattle.job_loading.specs.declared.fault.SimFault.{SimFault}
 use Rattle.job_loading.specs.declared.fault.SimFault.TheVariants as fault
-use Rattle.byte_output.specs.Output.{Output}
 use Rattle.report.specs.declared.contents.Lines.{Lines}
-use Rattle.report.specs.EndToEnd.{IsListingFault, WritesOneOf}
+use Rattle.report.specs.EndToEnd.{IsListingFault}
 use Rattle.region_runs.specs.Refused.{IsFirstsFault, IsOpenFault}
 use Rattle.workers.specs.declared.RunFault.{RunFault}
 use Rattle.workers.specs.declared.RunFault.TheVariants as run_fault
 use Rattle.workers.specs.Stops.{Stops}
-use Rattle.tables.specs.declared.table.Format.{Format}
-use Rattle.tables.specs.declared.table_of_run.FurtherColumns.{FurtherColumns}
+use Rattle.report.specs.declared.contents.Lines.TheVariants.{All}
+use Rattle.table_rows.specs.Table.{table_text}
+use Rattle.table_rows.specs.declared.rows.Format.{Format}
+use Rattle.tables.specs.declared.further.FurtherColumns.{FurtherColumns}
 use Rattle.tables.specs.FurtherColumns.{AreFurtherColumns, FurtherColumn}
 use Rattle.report.specs.EndToEnd.{IsListFault}
 use Rattle.tables.specs.Tables.{IsClassTableOf, IsClassTableOfCircuit}
-use Rattle.tables.specs.Tables.{IsFirstTableOfJob, IsTable, class_column, first_column, table_text}
-
--- a text of one kind is a text of another kind
-pub written_as : (A B : List ℕ → Type 0) (r : Result (Unit {0}) SimFault) (old new : Output)
-    → ((text : List ℕ) → A text → B text) → WritesOneOf A r old new → WritesOneOf B r old new
-written_as A B (Ok u) old new into w = (w.0, into w.0 w.1, w.2)
-written_as A B (Err (fault.Report f)) old new into w = (w.0, into w.0 w.1, w.2)
-written_as A B (Err (fault.Bench f)) old new into w = w
-written_as A B (Err (fault.Tests f)) old new into w = w
-written_as A B (Err (fault.Order f)) old new into w = w
-written_as A B (Err (fault.Job f)) old new into w = w
-written_as A B (Err (fault.Run f)) old new into w = w
-written_as A B (Err fault.Memory) old new into w = w
+use Rattle.tables.specs.Tables.{IsFirstTableOfJob, class_values, fault_table, first_values}
 
 -- an error of a table is an error of a listing
 pub table_fault : (bench : List ℕ) (f : SimFault) → IsListFault f → IsListingFault bench f
@@ -50,16 +39,16 @@ table_fault bench (fault.Run f) h = absurd h
 pub classes_table : (m : Model) (c : List Statement) (list : FaultList) (classes : Collapsed)
     (format : Format) → list ≡ fault_list m c → AreClassesOf list.model c classes
     → (bytes : List ℕ)
-    → IsTable format c list.list
-    (class_column classes.class_of (length classes.representative)) bytes
+    → bytes ≡ table_text format (fault_table c list.list
+    (class_values classes.class_of (length classes.representative)) All [])
     → IsClassTableOfCircuit m c format bytes
 classes_table m c list classes format listed are bytes is =
     let of_model : list.model ≡ m = ap (λ l. l.model) listed in
     let own : list.list ≡ faults m c = ap (λ l. l.list) listed in (
       classes,
       subst (λ k. AreClassesOf k c classes) of_model are,
-      is ∙ ap (λ l. table_text format c l
-          (class_column classes.class_of (length classes.representative))) own,
+      is ∙ ap (λ l. table_text format (fault_table c l
+          (class_values classes.class_of (length classes.representative)) All [])) own,
     )
 
 -- the table of the circuit of a file
@@ -74,14 +63,15 @@ pub firsts_table : (job : Parts) (firsts : List (Option ℕ)) (lines : Lines)
     → job.list ≡ fault_list job.list.model job.circuit
     → AreFirsts job.list.model job.circuit job.tests.tests firsts
     → AreFurtherColumns job firsts wanted further → (bytes : List ℕ)
-    → IsTable format job.circuit job.list.list (first_column firsts lines further) bytes
+    → bytes ≡ table_text format (fault_table job.circuit job.list.list (first_values firsts) lines
+    further)
     → IsFirstTableOfJob job lines wanted format bytes
 firsts_table job firsts lines wanted further format listed are all bytes is = (
   firsts,
   further,
   are,
   all,
-  is ∙ ap (λ l. table_text format job.circuit l (first_column firsts lines further))
+  is ∙ ap (λ l. table_text format (fault_table job.circuit l (first_values firsts) lines further))
       (ap (λ l. l.list) listed),
 )
 

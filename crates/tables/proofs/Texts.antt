@@ -1,40 +1,9 @@
 -- The pieces of a text make the text.
-use Rattle.std.proofs.Common.{◌≡◌, ◌∙◌, ◌<◌, ◌-◌, ◌*◌, ◌/◌, ◌%◌, ℕ, List, [], ◌++◌, ap}
-use Rattle.std.proofs.Common.{append-nil, append_assoc, arith, max, refl, subst}
+use Rattle.std.proofs.Common.{◌≡◌, ◌∙◌, ◌<◌, ◌/◌, ◌%◌, ℕ, List, [], ◌++◌, ap}
+use Rattle.std.proofs.Common.{append-nil, append_assoc, arith, refl, subst}
 use Rattle.std.specs.Prelude.{OnOk, Option, Result, Some, codes, decimal}
-use Rattle.region_runs.specs.declared.watch.ReasonCounts.{ReasonCounts}
 use Rattle.std.proofs.lemmas.Fmt.{decimal_digit}
-use Rattle.tables.specs.Summaries.{effort_text, found_text, inputs_of, reasons_text, seconds_text}
-use Rattle.tables.specs.Tables.{coverage_object}
-
--- the sums of a run from their numbers, given as texts
-pub coverage_text : (found total : ℕ) (a b whole tens ones : List ℕ) → a ≡ decimal found
-    → b ≡ decimal total
-    → whole ≡ decimal (10000 * found / total / 100)
-    → tens ≡ decimal (10000 * found / total % 100 / 10)
-    → ones ≡ decimal (10000 * found / total % 100 % 10)
-    → codes "{\"detected\":" ++ (a ++ (codes ",\"faults\":" ++ (b ++ (codes ",\"percent\":"
-    ++ (whole ++ (codes "." ++ (tens ++ (ones ++ (codes "}" ++ [])))))))))
-    ≡ coverage_object found total
-coverage_text found total a b whole tens ones e f g h i =
-    let small : 10000 * found / total % 100 / 10 < 10 = omega arith in
-    let last : 10000 * found / total % 100 % 10 < 10 = omega arith in
-    rw (e, f, g, h, i, decimal_digit _ small, decimal_digit _ last) (simp append_assoc)
-
--- the detected ones of a number, given as texts
-pub found_pieces : (detected total : ℕ) (member a b u whole tens ones : List ℕ)
-    → a ≡ decimal total → b ≡ decimal detected → u ≡ decimal (total - detected)
-    → whole ≡ decimal (10000 * detected / max total 1 / 100)
-    → tens ≡ decimal (10000 * detected / max total 1 % 100 / 10)
-    → ones ≡ decimal (10000 * detected / max total 1 % 100 % 10)
-    → member ++ (codes "{\"total\":" ++ (a ++ (codes ",\"detected\":" ++ (b
-    ++ (codes ",\"undetected\":" ++ (u ++ (codes ",\"percent\":" ++ (whole ++ (codes "."
-    ++ (tens ++ (ones ++ (codes "}" ++ []))))))))))))
-    ≡ member ++ found_text detected total
-found_pieces detected total member a b u whole tens ones e f g h i j =
-    let small : 10000 * detected / max total 1 % 100 / 10 < 10 = omega arith in
-    let last : 10000 * detected / max total 1 % 100 % 10 < 10 = omega arith in
-    rw (e, f, g, h, i, j, decimal_digit _ small, decimal_digit _ last) (simp append_assoc)
+use Rattle.tables.specs.Summaries.{effort_text, inputs_of, seconds_text}
 
 -- a time in seconds, from its digits, given as texts
 pub seconds_pieces : (n : ℕ) (whole tenths hundredths thousandths : List ℕ)
@@ -56,14 +25,6 @@ pub inputs_pieces : (version proved model bench tests count : List ℕ)
     ++ [])))))))))))
     ≡ inputs_of version proved model bench tests count
 inputs_pieces version proved model bench tests count = simp append-nil
-
--- the numbers of the reasons, given as texts
-pub reasons_pieces : (counts : ReasonCounts) (a b c : List ℕ) → a ≡ decimal counts.no_path
-    → b ≡ decimal counts.not_activated → c ≡ decimal counts.not_observed
-    → codes ",\n\"reasons\":{\"no_path\":" ++ (a ++ (codes ",\"not_activated\":" ++ (b
-    ++ (codes ",\"not_observed\":" ++ (c ++ (codes "}" ++ []))))))
-    ≡ reasons_text (Some counts)
-reasons_pieces counts a b c e f g = rw (e, f, g) refl
 
 regrouped : (a b c d e : List ℕ)
     → (a ++ (b ++ (c ++ []))) ++ (d ++ (e ++ [])) ≡ a ++ (b ++ (c ++ (d ++ e)))
@@ -95,9 +56,21 @@ added_parts r old a b new x y z text e f g h =
     subst (λ t. OnOk r (new ≡ t)) (ap (λ t. t ++ z) (f ∙ ap (λ t. t ++ y) e)
     ∙ (append_assoc (old ++ x) y z ∙ (append_assoc old x (y ++ z) ∙ ap (λ t. old ++ t) g))) h
 
--- four parts of a text, one after another
-pub four_parts : (s t u v a b c d : List ℕ) → s ≡ a → t ≡ s ++ b → u ≡ t ++ c → v ≡ u ++ d
-    → v ≡ a ++ (b ++ (c ++ d))
-four_parts s t u v a b c d e f g h =
-    h ∙ (ap (λ l. l ++ d) (g ∙ ap (λ l. l ++ c) (f ∙ ap (λ l. l ++ b) e))
-    ∙ (append_assoc (a ++ b) c d ∙ append_assoc a b (c ++ d)))
+-- four parts of a text, added one after another
+pub added_four : {E : Type 0} (r : Result (Unit {0}) E) (old s t u new a b c d : List ℕ)
+    → s ≡ old ++ a → t ≡ s ++ b → u ≡ t ++ c → OnOk r (new ≡ u ++ d)
+    → OnOk r (new ≡ old ++ ((a ++ b) ++ (c ++ d)))
+added_four r old s t u new a b c d e f g h =
+    let regroup : (((old ++ a) ++ b) ++ c) ++ d ≡ old ++ ((a ++ b) ++ (c ++ d)) =
+    simp append_assoc in
+    subst (λ t. OnOk r (new ≡ t)) (ap (λ t. t ++ d) (g ∙ ap (λ t. t ++ c) (f
+    ∙ ap (λ t. t ++ b) e)) ∙ regroup) h
+
+-- five parts of a text, one after another
+pub five_parts : (s t u v w a b c d e : List ℕ) → s ≡ a → t ≡ s ++ b → u ≡ t ++ c → v ≡ u ++ d
+    → w ≡ v ++ e → w ≡ a ++ (b ++ (c ++ (d ++ e)))
+five_parts s t u v w a b c d e f g h i j =
+    let regroup : (((a ++ b) ++ c) ++ d) ++ e ≡ a ++ (b ++ (c ++ (d ++ e))) =
+    simp append_assoc in
+    j ∙ (ap (λ l. l ++ e) (i ∙ ap (λ l. l ++ d) (h ∙ ap (λ l. l ++ c) (g ∙ ap (λ l. l ++ b) f)))
+    ∙ regroup)

@@ -1,5 +1,5 @@
 -- Columns that a table of faults has only if they are requested.
-use Rattle.std.specs.Prelude.{◌≡◌, ℕ, Bool, true, false, List, [], ◌∷◌, ◌++◌, All, codes, decimal}
+use Rattle.std.specs.Prelude.{◌≡◌, ℕ, Bool, true, false, List, [], ◌∷◌, ◌++◌, All, codes}
 use Rattle.std.specs.Prelude.{length, map, Option, Some, None, slice_get, unwrap_or}
 use Rattle.fault_model.specs.Collapse.{AreClassesOf, Collapsed}
 use Rattle.block_sim.specs.Parts.{Parts}
@@ -7,17 +7,10 @@ use Rattle.n_detect.specs.Detections.{AreCounts}
 use Rattle.undetected.specs.declared.Reason.{Reason}
 use Rattle.undetected.specs.Reasons.{AreReasons}
 use Rattle.analysis_reports.specs.Reasons.{reason_text}
-use Rattle.tables.specs.declared.further.Cell.{Cell as ProgramCell}
-use Rattle.tables.specs.declared.further.Cell.TheVariants as cell
 use Rattle.tables.specs.declared.further.Further.{Further}
 use Rattle.tables.specs.declared.further.Further.TheVariants as further
-use Rattle.tables.specs.declared.table_of_run.FurtherColumns.{FurtherColumns}
-
--- a cell: empty, a number, or words in which JSON escapes no character
-pub data Cell : Type 0 where
-  Empty : Cell
-  Number : ℕ → Cell
-  Words : List ℕ → Cell
+use Rattle.tables.specs.declared.further.FurtherColumns.{FurtherColumns}
+use Rattle.table_rows.specs.Cells.{Cell, Empty, Number, Words}
 
 -- a column: its name, and the cell of each fault in the order of the list
 pub record FurtherColumn : Type 0 where
@@ -27,23 +20,6 @@ pub record FurtherColumn : Type 0 where
 -- the cell of a fault, by its number
 abbrev pub cell_at : FurtherColumn → ℕ → Cell
 cell_at column fault = unwrap_or (slice_get column.cells fault) Empty
-
--- a cell as comma-separated values
-abbrev pub csv_cell : Cell → List ℕ
-csv_cell Empty = []
-csv_cell (Number n) = decimal n
-csv_cell (Words words) = words
-
--- a cell as JSON
-abbrev pub json_cell : Cell → List ℕ
-json_cell Empty = codes "null"
-json_cell (Number n) = decimal n
-json_cell (Words words) = codes "\"" ++ (words ++ codes "\"")
-
--- the member of the object of a fault
-abbrev pub json_member : ℕ → FurtherColumn → List ℕ
-json_member fault column =
-    codes ",\"" ++ (column.name ++ (codes "\":" ++ json_cell (cell_at column fault)))
 
 -- the columns have a cell for each of this many faults
 abbrev pub HaveCells : ℕ → List FurtherColumn → Type 0
@@ -99,12 +75,6 @@ AreFurtherColumns job firsts wanted columns = (reasons : List FurtherColumn)
     × (counts : List FurtherColumn) × (classes : List FurtherColumn)
     × HasReasons job firsts wanted.reasons reasons × HasCounts job wanted.detections counts
     × HasClasses job wanted.classes classes × (columns ≡ reasons ++ (counts ++ classes))
-
--- a cell from the form of the program
-abbrev pub cell_in : ProgramCell → Cell
-cell_in cell.Empty = Empty
-cell_in (cell.Number n) = Number n
-cell_in (cell.Words words) = Words words.now
 
 -- a column from the form of the program
 abbrev pub further_in : Further → FurtherColumn

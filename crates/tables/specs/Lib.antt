@@ -1,9 +1,6 @@
-pub mod BlockTables
-pub mod BlockingTables
-pub mod CurveTables
 pub mod FurtherColumns
-pub mod HistogramTables
-pub mod Records
+pub mod Lists
 pub mod Rows
 pub mod Summaries
 pub mod Tables
+pub mod Views

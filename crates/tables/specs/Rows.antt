@@ -1,5 +1,6 @@
 -- The columns of the row of a fault.
-use Rattle.std.specs.Prelude.{ℕ, ◌+◌, Bool, List, [], Option, Some, None, codes, drop, unwrap_or}
+use Rattle.std.specs.Prelude.{ℕ, ◌+◌, Bool, List, [], ◌∷◌, Option, Some}
+use Rattle.std.specs.Prelude.{None, codes, drop, unwrap_or}
 use Rattle.bench_net.specs.Statement.{Statement}
 use Rattle.fault_model.specs.declared.Line.{Line}
 use Rattle.fault_model.specs.declared.Line.TheVariants.{Stem, Pin, Data, Out}
@@ -8,6 +9,7 @@ use Rattle.fault_model.specs.Detection.{name_on}
 use Rattle.fault_model.specs.Fault.{Fault}
 use Rattle.block_coverage.specs.Blocks.{owner}
 use Rattle.report.specs.Report.{defect_text}
+use Rattle.table_rows.specs.Cells.{Cell, Words, number_cell}
 use Rattle.tables.specs.declared.row.Place.{Place}
 use Rattle.tables.specs.declared.row.FaultRow.{FaultRow}
 
@@ -65,3 +67,8 @@ place_in p = record { kind = p.kind.now; name = p.name.now; pin = p.pin; net = p
 
 abbrev pub row_in : FaultRow → RowCells
 row_in r = record { line = place_in r.place; defect = r.defect.now }
+
+-- the cells of a fault with its value: of the columns that each list of faults has
+abbrev pub fault_cells : RowCells → Option ℕ → List Cell
+fault_cells row value = Words row.line.kind ∷ Words row.line.name ∷ number_cell row.line.pin
+    ∷ Words row.defect ∷ number_cell value ∷ Words row.line.net ∷ []

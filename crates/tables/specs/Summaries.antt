@@ -1,10 +1,11 @@
 -- The bytes of the summary of a run.
-use Rattle.std.specs.Prelude.{ℕ, ◌+◌, ◌-◌, ◌/◌, ◌%◌, max, Bool, true, false, List, [], ◌∷◌, ◌++◌}
+use Rattle.std.specs.Prelude.{ℕ, ◌+◌, ◌-◌, ◌/◌, ◌%◌, Bool, true, false, List, [], ◌∷◌, ◌++◌}
 use Rattle.std.specs.Prelude.{Option, Some, None, codes, decimal}
 use Rattle.region_runs.specs.declared.watch.ReasonCounts.{ReasonCounts}
 use Rattle.report.specs.declared.counts.RunCounts.{RunCounts}
 use Rattle.report.specs.RunIdentity.{model_name}
-use Rattle.report.specs.Report.{percentage}
+use Rattle.table_rows.specs.Cells.{Number, Percent}
+use Rattle.table_rows.specs.Table.{object}
 use Rattle.tables.specs.declared.summary.Summary.{Summary}
 
 abbrev pub truth_text : Bool → List ℕ
@@ -22,9 +23,9 @@ inputs_of version proved model bench tests count =
 -- a number, and how many of these are detected; the percentage is rounded down, and is 0 if the
 -- number is 0
 abbrev pub found_text : ℕ → ℕ → List ℕ
-found_text detected total = codes "{\"total\":" ++ (decimal total ++ (codes ",\"detected\":"
-    ++ (decimal detected ++ (codes ",\"undetected\":" ++ (decimal (total - detected)
-    ++ (codes ",\"percent\":" ++ (percentage detected (max total 1) ++ codes "}")))))))
+found_text detected total = object (codes "total" ∷ codes "detected" ∷ codes "undetected"
+    ∷ codes "percent" ∷ []) (Number total ∷ Number detected ∷ Number (total - detected)
+    ∷ Percent detected total ∷ [])
 
 -- the faults and the classes
 abbrev pub counts_text : RunCounts → List ℕ
@@ -33,10 +34,10 @@ counts_text counts = (codes ",\n\"faults\":" ++ found_text counts.detected count
 
 -- the reasons, if the run writes them
 abbrev pub reasons_text : Option ReasonCounts → List ℕ
-reasons_text None = codes ",\n\"reasons\":null"
-reasons_text (Some counts) = codes ",\n\"reasons\":{\"no_path\":" ++ (decimal counts.no_path
-    ++ (codes ",\"not_activated\":" ++ (decimal counts.not_activated
-    ++ (codes ",\"not_observed\":" ++ (decimal counts.not_observed ++ codes "}")))))
+reasons_text None = codes "null"
+reasons_text (Some counts) = object (codes "no_path" ∷ codes "not_activated"
+    ∷ codes "not_observed" ∷ []) (Number counts.no_path ∷ Number counts.not_activated
+    ∷ Number counts.not_observed ∷ [])
 
 -- a number of milliseconds as seconds with three decimals, or the word for a missing number
 abbrev pub seconds_text : Option ℕ → List ℕ
@@ -53,4 +54,5 @@ effort_text workers milliseconds = codes ",\n\"workers\":" ++ (decimal workers
 abbrev pub summary_text : Summary → List ℕ
 summary_text s = inputs_of s.version.now (truth_text s.proved) (model_name s.model)
     s.sums.bench.now s.sums.tests.now (decimal s.counts.tests)
-    ++ (counts_text s.counts ++ (reasons_text s.reasons ++ effort_text s.workers s.milliseconds))
+    ++ (counts_text s.counts ++ (codes ",\n\"reasons\":" ++ (reasons_text s.reasons
+    ++ effort_text s.workers s.milliseconds)))

@@ -8,8 +8,9 @@ ghost use Rattle.part_files.specs.Merging.{MergedRun};
 ghost use Rattle.part_files.specs.WholeMerge.{IsMergeOf, IsSomePartDistinguished, IsSomePartOf};
 ghost use Rattle.part_files.specs.WholeMerge.{PartedRun};
 ghost use Rattle.report.specs.declared.contents.Lines.{Lines};
-ghost use Rattle.tables.specs.declared.table.Format.{Format};
-ghost use Rattle.tables.specs.Tables.{IsFirstTableOf, first_column, table_text};
+ghost use Rattle.table_rows.specs.Table.{table_text};
+ghost use Rattle.table_rows.specs.declared.rows.Format.{Format};
+ghost use Rattle.tables.specs.Tables.{IsFirstTableOf, fault_table, first_values};
 
 use part_files::merged_firsts;
 
@@ -21,7 +22,8 @@ pub fn merged_table()
         → All (IsSomePartDistinguished run) others → IsMergeOf first others merged
         → IsAccepted run.bench c
         → IsFirstTableOf run.model run.bench run.tests lines format
-        (table_text format c (faults run.model c) (first_column merged.firsts lines [])) }
+        (table_text format (fault_table c (faults run.model c) (first_values merged.firsts) lines
+        [])) }
 {
     merged_firsts();
 }

@@ -4,12 +4,12 @@ ghost use Rattle.std.specs.Prelude.{◌≡◌, ◌++◌, IfOk, OnOk};
 ghost use Rattle.tables.specs.Summaries.{counts_text, effort_text, found_text, inputs_of};
 ghost use Rattle.tables.specs.Summaries.{reasons_text, seconds_text, summary_text, truth_text};
 
-use crate::json_table::{add_pieces, hundredths};
 use fault_model::Model;
 use itoa::Buffer;
 use job_loading::FileSums;
 use report::{ReasonCounts, RunCounts, model_name};
 use std::alloc::{AllocError, Global};
+use table_rows::{Cell, add_object, add_pieces};
 
 /// The contents of the summary of a run.
 #[derive(Clone, Copy)]
@@ -44,8 +44,9 @@ pub fn summary_text(alloc: Global, summary: &Summary<'_>) -> Result<Vec<u8>, All
         summary.sums.tests,
         number.format(summary.counts.tests),
     )?;
-    add_counts(&mut text, summary.counts)?;
-    add_reasons(&mut text, summary.reasons)?;
+    add_counts(alloc, &mut text, summary.counts)?;
+    add_pieces(&mut text, &[",\n\"reasons\":"])?;
+    add_reasons(alloc, &mut text, summary.reasons)?;
     add_effort(&mut text, summary.workers, summary.milliseconds)?;
     Ok(text)
 }
@@ -89,70 +90,51 @@ fn add_inputs<'a>(
 }
 
 /// Adds the numbers of faults and classes, and how many of them a test detects.
-fn add_counts(text: &mut Vec<u8>, counts: RunCounts) -> Result<(), AllocError>
+fn add_counts(alloc: Global, text: &mut Vec<u8>, counts: RunCounts) -> Result<(), AllocError>
     ensures { OnOk result (text.new.items ≡ text.old.items ++ counts_text counts) }
 {
-    add_found(text, ",\n\"faults\":", counts.detected, counts.faults)?;
-    add_found(
-        text,
-        ",\n\"classes\":",
-        counts.detected_classes,
-        counts.classes,
-    )
+    add_pieces(text, &[",\n\"faults\":"])?;
+    add_found(alloc, text, counts.detected, counts.faults)?;
+    add_pieces(text, &[",\n\"classes\":"])?;
+    add_found(alloc, text, counts.detected_classes, counts.classes)
 }
 
-/// Adds a member for a number of faults or classes and the number of them that a test detects. The
+/// Adds an object of a number of faults or classes and the number of them that a test detects. The
 /// percentage is rounded down.
-fn add_found(text: &mut Vec<u8>, member: &str, detected: u32, total: u32) -> Result<(), AllocError>
-    ensures { OnOk result (text.new.items
-        ≡ text.old.items ++ (member.now ++ found_text detected total)) }
+fn add_found(alloc: Global, text: &mut Vec<u8>, detected: u32, total: u32) -> Result<(), AllocError>
+    ensures { OnOk result (text.new.items ≡ text.old.items ++ found_text detected total) }
 {
-    let hundredths = hundredths(detected, total.max(1));
-    let decimals = hundredths % 100;
-    let mut all = Buffer::new();
-    let mut found = Buffer::new();
-    let mut missed = Buffer::new();
-    let mut whole = Buffer::new();
-    let mut tens = Buffer::new();
-    let mut ones = Buffer::new();
-    let pieces = [
-        member,
-        "{\"total\":",
-        all.format(total),
-        ",\"detected\":",
-        found.format(detected),
-        ",\"undetected\":",
-        missed.format(total.saturating_sub(detected)),
-        ",\"percent\":",
-        whole.format(hundredths / 100),
-        ".",
-        tens.format(decimals / 10),
-        ones.format(decimals % 10),
-        "}",
+    let names = ["total", "detected", "undetected", "percent"];
+    let cells = [
+        Cell::Number(u64::from(total)),
+        Cell::Number(u64::from(detected)),
+        Cell::Number(u64::from(total.saturating_sub(detected))),
+        Cell::Percent {
+            part: detected,
+            whole: total,
+        },
     ];
-    add_pieces(text, &pieces)
+    add_object(alloc, text, &names, &cells)
 }
 
 /// Adds the number of undetected faults for each reason, or `null` if the run writes no reasons.
-fn add_reasons(text: &mut Vec<u8>, reasons: Option<ReasonCounts>) -> Result<(), AllocError>
+fn add_reasons(
+    alloc: Global,
+    text: &mut Vec<u8>,
+    reasons: Option<ReasonCounts>,
+) -> Result<(), AllocError>
     ensures { OnOk result (text.new.items ≡ text.old.items ++ reasons_text reasons) }
 {
     let Some(counts) = reasons else {
-        return add_pieces(text, &[",\n\"reasons\":null"]);
+        return add_pieces(text, &["null"]);
     };
-    let mut no_path = Buffer::new();
-    let mut not_activated = Buffer::new();
-    let mut not_observed = Buffer::new();
-    let pieces = [
-        ",\n\"reasons\":{\"no_path\":",
-        no_path.format(counts.no_path),
-        ",\"not_activated\":",
-        not_activated.format(counts.not_activated),
-        ",\"not_observed\":",
-        not_observed.format(counts.not_observed),
-        "}",
+    let names = ["no_path", "not_activated", "not_observed"];
+    let cells = [
+        Cell::Number(counts.no_path as u64),
+        Cell::Number(counts.not_activated as u64),
+        Cell::Number(counts.not_observed as u64),
     ];
-    add_pieces(text, &pieces)
+    add_object(alloc, text, &names, &cells)
 }
 
 /// Adds the number of workers and the time of the run, and the end of the object.

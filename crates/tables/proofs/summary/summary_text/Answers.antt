@@ -1,4 +1,4 @@
-use Rattle.tables.proofs.Texts.{four_parts}
+use Rattle.tables.proofs.Texts.{five_parts}
 use Rattle.tables.proofs.summary.summary_text.Goals as goal
 
 pub returns : goal.returns
@@ -9,5 +9,5 @@ returns c =
       c.model_name.ensures,
       c.format.ensures.text,
     ) at c.in_ok-add_inputs.ensures in
-    four_parts _ _ _ _ _ _ _ _ begun c.in_ok-add_counts.ensures c.in_ok-add_reasons.ensures
-    c.in_ok-add_effort.ensures
+    five_parts _ _ _ _ _ _ _ _ _ _ begun c.in_ok-add_counts.ensures c.in_ok-add_pieces.ensures
+    c.in_ok-add_reasons.ensures c.in_ok-add_effort.ensures
