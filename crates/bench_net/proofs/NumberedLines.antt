@@ -82,16 +82,16 @@ push line (Some t ∷ stated) o n e = let more = push (suc line) stated o n (ome
 
 -- the lines that an iterator has given so far
 abbrev pub given : List (Bor (List ℕ)) → List (List ℕ)
-given parts = map strip_carriage_return (map (λ x. x.now) parts)
+given parts = map (λ x. x.now) parts
 
 module _ (parts : List (Bor (List ℕ))) (x : Bor (List ℕ)) where
   pub given_more : {first : ℕ} {entries : List Entry} {o : Option Statement} (n : ℕ)
       → n ≡ first + length parts → AreStatedFrom first (given parts) entries
-      → stated_of (strip_carriage_return x.now) ≡ Some o
+      → stated_of x.now ≡ Some o
       → AreStatedFrom first (given (parts ++ x ∷ [])) (entries ++ numbered_from n (o ∷ []))
   given_more {first} {o = o} n number h e = record {
     stated = h.stated ++ o ∷ [];
-    each = rw (map_push, map_push)
+    each = rw map_push
         (AllZip-push States (given parts) h.stated _ o h.each (sound_states _ o e));
     same =
         let long = simp length-map at (AllZip-long States (given parts) h.stated h.each) in
@@ -100,16 +100,15 @@ module _ (parts : List (Bor (List ℕ))) (x : Bor (List ℕ)) where
 
   -- the first line that states nothing that a line may state
   pub refused_line : (text : List ℕ) {first : ℕ} {entries : List Entry}
-      → map (λ y. y.now) parts ≡ take (length parts) (slice_split (λ b. b == 10) text)
-      → length parts < length (slice_split (λ b. b == 10) text)
-      → x.now ≡ get_or (slice_split (λ b. b == 10) text) (length parts) x.now
+      → given parts ≡ take (length parts) (lines text)
+      → length parts < length (lines text)
+      → x.now ≡ get_or (lines text) (length parts) x.now
       → AreStatedFrom first (given parts) entries
-      → stated_of (strip_carriage_return x.now) ≡ None
+      → stated_of x.now ≡ None
       → IsLowest (IsSyntaxFault text) (suc (length parts))
   refused_line text so_far below turn h none =
-      let at = slice_get_read (slice_split (λ b. b == 10) text) _ _ x.now refl below turn in
-      unread_lowest text (length parts) (strip_carriage_return x.now) h.stated
-      (rw (slice_get-map, at) refl) none (rw (take-map, ← so_far) h.each)
+      unread_lowest text (length parts) x.now h.stated
+      (slice_get_read (lines text) _ _ x.now refl below turn) none (rw (← so_far) h.each)
 
 module _ {A : Type 0} (xs : List A) (i : ℕ) (x : A) (h : i < length xs)
     (e : x ≡ get_or xs i x) where

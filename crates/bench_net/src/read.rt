@@ -22,7 +22,7 @@ use crate::number::{StatedLine, defined_count, line_numbers, number_lines, numbe
 use crate::statement::{Stated, read_line};
 use crate::{BenchFault, Limit};
 use std::alloc::Global;
-use text_lines::without_carriage_return;
+use text_lines::FileLines;
 
 /// The greatest number of bytes of a file.
 pub const MAX_BYTES: usize = 16_777_216;
@@ -65,10 +65,10 @@ pub fn read_statements<'a>(
 {
     let mut stated = Vec::with_capacity(alloc, text.len() / BYTES_OF_A_STATEMENT)?;
     let mut number = before;
-    for line in text.split(|byte| *byte == b'\n') {
+    for line in FileLines::new(text) {
         number += 1;
         let refusal = BenchFault::Syntax(number);
-        if let Some(statement) = read_line(alloc, without_carriage_return(line), refusal)? {
+        if let Some(statement) = read_line(alloc, line, refusal)? {
             stated.push(StatedLine { number, statement })?;
         }
     }

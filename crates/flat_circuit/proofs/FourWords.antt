@@ -30,6 +30,14 @@ slot_bits good pins slot j lt =
     ap (λ n. map (λ s. lane (slice_index_or (good n) s 0) (0 + (128 * slot + j) % 128)) pins) at
     ∙ ap (λ n. map (λ s. lane (slice_index_or (good slot) s 0) n) pins) within
 
+-- the lane of a wide word that stands in a slot is a lane of the slot's own word
+pub slot_lane : (words : ℕ → ℕ) (slot j : ℕ) → j < 128
+    → lane (words ((128 * slot + j) / 128)) ((128 * slot + j) % 128) ≡ lane (words slot) j
+slot_lane words slot j lt =
+    let at : (128 * slot + j) / 128 ≡ slot = omega (arith, lt) in
+    let within : (128 * slot + j) % 128 ≡ j = omega (arith, lt) in
+    ap (λ n. lane (words n) ((128 * slot + j) % 128)) at ∙ ap (lane (words slot)) within
+
 -- a word is written into each of four rows
 pub set_each : (first second third fourth : List ℕ) (s a b c d slot : ℕ)
     → set (one_of first second third fourth slot) s (one_of a b c d slot)

@@ -103,8 +103,8 @@ fn step_of(groups: u32, threads: u32) -> u32
     groups.div_ceil(threads.max(1)).clamp(1, GROUPS_OF_A_PASS)
 }
 
-/// Returns a row of this many words, whatever they are. It takes the last spare row, unless that has
-/// another length.
+/// Returns a row of this many words, whatever they are. It takes the last spare row, unless that
+/// has another length.
 fn row_for(alloc: Global, spare: &mut Vec<Vec<u128>>, words: usize) -> Result<Vec<u128>, AllocError>
     ensures len { IfOk result (λ row. vec_len row ≡ words) }
 {
@@ -115,8 +115,8 @@ fn row_for(alloc: Global, spare: &mut Vec<Vec<u128>>, words: usize) -> Result<Ve
 }
 
 /// Returns the words of the groups from one up to another, which is not included, in spare rows as
-/// far as there are some. One pass computes four groups. Each of up to three groups at the end has a
-/// pass of its own.
+/// far as there are some. One pass computes four groups. Each of up to three groups at the end has
+/// a pass of its own.
 fn rows_between(
     alloc: Global,
     circuit: &FlatCircuit,

@@ -20,7 +20,7 @@ use crate::flat::{FlatCircuit, FlatGate};
 use crate::wide_lanes::in_each_wide_lane;
 use crate::words::source_word;
 use patterns::Tests;
-use wide_words::{Copies, Four, Wide};
+use wide_words::{Copies, Four, Wide, side_by_side};
 
 /// The words of a signal on four groups.
 #[derive(Clone, Copy)]
@@ -128,8 +128,41 @@ fn source_words(circuit: &FlatCircuit, tests: &Tests, group: u32, signal: u32) -
     }
 }
 
-/// Returns the fault-free words of one signal on four groups, from the tests or from the words of
-/// the signals that its gate reads.
+/// Returns in each slot the fault-free word of one signal, from the tests or from the words of the
+/// signals that its gate reads.
+#[inline(always)]
+fn wide_signal_word(
+    circuit: &FlatCircuit,
+    tests: &Tests,
+    group: u32,
+    rows: Four<'_>,
+    signal: u32,
+) -> Wide
+    requires circuit { IsCircuit circuit.now.arranged }
+    requires signal { signal < length (names circuit.now.arranged) }
+    requires first { length (names circuit.now.arranged) ≤ length rows.first.now }
+    requires second { length (names circuit.now.arranged) ≤ length rows.second.now }
+    requires third { length (names circuit.now.arranged) ≤ length rows.third.now }
+    requires fourth { length (names circuit.now.arranged) ≤ length rows.fourth.now }
+    requires width { tests.now.width ≡ length (sources circuit.now.arranged) }
+    requires group { group + 3 < groups (length tests.now.tests) }
+    ensures { (slot word : ℕ) → slot < 4
+        → ((j : ℕ) → j < 128 → lane word j ≡ lane (number result) (128 * slot + j))
+        → IsSignalWord circuit.now.arranged tests.now.tests (group + slot) None
+        (one_of rows.entry.first.now rows.entry.second.now rows.entry.third.now
+        rows.entry.fourth.now slot) signal word }
+{
+    match circuit.gate_of(signal) {
+        Some(gate) => wide_gate_word(gate, rows),
+        None => {
+            let words = source_words(circuit, tests, group, signal);
+            side_by_side(words.first, words.second, words.third, words.fourth)
+        }
+    }
+}
+
+/// Returns the fault-free words of one signal on four groups. They come from one wide word, so that
+/// each is written as a whole: a word that is written in halves is read late by the gates after it.
 #[inline(always)]
 fn signal_words(
     circuit: &FlatCircuit,
@@ -151,10 +184,7 @@ fn signal_words(
         rows.entry.third.now rows.entry.fourth.now slot) signal
         (one_of result.first result.second result.third result.fourth slot) }
 {
-    match circuit.gate_of(signal) {
-        Some(gate) => words_in_slots(rows, wide_gate_word(gate, rows)),
-        None => source_words(circuit, tests, group, signal),
-    }
+    words_in_slots(rows, wide_signal_word(circuit, tests, group, rows, signal))
 }
 
 /// Writes the fault-free word of every signal on four groups, the first of which is given, as

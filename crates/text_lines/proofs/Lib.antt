@@ -1,3 +1,4 @@
+mod FirstLine
 mod FirstRow
 mod BitRow
 mod CutRows

@@ -11,5 +11,5 @@
 mod lines;
 mod rows;
 
-pub use lines::{is_blank, without_carriage_return};
+pub use lines::{FileLines, is_blank, without_carriage_return};
 pub use rows::{Row, Rows, are_bits, count_line_feeds, line_start_from};

@@ -1,10 +1,55 @@
-//! A line of a file, and its contents.
+//! The lines of a file, and the contents of a line.
 
 ghost use Rattle.std.specs.Prelude.{◌≡◌, ◌==◌};
 ghost use Rattle.std.specs.List.{before_first, after_first};
 ghost use Rattle.std.specs.Str.Lines.{strip_carriage_return};
 ghost use Rattle.text_lines.specs.Lines.{is_blank};
 ghost use Rattle.text_lines.specs.Rows.{content, without_front, without_back};
+
+use memchr::memchr;
+
+/// The lines of a file, from the top, each without its end: the line feed, and a carriage return
+/// directly before it.
+#[derive(Drop)]
+pub struct FileLines<'a> {
+    /// The bytes from the next line on; none after the last line.
+    text: Option<&'a [u8]>,
+}
+
+impl<'a> FileLines<'a> {
+    ghost use Rattle.std.specs.Prelude.{◌≤◌, ◌+◌, length};
+    ghost use Rattle.text_lines.specs.Lines.{lines};
+    ghost use Rattle.text_lines.specs.Reading.{lines_left};
+
+    /// Returns the lines of a file.
+    pub fn new(text: &'a [u8]) -> Self
+        ensures lines { lines_left result ≡ lines text.now }
+        ensures few { length (lines_left result) ≤ length text.now + 1 }
+    {
+        FileLines { text: Some(text) }
+    }
+}
+
+impl<'a> Iterator for FileLines<'a> {
+    ghost use Rattle.std.specs.Iterator.{YieldsFirstBy, item_count};
+    ghost use Rattle.text_lines.specs.Reading.{lines_left};
+
+    type Item = &'a [u8];
+
+    ghost next_gives = { YieldsFirstBy (λ line. line.now) lines_left };
+
+    ghost remaining = { item_count lines_left };
+
+    fn next(&mut self) -> Option<&'a [u8]> {
+        let text = self.text?;
+        let Some(at) = memchr(b'\n', text) else {
+            self.text = None;
+            return Some(without_carriage_return(text));
+        };
+        self.text = Some(&text[at + 1..]);
+        Some(without_carriage_return(&text[..at]))
+    }
+}
 
 /// Returns whether the byte is a space or a tab.
 #[inline]
