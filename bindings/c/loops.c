@@ -10,7 +10,7 @@
 #include <inttypes.h>
 #include <string.h>
 
-enum { IDLE = 50, MOST = 4096, TURN = 16 };
+enum { IDLE = 50, MOST = 4096, TURN = 8 };
 
 /* A job, the classes that no kept test detects, and the kept tests: 64 to a block, as the words of
  * fs_set_words. `words` has the blocks of tests that are tried, at most TURN. */

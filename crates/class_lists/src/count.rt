@@ -8,7 +8,7 @@ ghost use Rattle.n_detect.specs.HitCounts.{IsHitCount};
 use block_sim::Job;
 use n_detect::{Count, ones_of};
 use region_runs::run_alone;
-use region_sim::{FirstTest, RegionSimulation};
+use region_sim::{FirstTest, Goal, RegionSimulation};
 use std::alloc::{AllocError, Global};
 
 /// Counts the tests that detect each class of a list, each up to `most`. Counts up to 1 take a run
@@ -27,10 +27,18 @@ pub(crate) fn counts_of(
     ensures serves { ServesRegions regions.new job.now 0 }
 {
     if most < 2 {
-        let firsts = run_alone(alloc, job, classes, regions, &FirstTest)?;
+        let firsts = run_alone(
+            alloc,
+            job,
+            classes,
+            FirstTest.first_unit(),
+            regions,
+            &FirstTest,
+        )?;
         let ones = ones_of(alloc, firsts.as_slice(), most)?;
         return Ok(ones);
     }
-    let counts = run_alone(alloc, job, classes, regions, &Count { most })?;
+    let goal = Count { most };
+    let counts = run_alone(alloc, job, classes, goal.first_unit(), regions, &goal)?;
     Ok(counts)
 }

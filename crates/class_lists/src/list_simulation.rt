@@ -14,7 +14,7 @@ use block_sim::Job;
 use n_detect::list_lanes;
 use region_runs::run_alone;
 use region_sim::class_order::{ClassOrder, class_order};
-use region_sim::{FirstTest, RegionSimulation};
+use region_sim::{FirstTest, FirstUnit, RegionSimulation};
 use std::alloc::{AllocError, Global};
 use std::marker::Model;
 
@@ -28,6 +28,9 @@ use std::marker::Model;
 pub struct ListSimulation {
     regions: RegionSimulation,
     ranks: Vec<u32>,
+    /// How the next list takes its first 512 tests: at once if the last tests detected few classes
+    /// of a list.
+    first_unit: FirstUnit,
 }
 
 impl Model for ListSimulation {
@@ -53,6 +56,7 @@ impl ListSimulation {
         Ok(ListSimulation {
             regions,
             ranks: positions,
+            first_unit: FirstUnit::InBlocks,
         })
     }
 
@@ -78,8 +82,17 @@ impl ListSimulation {
         let count = job.classes().count();
         let order = order_of(alloc, self.ranks.as_slice(), count, classes)?;
         let listed = order.classes.as_slice();
-        let found = run_alone(alloc, job, listed, &mut self.regions, &FirstTest)?;
+        let first_unit = self.first_unit;
+        let found = run_alone(
+            alloc,
+            job,
+            listed,
+            first_unit,
+            &mut self.regions,
+            &FirstTest,
+        )?;
         let firsts = firsts_at(alloc, found.as_slice(), order.positions.as_slice())?;
+        self.first_unit = unit_after(found.as_slice());
         Ok(firsts)
     }
 
@@ -150,6 +163,17 @@ impl ListSimulation {
         let found = list_lanes(alloc, job, listed, group, &mut self.regions)?;
         let lanes = words_at(alloc, found.as_slice(), order.positions.as_slice())?;
         Ok(lanes)
+    }
+}
+
+/// Returns how the list that comes after one with these first tests takes its first 512 tests. If
+/// less than half of the classes were detected, those that are left are hard.
+fn unit_after(firsts: &[Option<u32>]) -> FirstUnit {
+    let detected = firsts.iter().filter(|first| first.is_some()).count();
+    if detected < firsts.len() / 2 {
+        FirstUnit::AtOnce
+    } else {
+        FirstUnit::InBlocks
     }
 }
 

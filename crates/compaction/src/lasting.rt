@@ -8,7 +8,7 @@ ghost use Rattle.compaction.specs.Marks.{AreLastAt, AreLasting, IsLastOfClass};
 
 use crate::finding::mark_test;
 use region_runs::{RunJob, Watch, WindowGoal};
-use region_sim::Goal;
+use region_sim::{FirstUnit, Goal};
 use std::alloc::{AllocError, Global};
 use std::sync::Wait;
 use std::thread::Threads;
@@ -93,6 +93,10 @@ impl Goal for LastTest {
     ghost agrees = { λ _ one other hits low high a b. refl };
 
     ghost unchanged = { λ _ kept hits low high more. last_unchanged kept hits low high more };
+
+    fn first_unit(&self) -> FirstUnit {
+        FirstUnit::AtOnce
+    }
 
     fn start(&self, _alloc: Global) -> Result<Option<u32>, AllocError> {
         Ok(None)

@@ -55,19 +55,19 @@ pub record IsPaired (tests block other : ℕ) : Type 0 where
   pub within : other < blocks tests
   pub alone : block < 2 → other ≡ block
 
--- If there are this many tests, a unit of 512 tests begins with the block: all of them are there,
--- and one or more units come before it.
+-- If there are this many tests, the eight blocks from the block on are a unit: all of its 512 tests
+-- are there.
 pub record IsUnit (tests block : ℕ) : Type 0 where
-  pub late : 8 ≤ block
   pub whole : block % 8 ≡ 0
   pub full : 64 * block + 512 ≤ tests
 
 -- If there are this many tests, the other block is simulated together with the block: it is one of
--- the eight blocks of the unit that begins with the block, or it is the block, or comes after it in
--- its group of two. The first group's blocks are simulated one by one.
+-- the eight blocks of the unit that begins with the block, which isn't the first unit, or it is the
+-- block, or comes after it in its group of two. The first group's blocks are simulated one by one.
 abbrev pub IsTogether : ℕ → ℕ → ℕ → Type 0
 IsTogether tests block other =
-    (IsUnit tests block × (block ≤ other) × (other < block + 8)) ⊎ IsPaired tests block other
+    ((8 ≤ block) × IsUnit tests block × (block ≤ other) × (other < block + 8))
+    ⊎ IsPaired tests block other
 
 -- the blocks that are simulated together with a block, if there are this many tests: the blocks of
 -- span_from that have a test
@@ -77,14 +77,13 @@ span_of tests block = record {
   last = min (span_from block).last (blocks tests - 1);
 }
 
--- whether a unit begins with the block
+-- whether the eight blocks from the block on are a unit
 abbrev pub begins_unit : ℕ → ℕ → Bool
-begins_unit tests block =
-    nat_lt 7 block && ((block % 8 == 0) && nat_lt 511 (tests - 64 * block))
+begins_unit tests block = (block % 8 == 0) && nat_lt 511 (tests - 64 * block)
 
 -- the blocks that are simulated at once from a block on, if there are this many tests: those of the
--- unit that begins with it, or those of span_of
+-- unit that begins with it, unless that is the first, or those of span_of
 abbrev pub unit_of : ℕ → ℕ → BlockSpan
 unit_of tests block =
-    if begins_unit tests block
+    if nat_lt 7 block && begins_unit tests block
     then (record { first = block; last = block + 7 }) else span_of tests block

@@ -11,14 +11,14 @@ use crate::block_lanes::lanes_below;
 use patterns::Tests;
 
 /// Returns whether a unit of 512 tests begins with a block: the block is the first of eight blocks,
-/// all of which are full, and eight blocks come before it.
+/// all of which are full.
 pub fn is_unit(tests: &Tests, block: u32) -> bool
     requires { block < blocks (length tests.now.tests) }
     ensures begins { result ≡ begins_unit (length tests.now.tests) block }
     ensures is { IsTrue result ↔ IsUnit (length tests.now.tests) block }
 {
     let count = tests.count();
-    block >= 8 && block % 8 == 0 && 511 < count - 64 * block
+    block % 8 == 0 && 511 < count - 64 * block
 }
 
 /// The first and the last of the blocks that are simulated at once, both included, counted from 0.
@@ -39,7 +39,7 @@ impl BlockSpan {
         ensures together { (other : ℕ) → HasBlock result other
             ↔ IsTogether (length tests.now.tests) block other }
     {
-        if is_unit(tests, block) {
+        if block >= 8 && is_unit(tests, block) {
             return BlockSpan {
                 first: block,
                 last: block + 7,

@@ -5,8 +5,12 @@ ghost use Rattle.n_detect.specs.CountLaws.{count_agrees, count_stays, count_unch
 ghost use Rattle.n_detect.specs.HitCounts.{IsHitCount, one_of};
 
 use region_runs::WindowGoal;
-use region_sim::Goal;
+use region_sim::{FirstUnit, Goal};
 use std::alloc::{AllocError, Global};
+
+/// Most classes of a list stay open behind their first 512 tests if each needs more than this number
+/// of detections.
+const MANY: u32 = 16;
 
 /// The number of tests that detect a class, counted up to a number. A class is open until its count
 /// is this number.
@@ -38,6 +42,14 @@ impl Goal for Count {
 
     ghost unchanged = { λ goal kept hits low high more.
         count_unchanged goal.most kept hits low high more };
+
+    fn first_unit(&self) -> FirstUnit {
+        if self.most > MANY {
+            FirstUnit::AtOnce
+        } else {
+            FirstUnit::InBlocks
+        }
+    }
 
     fn start(&self, _alloc: Global) -> Result<u32, AllocError> {
         Ok(0)

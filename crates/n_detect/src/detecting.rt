@@ -7,7 +7,7 @@ ghost use Rattle.n_detect.specs.CountLaws.{always_wanted, groups_unchanged};
 
 use block_sim::Job;
 use region_runs::{GoalRun, Watch, run_goal};
-use region_sim::Goal;
+use region_sim::{FirstUnit, Goal};
 use std::alloc::{AllocError, Global};
 use std::sync::Wait;
 use std::thread::Threads;
@@ -90,6 +90,10 @@ impl Goal for GroupTests {
 
     ghost unchanged = { λ goal kept hits low high more.
         groups_unchanged goal.groups kept.items hits low high more };
+
+    fn first_unit(&self) -> FirstUnit {
+        FirstUnit::AtOnce
+    }
 
     fn start(&self, alloc: Global) -> Result<Vec<u128>, AllocError> {
         vec![in alloc; 0; self.groups as usize]

@@ -10,7 +10,7 @@ use block_sim::Job;
 use block_sim::block_span::BlockSpan;
 use region_runs::all_open;
 use region_sim::class_order::rows_of;
-use region_sim::{Goal, RegionSimulation};
+use region_sim::{FirstUnit, Goal, RegionSimulation};
 use std::alloc::{AllocError, Global};
 
 /// Returns for each class of a list the tests of a group that detect it, in the thread of the
@@ -92,6 +92,10 @@ impl Goal for GroupLanes {
 
     ghost unchanged = { λ goal kept hits low high more.
         lanes_unchanged goal.group kept hits low high more };
+
+    fn first_unit(&self) -> FirstUnit {
+        FirstUnit::AtOnce
+    }
 
     fn start(&self, _alloc: Global) -> Result<u128, AllocError> {
         Ok(0)

@@ -11,13 +11,14 @@ use crate::stretch_run::{Stop, run_list};
 use crate::stretch_workers::starts;
 use block_sim::Job;
 use region_sim::class_order::rows_of;
-use region_sim::{Goal, RegionSimulation};
+use region_sim::{FirstUnit, Goal, RegionSimulation};
 use std::alloc::{AllocError, Global};
 use workers::{Gate, OpenGate};
 
 /// Runs a list of classes for a goal on all tests of a job, in the thread of the caller, and
 /// returns what the goal keeps of each class, at its place in the list. The list may have any
-/// order, and name a class more than once. Adjacent classes of a region are simulated together.
+/// order, and name a class more than once. Adjacent classes of a region are simulated together. How
+/// it takes the first 512 tests changes the time that it needs, and nothing else.
 ///
 /// The simulation keeps its room from one run to the next, so a run takes time and memory for the
 /// classes of its list alone.
@@ -29,6 +30,7 @@ pub fn run_alone<A: Goal>(
     alloc: Global,
     job: &Job,
     classes: &[u32],
+    first_unit: FirstUnit,
     simulation: &mut RegionSimulation,
     goal: &A,
 ) -> Result<Vec<A::Kept>, AllocError>
@@ -38,7 +40,9 @@ pub fn run_alone<A: Goal>(
         (A.means goal.now)) classes.now kept.items) }
     ensures serves { ServesRegions simulation.new job.now 0 }
 {
-    let ended = run_from(alloc, job, 0, classes, 0, simulation, goal, &OpenGate)?;
+    let ended = run_from(
+        alloc, job, 0, first_unit, classes, 0, simulation, goal, &OpenGate,
+    )?;
     let Ended { kept, stop: _stop } = ended;
     Ok(kept)
 }
@@ -58,6 +62,7 @@ pub(crate) fn run_from<A: Goal, G: Gate>(
     alloc: Global,
     job: &Job,
     from: u32,
+    first_unit: FirstUnit,
     classes: &[u32],
     worker: u32,
     simulation: &mut RegionSimulation,
@@ -81,7 +86,7 @@ pub(crate) fn run_from<A: Goal, G: Gate>(
     let next = open.as_mut_slice();
     let found = kept.as_mut_slice();
     let stop = run_list(
-        job, from, listed, worker, simulation, goal, gate, next, found,
+        job, from, first_unit, listed, worker, simulation, goal, gate, next, found,
     );
     Ok(Ended { kept, stop })
 }

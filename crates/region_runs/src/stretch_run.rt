@@ -18,7 +18,7 @@ ghost use Rattle.region_runs.specs.Tasks.{task_of};
 use crate::open_classes::{follow_all, leave_out, next_open};
 use block_sim::block_span::BlockSpan;
 use block_sim::{Job, ListedClass};
-use region_sim::{Goal, RegionSimulation, sweep_from};
+use region_sim::{FirstUnit, Goal, RegionSimulation, sweep_from};
 use workers::Gate;
 
 /// The point at which its gate stopped a worker that goes over a list: before the class at this
@@ -42,6 +42,7 @@ pub(crate) struct Waiting {
 pub(crate) fn run_list<A: Goal, G: Gate>(
     job: &Job,
     from: u32,
+    first_unit: FirstUnit,
     rows: &[ListedClass],
     worker: u32,
     simulation: &mut RegionSimulation,
@@ -63,13 +64,17 @@ pub(crate) fn run_list<A: Goal, G: Gate>(
     ensures serves { ServesRegions simulation.new job.now 0 }
 {
     if !gate.lets_all_pass() {
-        return run_rows(job, from, rows, worker, simulation, goal, gate, next, kept);
+        return run_rows(
+            job, from, first_unit, rows, worker, simulation, goal, gate, next, kept,
+        );
     }
     let blocks = job.tests().blocks();
     let (live, dead) = rows.split_at(live_end(job, rows));
     let (open, _dead) = next.split_at_mut(live.len());
     let (found, _dead) = kept.split_at_mut(live.len());
-    let stop = run_rows(job, from, live, worker, simulation, goal, gate, open, found);
+    let stop = run_rows(
+        job, from, first_unit, live, worker, simulation, goal, gate, open, found,
+    );
     ask_dead(dead, worker, from, blocks, gate);
     stop
 }
@@ -117,6 +122,7 @@ fn ask_rows<G: Gate>(rows: &[ListedClass], worker: u32, block: u32, gate: &G)
 fn run_rows<A: Goal, G: Gate>(
     job: &Job,
     from: u32,
+    first_unit: FirstUnit,
     rows: &[ListedClass],
     worker: u32,
     simulation: &mut RegionSimulation,
@@ -139,7 +145,7 @@ fn run_rows<A: Goal, G: Gate>(
 {
     let mut block = from;
     while block < job.tests().blocks() {
-        let span = span_from(job, block, gate);
+        let span = span_from(job, block, first_unit, gate);
         let place = ask_open(rows, worker, block, goal, gate, next, kept);
         if place < rows.len() {
             simulate_before(job, block, rows, place, simulation, goal, next, kept);
@@ -154,7 +160,7 @@ fn run_rows<A: Goal, G: Gate>(
 
 /// Returns the blocks that are simulated at once from a block on: this block alone if the gate may
 /// stop the worker.
-fn span_from<G: Gate>(job: &Job, block: u32, gate: &G) -> BlockSpan
+fn span_from<G: Gate>(job: &Job, block: u32, first_unit: FirstUnit, gate: &G) -> BlockSpan
     requires { block < blocks (length job.now.tests.tests) }
     ensures sweep { IsSweep (length job.now.tests.tests) result }
     ensures first { result.first ≡ block }
@@ -163,7 +169,7 @@ fn span_from<G: Gate>(job: &Job, block: u32, gate: &G) -> BlockSpan
     ensures passing { block < result.last → G.passing gate.now }
 {
     if gate.lets_all_pass() {
-        return sweep_from(job, block);
+        return sweep_from(job, block, first_unit);
     }
     BlockSpan {
         first: block,

@@ -88,7 +88,17 @@ pub(crate) fn run_stretch<A: Goal, G: Gate>(
     let worker = member.number;
     let from = cut.from;
     let simulation = &mut member.simulation;
-    let ended = run_from(alloc, job, from, own, worker, simulation, goal, gate)?;
+    let ended = run_from(
+        alloc,
+        job,
+        from,
+        goal.first_unit(),
+        own,
+        worker,
+        simulation,
+        goal,
+        gate,
+    )?;
     let Ended { kept, stop } = ended;
     let waiting = match stop {
         Some(stop) => lowest_open(job, own, from, stop, goal, kept.as_slice()),

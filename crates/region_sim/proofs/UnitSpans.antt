@@ -42,6 +42,10 @@ module _ (tests : ℕ) (span : BlockSpan) (is : IsSweep tests span) where
     | inr u ↦ (let last = u.1 in absurd (omega (arith, few, last)))
   ]
 
+-- the tests of a unit are there
+pub unit_within : (tests block : ℕ) → IsUnit tests block → block + 7 < blocks tests
+unit_within tests block unit = let full = unit.full in omega (arith, full)
+
 -- what is simulated at once from a block on is a sweep
 module _ (tests block last : ℕ) (low : block < blocks tests)
     (together : (other : ℕ) → ((block ≤ other) × (other ≤ last)) ↔ IsTogether tests block other)
@@ -57,9 +61,9 @@ module _ (tests block last : ℕ) (low : block < blocks tests)
     pub is_sweep : IsSweep tests (unit_from block last)
     is_sweep = elim ((together last).0 (from_block, omega arith)) [
       | inl u ↦ inr (
-        u.0,
-        (let below = u.2 in
-            let whole = ((together (block + 7)).1 (inl (u.0, omega arith, omega arith))).1 in
+        u.1,
+        (let below = u.3 in
+            let whole = ((together (block + 7)).1 (inl (u.0, u.1, omega arith, omega arith))).1 in
             omega (arith, below, whole)),
       )
       | inr p ↦ inl (record { ordered = p.ordered; one_group = p.one_group; within = p.within })
@@ -67,6 +71,6 @@ module _ (tests block last : ℕ) (low : block < blocks tests)
 
     pub last_within : last < blocks tests
     last_within = elim ((together last).0 (from_block, omega arith)) [
-      | inl u ↦ (let below = u.2 in let full = u.0.full in omega (arith, below, full))
+      | inl u ↦ (let below = u.3 in let full = u.1.full in omega (arith, below, full))
       | inr p ↦ p.within
     ]

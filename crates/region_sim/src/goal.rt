@@ -6,6 +6,15 @@ ghost use Rattle.region_sim.specs.GoalLaws.{first_agrees, first_stays, first_unc
 
 use std::alloc::{AllocError, Global};
 
+/// How a run takes its first 512 tests.
+#[derive(Clone, Copy)]
+pub enum FirstUnit {
+    /// Block after block: the first blocks settle most classes of a list.
+    InBlocks,
+    /// As one unit: most classes stay open.
+    AtOnce,
+}
+
 /// What is kept of each class, of the tests that detect it: the first one, say.
 pub trait Goal {
     ghost use Rattle.std.specs.Prelude.{◌≡◌, ◌≤◌, ◌^◌, ◌<◌, ℕ, Bool, IfOk, false};
@@ -41,6 +50,10 @@ pub trait Goal {
     ghost unchanged: { (goal : Self) (kept : Self.Kept) (hits : ℕ → Bool) (low high more : ℕ)
         → high ≤ more → ((t : ℕ) → high ≤ t → t < more → hits t ≡ false)
         → means goal hits low high kept → means goal hits low more kept };
+
+    /// Returns how a run of a list of all kinds of classes takes its first 512 tests. It changes the
+    /// time that the run needs, and nothing else.
+    fn first_unit(&self) -> FirstUnit;
 
     /// Returns what is kept of no test.
     fn start(&self, alloc: Global) -> Result<Self::Kept, AllocError>
@@ -82,6 +95,10 @@ impl Goal for FirstTest {
     ghost agrees = { λ _ one other hits low high. first_agrees one other hits low high };
 
     ghost unchanged = { λ _ kept hits low high more. first_unchanged kept hits low high more };
+
+    fn first_unit(&self) -> FirstUnit {
+        FirstUnit::InBlocks
+    }
 
     fn start(&self, _alloc: Global) -> Result<Option<u32>, AllocError> {
         Ok(None)

@@ -23,5 +23,5 @@ mod unit_region;
 mod unit_simulation;
 mod unit_start;
 
-pub use goal::{FirstTest, Goal};
+pub use goal::{FirstTest, FirstUnit, Goal};
 pub use region_simulation::{RegionSimulation, sweep_from};

@@ -25,13 +25,13 @@ ghost use Rattle.region_sim.specs.RegionHits.{IsHiddenStem, IsPackAsLarge, IsTak
 ghost use Rattle.region_sim.specs.RegionHits.{ServesRegions};
 ghost use Rattle.region_sim.specs.Sensitized.{HasBegun, HasRoomForRegions, IsSameRegion, IsViewOf};
 
-use crate::goal::Goal;
+use crate::goal::{FirstUnit, Goal};
 use crate::pack::{Pack, Slot, propagate};
 use crate::region::{Approach, Arrival, Reach};
 use crate::sensitized::{Sensitized, follow_within};
 use crate::unit_simulation::{Unit, simulate_unit};
 use block_sim::Job;
-use block_sim::block_span::BlockSpan;
+use block_sim::block_span::{BlockSpan, is_unit};
 use block_sim::block_view::BlockView;
 use block_sim::launch_condition::launch_lanes;
 use block_sim::origin::{ListedClass, origin_of};
@@ -186,16 +186,25 @@ impl RegionSimulation {
     }
 }
 
-/// Returns the blocks that are simulated at once from a block on ([`Job::last_together`]).
-pub fn sweep_from(job: &Job, block: u32) -> BlockSpan
+/// Returns the blocks that are simulated at once from a block on ([`Job::last_together`], or the
+/// first unit).
+pub fn sweep_from(job: &Job, block: u32, first_unit: FirstUnit) -> BlockSpan
     requires { block < blocks (length job.now.tests.tests) }
     ensures sweep { IsSweep (length job.now.tests.tests) result }
     ensures first { result.first ≡ block }
     ensures ordered { block ≤ result.last }
     ensures within { result.last < blocks (length job.now.tests.tests) }
 {
-    let last = job.last_together(block);
-    BlockSpan { first: block, last }
+    match first_unit {
+        FirstUnit::AtOnce if is_unit(job.tests(), block) => BlockSpan {
+            first: block,
+            last: block + 7,
+        },
+        _ => {
+            let last = job.last_together(block);
+            BlockSpan { first: block, last }
+        }
+    }
 }
 
 /// Returns how many stems a pack has at most on a span.

@@ -10,7 +10,7 @@ ghost use Rattle.workers.specs.Swept.{IsSweptOf};
 use block_sim::{Job, ListedClass, Workspace, first_hit};
 use patterns::Outcome;
 use region_sim::class_order::{ClassOrder, class_order, rows_of};
-use region_sim::{FirstTest, RegionSimulation, sweep_from};
+use region_sim::{FirstTest, FirstUnit, RegionSimulation, sweep_from};
 use std::alloc::{AllocError, Global};
 
 /// A run of all classes, as far as some piece asked for it. It sweeps over the blocks in their
@@ -105,7 +105,7 @@ impl Swept {
         ensures further { self.old.blocks < self.new.blocks }
     {
         let _tests = job.tests();
-        let span = sweep_from(job, self.blocks);
+        let span = sweep_from(job, self.blocks, FirstUnit::InBlocks);
         let rows = self.rows.as_slice();
         let next = self.next.as_slice();
         let firsts = self.firsts.as_mut_slice();
