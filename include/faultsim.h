@@ -48,6 +48,12 @@ typedef struct fs_fault {
     uint64_t place;
 } fs_fault;
 
+/* A pin of a gate. Numbers count from 0. */
+typedef struct fs_pin {
+    uint32_t gate; /* the signal of the gate */
+    uint32_t pin;
+} fs_pin;
+
 /* The site of a fault: a line of the circuit, and the bit at which it is stuck. Numbers count from
  * 0. */
 typedef struct fs_site {
@@ -210,6 +216,15 @@ uint32_t fs_levels_of(fs_job *job, uint32_t *levels, size_t levels_len);
  * if one of them is another number, the status is FS_RANGE. The arrays don't overlap. */
 uint32_t fs_fan_ins_of(fs_job *job, uint32_t *starts, size_t starts_len, uint32_t *pins,
                        size_t pins_len, size_t *wanted);
+
+/* Writes the fan-out of each signal: the pins of gates that read it, by the number of the gate's
+ * signal and then by pin. Those of signal s are pins[starts[s]] up to pins[starts[s + 1] - 1]. So
+ * each pin that fs_fan_ins_of writes stands once, with the signal that it reads; a gate that reads
+ * a signal twice stands there twice. The data pins of flip-flops and the OUTPUT lines, which also
+ * read signals, are observers (fs_observers_of). The lengths, `wanted` and the status are as in
+ * fs_fan_ins_of. */
+uint32_t fs_fan_outs_of(fs_job *job, uint32_t *starts, size_t starts_len, fs_pin *pins,
+                        size_t pins_len, size_t *wanted);
 
 /* Writes the site of each fault. sites_len is the number of faults. */
 uint32_t fs_sites_of(fs_job *job, fs_site *sites, size_t sites_len);

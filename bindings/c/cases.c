@@ -13,7 +13,7 @@
 #include <stdlib.h>
 #include <string.h>
 
-enum { TEXTS = 16, WORDS = 128, ROOM = 1 << 14, HANDLES = 128 };
+enum { TEXTS = 17, WORDS = 128, ROOM = 1 << 14, HANDLES = 128 };
 
 struct text {
     char name[32], bytes[ROOM];
@@ -298,6 +298,21 @@ static uint32_t say_fan_ins(fs_job *job, fs_fault *fault) {
     return status;
 }
 
+static uint32_t say_fan_outs(fs_job *job, fs_fault *fault) {
+    (void)fault;
+    uint32_t starts[WORDS], signals = sizes_of(job).signals;
+    fs_pin pins[WORDS];
+    size_t wanted = 0;
+    uint32_t status = fs_fan_outs_of(job, starts, signals, pins, 0, &wanted);
+    if (status != FS_RANGE)
+        end("starts of a wrong length are taken", words[0]);
+    status = fs_fan_outs_of(job, starts, signals + 1, pins, wanted, &wanted);
+    say_numbers(starts, status ? 0 : signals + 1);
+    for (size_t i = 0; !status && i < wanted; i++)
+        say(", %" PRIu32 " %" PRIu32, pins[i].gate, pins[i].pin);
+    return status;
+}
+
 static uint32_t say_sites(fs_job *job, fs_fault *fault) {
     (void)fault;
     fs_site sites[WORDS];
@@ -499,10 +514,10 @@ static const struct {
     {"name_of", say_name}, {"names", say_names}, {"sources", say_sources},
     {"fault_name", say_fault_name}, {"fault_names", say_fault_names}, {"word", say_word},
     {"signal_named", say_signal}, {"kinds_of", say_kinds}, {"levels_of", say_levels},
-    {"fan_ins_of", say_fan_ins}, {"sites_of", say_sites}, {"fault_at", say_fault_at},
-    {"values", say_values}, {"observers", say_observers}, {"responses", say_responses},
-    {"simulate", say_firsts}, {"observed", say_observed}, {"lanes", say_class_lanes},
-    {"count", say_added},
+    {"fan_ins_of", say_fan_ins}, {"fan_outs_of", say_fan_outs}, {"sites_of", say_sites},
+    {"fault_at", say_fault_at}, {"values", say_values}, {"observers", say_observers},
+    {"responses", say_responses}, {"simulate", say_firsts}, {"observed", say_observed},
+    {"lanes", say_class_lanes}, {"count", say_added},
     {"detecting", say_lanes}, {"detections", say_counts}, {"report", say_report},
     {"coverage", say_coverage}, {"firsts", say_in_one}, {"version", say_version},
     {"error", say_error}, {"status", say_status_text},

@@ -76,6 +76,22 @@ static uint32_t pins_of(void *to, size_t len) {
     return status;
 }
 
+static uint32_t reader_starts_of(void *to, size_t len) {
+    size_t wanted;
+    fs_pin *pins = room(PINS * sizeof *pins);
+    uint32_t status = fs_fan_outs_of(handle, to, len, pins, PINS, &wanted);
+    free(pins);
+    return status;
+}
+
+static uint32_t readers_of(void *to, size_t len) {
+    size_t wanted;
+    uint32_t *starts = room((n.signals + 1) * sizeof *starts);
+    uint32_t status = fs_fan_outs_of(handle, starts, n.signals + 1, to, len, &wanted);
+    free(starts);
+    return status;
+}
+
 static uint32_t observers_of(void *to, size_t len) {
     size_t wanted;
     return fs_observers_of(handle, to, len, &wanted);
@@ -173,6 +189,8 @@ static void try_edges(void) {
         {.call = levels_of, .len = n.signals, .size = 4},
         {.call = starts_of, .len = n.signals + 1, .size = 4},
         {.call = pins_of, .len = PINS, .size = 4},
+        {.call = reader_starts_of, .len = n.signals + 1, .size = 4},
+        {.call = readers_of, .len = PINS, .size = sizeof(fs_pin)},
         {.call = sites_of, .len = n.faults, .size = sizeof(fs_site)},
         {.call = observers_of, .len = OUTPUTS, .size = 4, .takes_more = true},
         {.call = name_of, .len = 2, .size = 1, .takes_more = true},

@@ -113,6 +113,7 @@ static uint32_t detections_of_one(void) { return fs_detections(&job, classes, 1,
 static uint32_t circuit_without(void) {
     static uint32_t numbers[4096], pins[4096], one;
     static uint64_t values[4096];
+    static fs_pin readers[4096];
     static fs_site sites[8192];
     if (n.signals >= 4096 || n.faults > 8192)
         end("the circuit is too large", 0);
@@ -124,6 +125,8 @@ static uint32_t circuit_without(void) {
         end("fs_fan_ins_of", 0);
     if (!status)
         status = fs_fan_ins_of(&job, numbers, n.signals + 1, pins, all, &all);
+    if (!status)
+        status = fs_fan_outs_of(&job, numbers, n.signals + 1, readers, all, &all);
     if (!status)
         status = fs_sites_of(&job, sites, n.faults);
     if (!status)

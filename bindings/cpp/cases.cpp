@@ -151,6 +151,15 @@ static std::string fan_ins(const faultsim::Job &job) {
     return joined(all.starts, decimal) + ", " + joined(all.pins, decimal);
 }
 
+static std::string fan_outs(const faultsim::Job &job) {
+    faultsim::FanOuts all = job.fan_outs_of();
+    std::string text = joined(all.starts, decimal);
+    for (std::uint32_t signal = 0; signal < job.sizes().signals; signal++)
+        for (const fs_pin &pin : all.of(signal))
+            text += ", " + decimal(pin.gate) + " " + decimal(pin.pin);
+    return text;
+}
+
 static std::string site_text(const fs_site &site) {
     return joined(Numbers{site.kind, site.at, site.pin, site.stuck}, decimal);
 }
@@ -254,6 +263,7 @@ static const std::map<std::string, std::function<std::string(const Call &)>> cal
     {"kinds_of", [](const Call &it) { return joined(it.job().kinds_of(), decimal); }},
     {"levels_of", [](const Call &it) { return joined(it.job().levels_of(), decimal); }},
     {"fan_ins_of", [](const Call &it) { return fan_ins(it.job()); }},
+    {"fan_outs_of", [](const Call &it) { return fan_outs(it.job()); }},
     {"sites_of", [](const Call &it) { return joined(it.job().sites_of(), site_text, ", "); }},
     {"fault_at", [](const Call &it) {
          fs_site site{it.number(0), it.number(1), it.number(2), it.number(3)};

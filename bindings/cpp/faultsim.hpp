@@ -51,6 +51,19 @@ struct FanIns {
     }
 };
 
+// The fan-out of each signal: the pins of gates that read it, by the number of the gate's signal
+// and then by pin.
+struct FanOuts {
+    std::vector<std::uint32_t> starts;
+    std::vector<fs_pin> pins;
+
+    // Returns the fan-out of one signal. Its data pins and OUTPUT lines are observers.
+    std::span<const fs_pin> of(std::uint32_t signal) const {
+        std::uint32_t start = starts.at(signal);
+        return std::span(pins).subspan(start, starts.at(signal + std::size_t{1}) - start);
+    }
+};
+
 // Why a call fails: a status of faultsim.h, and if a text or words are wrong a kind and a place.
 class Error : public std::runtime_error {
 public:
@@ -240,6 +253,22 @@ public:
             all.pins.resize(wanted);
             status = fs_fan_ins_of(&handle, all.starts.data(), all.starts.size(), all.pins.data(),
                                    all.pins.size(), &wanted);
+        }
+        detail::check(status);
+        return all;
+    }
+
+    // Returns the fan-out of each signal.
+    FanOuts fan_outs_of() const {
+        fs_pin nothing{};
+        std::size_t wanted = 0;
+        FanOuts all{std::vector<std::uint32_t>(sizes().signals + std::size_t{1}), {}};
+        std::uint32_t status =
+            fs_fan_outs_of(&handle, all.starts.data(), all.starts.size(), &nothing, 0, &wanted);
+        if (status == FS_RANGE && wanted != 0) {
+            all.pins.resize(wanted);
+            status = fs_fan_outs_of(&handle, all.starts.data(), all.starts.size(),
+                                    all.pins.data(), all.pins.size(), &wanted);
         }
         detail::check(status);
         return all;

@@ -124,6 +124,10 @@ class Calls:
         starts, pins = self.jobs[handle].fan_ins_of()
         return f"{_joined(starts)}, {_joined(pins)}"
 
+    def fan_outs_of(self, handle):
+        starts, gates, pins = self.jobs[handle].fan_outs_of()
+        return ", ".join([_joined(starts), *map(_joined, zip(gates, pins))])
+
     def sites_of(self, handle):
         sites = self.jobs[handle].sites_of()
         flat = list(sites if faultsim.numpy is None else sites.reshape(-1))

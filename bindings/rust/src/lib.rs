@@ -6,7 +6,7 @@
 
 mod sys;
 
-pub use sys::{Fault, Site, Sizes};
+pub use sys::{Fault, Pin, Site, Sizes};
 
 use std::cell::UnsafeCell;
 use std::error::Error as StdError;
@@ -81,6 +81,28 @@ impl FanIns {
     ///
     /// If the number of the signal is out of range.
     pub fn of(&self, signal: u32) -> &[u32] {
+        let at = signal as usize;
+        &self.pins[self.starts[at] as usize..self.starts[at + 1] as usize]
+    }
+}
+
+/// The fan-out of each signal: the pins of gates that read it, by the number of the gate's signal
+/// and then by pin. The data pins of flip-flops and the OUTPUT lines are observers
+/// ([`Job::observers`]).
+#[derive(Clone, Debug, PartialEq, Eq)]
+pub struct FanOuts {
+    /// The place in `pins` at which the fan-out of each signal starts, and then the number of pins.
+    pub starts: Vec<u32>,
+    pub pins: Vec<Pin>,
+}
+
+impl FanOuts {
+    /// Returns the fan-out of one signal.
+    ///
+    /// # Panics
+    ///
+    /// If the number of the signal is out of range.
+    pub fn of(&self, signal: u32) -> &[Pin] {
         let at = signal as usize;
         &self.pins[self.starts[at] as usize..self.starts[at + 1] as usize]
     }
@@ -374,6 +396,29 @@ impl Job {
                 return FanIns { starts, pins };
             }
             pins.resize(wanted, 0);
+        }
+    }
+
+    /// Returns the fan-out of each signal.
+    pub fn fan_outs_of(&self) -> FanOuts {
+        let mut starts = vec![0; self.sizes().signals as usize + 1];
+        let (mut pins, mut wanted) = (Vec::new(), 0);
+        loop {
+            // SAFETY: as above.
+            let status = unsafe {
+                sys::fs_fan_outs_of(
+                    self.0.get(),
+                    starts.as_mut_ptr(),
+                    starts.len(),
+                    pins.as_mut_ptr(),
+                    pins.len(),
+                    &mut wanted,
+                )
+            };
+            if status == 0 || pins.len() == wanted {
+                return FanOuts { starts, pins };
+            }
+            pins.resize(wanted, Pin::default());
         }
     }
 

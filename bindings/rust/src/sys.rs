@@ -41,6 +41,15 @@ pub struct Fault {
     pub place: u64,
 }
 
+/// A pin of a gate. Numbers count from 0.
+#[repr(C)]
+#[derive(Clone, Copy, Debug, Default, PartialEq, Eq, Hash)]
+pub struct Pin {
+    /// The signal of the gate.
+    pub gate: u32,
+    pub pin: u32,
+}
+
 /// The site of a fault: a line of the circuit, and the bit at which it is stuck. Numbers count from
 /// 0.
 #[repr(C)]
@@ -121,6 +130,14 @@ extern "C" {
         starts: *mut u32,
         starts_len: usize,
         pins: *mut u32,
+        pins_len: usize,
+        wanted: *mut usize,
+    ) -> u32;
+    pub fn fs_fan_outs_of(
+        job: *mut Handle,
+        starts: *mut u32,
+        starts_len: usize,
+        pins: *mut Pin,
         pins_len: usize,
         wanted: *mut usize,
     ) -> u32;

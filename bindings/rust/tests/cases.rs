@@ -250,6 +250,13 @@ fn fan_ins(job: &Job) -> String {
     format!("{}, {}", joined(all.starts, " "), joined(all.pins, " "))
 }
 
+fn fan_outs(job: &Job) -> String {
+    let all = job.fan_outs_of();
+    let pins = (0..job.sizes().signals).flat_map(|signal| all.of(signal));
+    let pins = pins.map(|it| format!(", {} {}", it.gate, it.pin));
+    format!("{}{}", joined(&all.starts, " "), pins.collect::<String>())
+}
+
 fn site_text(site: Site) -> String {
     joined([site.kind, site.at, site.pin, site.stuck], " ")
 }
@@ -262,6 +269,7 @@ fn in_arrays(name: &str, call: &Call) -> Result<String, Error> {
         "kinds_of" => joined(job.kinds_of().into_iter().map(|it| it as u32), " "),
         "levels_of" => joined(job.levels_of(), " "),
         "fan_ins_of" => fan_ins(job),
+        "fan_outs_of" => fan_outs(job),
         "sites_of" => joined(job.sites_of().into_iter().map(site_text), ", "),
         "fault_at" => {
             let (kind, at) = (call.number(0), call.number(1));

@@ -8,7 +8,7 @@ use Rattle.bench_net.specs.Scan.{gate_line, signal}
 use Rattle.bench_net.specs.Statement.{Statement, Input, Output, Gate, Dff, defines, read}
 use Rattle.faultsim_c.specs.Circuits.{fan_in, pins_read, rows_before}
 
-rows_more : (row : ℕ → List ℕ) (j d k : ℕ) → j + d ≡ k
+rows_more : {X : Type 0} (row : ℕ → List X) (j d k : ℕ) → j + d ≡ k
     → length (rows_before row j) ≤ length (rows_before row k)
 rows_more row j zero k e =
     let equal : k ≡ j = omega arith in
@@ -26,12 +26,12 @@ rows_more row j (suc d) k e =
     omega (arith, before, long)
 
 -- the first rows have no more items than more rows
-pub rows_within : (row : ℕ → List ℕ) (j k : ℕ) → j ≤ k
+pub rows_within : {X : Type 0} (row : ℕ → List X) (j k : ℕ) → j ≤ k
     → length (rows_before row j) ≤ length (rows_before row k)
 rows_within row j k le = rows_more row j (k - j) k (omega (arith, le))
 
 -- one row more
-pub row_long : (row : ℕ → List ℕ) (k : ℕ) → length (rows_before row (k + 1))
+pub row_long : {X : Type 0} (row : ℕ → List X) (k : ℕ) → length (rows_before row (k + 1))
     ≡ length (rows_before row k) + length (row k)
 row_long row k =
     let equal : k + 1 ≡ suc k = omega arith in

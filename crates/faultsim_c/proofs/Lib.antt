@@ -10,3 +10,4 @@ mod ListsOfJobs
 mod LastTests
 mod MovedTests
 mod BlockLanes
+mod FanOuts

@@ -1,7 +1,8 @@
 -- The circuit of a job in arrays: kinds, levels and values of its signals, the signals that its
--- gates read, and the sites of its faults.
+-- gates read, the pins that read a signal, and the sites of its faults.
 use Rattle.std.specs.Prelude.{◌≡◌, ℕ, zero, suc, ◌+◌, ◌<◌, ◌≤◌, List, [], ◌++◌, Bool, true, false}
-use Rattle.std.specs.Prelude.{Option, Some, None, length, slice_get, slice_index}
+use Rattle.std.specs.Prelude.{Option, Some, None, ◌==◌, filter, length, map, slice_get, slice_index}
+use Rattle.std.specs.List.{enumerate_from}
 use Rattle.bench_net.specs.declared.Kind.{Kind}
 use Rattle.bench_net.specs.declared.Kind.TheVariants.{And, Nand, Or, Nor, Xor, Xnor, Not, Buff}
 use Rattle.bench_net.specs.Level.{HasLevel}
@@ -12,6 +13,7 @@ use Rattle.fault_model.specs.declared.Line.TheVariants as line
 use Rattle.fault_model.specs.Fault.{Fault}
 use Rattle.block_sim.specs.Parts.{Parts}
 use Rattle.flat_circuit.specs.Words.{IsFaultFreeWord}
+use Rattle.faultsim_c.specs.declared.circuit.FsPin.{FsPin}
 use Rattle.faultsim_c.specs.declared.circuit.FsSite.{FsSite}
 
 -- the number of a kind of gate
@@ -58,12 +60,13 @@ abbrev pub fan_in : List Statement → ℕ → List ℕ
 fan_in c s = pins_read (gate_of c s)
 
 -- the first rows, one after the other
-abbrev pub rows_before : (ℕ → List ℕ) → ℕ → List ℕ
+abbrev pub rows_before : {X : Type 0} → (ℕ → List X) → ℕ → List X
 rows_before row zero = []
 rows_before row (suc k) = rows_before row k ++ row k
 
 -- all rows, one after the other, and the start of each; the last start is the number of items
-pub record AreRows (row : ℕ → List ℕ) (count : ℕ) (starts items : List ℕ) : Type 0 where
+pub record AreRows {X : Type 0} (row : ℕ → List X) (count : ℕ) (starts : List ℕ)
+    (items : List X) : Type 0 where
   pub start_count : length starts ≡ count + 1
   pub each : (k : ℕ) → k ≤ count → slice_index starts k ≡ length (rows_before row k)
   pub items_are : items ≡ rows_before row count
@@ -71,6 +74,16 @@ pub record AreRows (row : ℕ → List ℕ) (count : ℕ) (starts items : List �
 -- the pins of all gates, signal by signal
 abbrev pub all_pins : List Statement → List ℕ
 all_pins c = rows_before (fan_in c) (length (names c))
+
+-- the pins of a gate, given what they read, that read a signal, in order
+abbrev pub pins_reading : ℕ → ℕ → List ℕ → List FsPin
+pins_reading s gate reads = map (λ at. record { gate = gate; pin = at.0 })
+    (filter (λ at. at.1 == s) (enumerate_from 0 reads))
+
+-- the fan-out of a signal: the pins that read it, gate by gate. It is the transpose of the fan-in:
+-- each pin of a gate is in the fan-out of the one signal that it reads.
+abbrev pub fan_out : List Statement → ℕ → List FsPin
+fan_out c s = rows_before (λ gate. pins_reading s gate (fan_in c gate)) (length (names c))
 
 -- the number of a fault's bit
 abbrev pub bit_number : Bool → ℕ

@@ -1,5 +1,5 @@
 //! Calls about the circuit: the kinds and levels of its signals, the signals that its gates read,
-//! the sites of its faults, and signals by their names.
+//! the pins that read a signal, the sites of its faults, and signals by their names.
 
 ghost use Rattle.std.specs.Prelude.{◌≡◌, ◌≢◌, ◌⊎◌, ◌+◌, ◌<◌, ◌≤◌, IsSome, None, Some, length, take};
 ghost use Rattle.std.specs.Prelude.{◌++◌, IsTrue, ◌↔◌, false, slice_get, true, ℕ};
@@ -8,12 +8,12 @@ ghost use Rattle.fault_model.specs.Fault.{Fault};
 ghost use Rattle.block_sim.specs.Parts.{Parts};
 ghost use Rattle.faultsim_c.specs.Calls.{job_of};
 ghost use Rattle.faultsim_c.specs.Circuits.{AreKindsOf, AreLevelsOf, AreRows, AreSitesOf, all_pins};
-ghost use Rattle.faultsim_c.specs.Circuits.{fan_in, gate_number, kind_number};
+ghost use Rattle.faultsim_c.specs.Circuits.{fan_in, fan_out, gate_number, kind_number};
 ghost use Rattle.faultsim_c.specs.Circuits.{site_of, site_on};
 
 use crate::handle::{FsJob, put, take};
 use crate::status::{DONE, NO_JOB, RANGE};
-use bench_net::{Circuit, Kind};
+use bench_net::{Circuit, Kind, Sink};
 use block_sim::Job;
 use fault_model::Line;
 use std::alloc::Global;
@@ -32,6 +32,16 @@ pub struct FsSite {
     pub pin: u32,
     /// 0 or 1. A transition fault is slow to leave the bit.
     pub stuck: u32,
+}
+
+/// A pin of a gate. Both numbers count from 0.
+#[repr(C)]
+#[derive(Clone, Copy)]
+pub struct FsPin {
+    /// The signal that the gate drives.
+    pub gate: u32,
+    /// The pin of the gate.
+    pub pin: u32,
 }
 
 /// The kind of a signal that no gate drives.
@@ -254,6 +264,94 @@ fn put_row(row: &[u32], place: usize, items: &mut [u32]) -> usize
     let (front, _) = back.split_at_mut(row.len());
     front.copy_from_slice(row);
     place + row.len()
+}
+
+/// Writes the fan-out of each signal: the pins of gates that read it, by the signal of the gate and
+/// then by pin. Those of signal `s` are `pins[starts[s]]` to before `pins[starts[s + 1]]`, and
+/// `wanted` is the number of all. The lengths are the number of signals and one more, and `wanted`.
+#[unsafe(no_mangle)]
+pub extern "C" fn fs_fan_outs_of(
+    alloc: Global,
+    job: &mut FsJob,
+    starts: &mut [u32],
+    pins: &mut [FsPin],
+    wanted: &mut usize,
+) -> u32
+    ensures done { (parts : Parts) → job_of job.old.held.holding ≡ Some parts
+        → length starts.old ≡ length (names parts.circuit) + 1
+        → length pins.old ≡ length (all_pins parts.circuit) → (result ≡ 0)
+        × AreRows (fan_out parts.circuit) (length (names parts.circuit)) starts.new pins.new }
+    ensures range { (parts : Parts) → job_of job.old.held.holding ≡ Some parts
+        → (length starts.old ≢ length (names parts.circuit) + 1)
+        ⊎ (length pins.old ≢ length (all_pins parts.circuit)) → result ≡ 4 }
+    ensures wanted { (parts : Parts) → job_of job.old.held.holding ≡ Some parts
+        → wanted.new ≡ length (all_pins parts.circuit) }
+    ensures no_job { job.old.held.holding ≡ None → (result ≡ 1) × (wanted.new ≡ wanted.old) }
+    ensures untouched { result ≢ 0 → (starts.new ≡ starts.old) × (pins.new ≡ pins.old) }
+    ensures kept { job.new.held.holding ≡ job.old.held.holding }
+{
+    let Some(holding) = take(alloc, job) else {
+        return NO_JOB;
+    };
+    let status = fan_outs_in(holding.session.job(), starts, pins, wanted);
+    put(alloc, job, holding);
+    status
+}
+
+/// Writes the fan-out of each signal of a job.
+fn fan_outs_in(job: &Job, starts: &mut [u32], pins: &mut [FsPin], wanted: &mut usize) -> u32
+    ensures done { length starts.old ≡ length (names job.now.circuit) + 1
+        → length pins.old ≡ length (all_pins job.now.circuit) → (result ≡ 0)
+        × AreRows (fan_out job.now.circuit) (length (names job.now.circuit)) starts.new pins.new }
+    ensures range { (length starts.old ≢ length (names job.now.circuit) + 1)
+        ⊎ (length pins.old ≢ length (all_pins job.now.circuit)) → result ≡ 4 }
+    ensures wanted { wanted.new ≡ length (all_pins job.now.circuit) }
+    ensures untouched { result ≢ 0 → (starts.new ≡ starts.old) × (pins.new ≡ pins.old) }
+{
+    let circuit = job.circuit();
+    *wanted = pin_count(circuit);
+    if starts.len() != circuit.signals() as usize + 1 || pins.len() != *wanted {
+        return RANGE;
+    }
+    fill_fan_outs(circuit, starts, pins);
+    DONE
+}
+
+/// Fills arrays with the fan-outs of all signals and their starts.
+fn fill_fan_outs(circuit: &Circuit, starts: &mut [u32], pins: &mut [FsPin])
+    requires starts { length starts.old ≡ length (names circuit.now) + 1 }
+    requires pins { length pins.old ≡ length (all_pins circuit.now) }
+    ensures { AreRows (fan_out circuit.now) (length (names circuit.now)) starts.new pins.new }
+{
+    let mut place = 0;
+    for signal in 0..circuit.signals() {
+        starts[signal as usize] = place as u32;
+        place = put_fan_out(circuit, signal, place, pins);
+    }
+    let end = circuit.signals() as usize;
+    starts[end] = place as u32;
+}
+
+/// Writes the fan-out of a signal into an array at a place, and returns the place after it.
+fn put_fan_out(circuit: &Circuit, signal: u32, place: usize, pins: &mut [FsPin]) -> usize
+    requires signal { signal < length (names circuit.now) }
+    requires room { place + length (fan_out circuit.now signal) ≤ length pins.old }
+    ensures after { result ≡ place + length (fan_out circuit.now signal) }
+    ensures long { length pins.new ≡ length pins.old }
+    ensures rows { take (place + length (fan_out circuit.now signal)) pins.new
+        ≡ take place pins.old ++ fan_out circuit.now signal }
+{
+    let _signals = circuit.signals();
+    let _name = circuit.name_of(signal);
+    let sinks = circuit.sinks_of(signal);
+    let mut next = place;
+    for sink in sinks {
+        if let Sink::Pin { gate, pin } = *sink {
+            pins[next] = FsPin { gate, pin };
+            next += 1;
+        }
+    }
+    next
 }
 
 /// Writes the number of the signal of a name. The status is 4 if no signal has the name.

@@ -540,6 +540,21 @@ class Job:
         check(status)
         return starts, pins
 
+    def fan_outs_of(self) -> tuple[Numbers, Numbers, Numbers]:
+        """The fan-out of each signal, the pins of gates that read it, by the number of the gate's
+        signal and then by pin: `starts`, an array of the shape (signals + 1,), and for each pin the
+        signal of its gate in `gates` and its number there in `pins`. Those of signal s are
+        `gates[starts[s]:starts[s + 1]]` and `pins[starts[s]:starts[s + 1]]`."""
+        wanted, starts, pins = ctypes.c_size_t(), _room(self.signals + 1, "I"), _room(0, "I")
+        for _ in range(2):
+            arrays = _address(starts), len(starts), _address(pins), len(pins) // 2
+            status = self._call(library.fs_fan_outs_of, *arrays, wanted)
+            if status != _library.RANGE or 2 * wanted.value == len(pins):
+                break
+            pins = _room(2 * wanted.value, "I")
+        check(status)
+        return starts, pins[0::2], pins[1::2]
+
     def sites_of(self) -> Numbers:
         """The site of each fault, as its kind (a number of `LineKind`), the number of its signal,
         gate, flip-flop or OUTPUT line, the pin of a gate, and the bit: an array of the shape

@@ -55,6 +55,12 @@ class FsFault(c.Structure):
     _fields_ = [("kind", c.c_uint32), ("place", c.c_uint64)]
 
 
+class FsPin(c.Structure):
+    """A pin of a gate: `struct fs_pin`."""
+
+    _fields_ = [("gate", c.c_uint32), ("pin", c.c_uint32)]
+
+
 class FsSite(c.Structure):
     """Where a fault is: `struct fs_site`."""
 
@@ -85,8 +91,8 @@ _U32, _SIZE = c.c_uint32, c.c_size_t
 # A text, or room for one; the address of an array of 32 or of 64 bits.
 _U8S, _CHARS, _U32S, _U64S = c.c_char_p, c.c_char_p, c.c_void_p, c.c_void_p
 _JOB, _SIZES, _FAULT = c.POINTER(FsJob), c.POINTER(FsSizes), c.POINTER(FsFault)
-# A site, and the address of an array of sites.
-_SITE, _SITES = c.POINTER(FsSite), c.c_void_p
+# A site, and the addresses of an array of sites and of an array of pins.
+_SITE, _SITES, _PINS = c.POINTER(FsSite), c.c_void_p, c.c_void_p
 _TO_U32, _TO_U64, _TO_SIZE = (c.POINTER(it) for it in (c.c_uint32, c.c_uint64, c.c_size_t))
 
 # Each function with its result and its parameters, as faultsim.h has them (contrib/check-bindings).
@@ -110,6 +116,7 @@ SIGNATURES = {
     "fs_kinds_of": (_U32, [_JOB, _U32S, _SIZE]),
     "fs_levels_of": (_U32, [_JOB, _U32S, _SIZE]),
     "fs_fan_ins_of": (_U32, [_JOB, _U32S, _SIZE, _U32S, _SIZE, _TO_SIZE]),
+    "fs_fan_outs_of": (_U32, [_JOB, _U32S, _SIZE, _PINS, _SIZE, _TO_SIZE]),
     "fs_sites_of": (_U32, [_JOB, _SITES, _SIZE]),
     "fs_fault_at": (_U32, [_JOB, _SITE, _TO_U32]),
     "fs_word": (_U32, [_JOB, _U32, _U32, _TO_U64]),
