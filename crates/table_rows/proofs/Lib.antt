@@ -1,2 +1,3 @@
+mod Records
 mod Texts
 mod Stretches

@@ -1,14 +1,14 @@
 -- The pieces of a text make the text.
 use Rattle.std.proofs.Common.{◌≡◌, ◌∙◌, ◌<◌, ◌*◌, ◌/◌, ◌%◌, ◌+◌, ℕ, List, [], ◌∷◌, ◌++◌, ap}
-use Rattle.std.proofs.Common.{arith, get_or, length, map, max, refl, subst, suc, sym, take, zero}
+use Rattle.std.proofs.Common.{append_assoc, arith, get_or, length, map, max, refl, subst, suc, sym}
+use Rattle.std.proofs.Common.{take, zero}
 use Rattle.std.specs.Prelude.{OnOk, Result, codes, decimal, zip}
-use Rattle.std.specs.List.{enumerate_from, flat_map}
+use Rattle.std.specs.List.{flat_map}
 use Rattle.std.proofs.Common.{Bor}
 use Rattle.std.proofs.lemmas.Fmt.{decimal_digit}
 use Rattle.std.proofs.lemmas.List.{get_or-map}
-use Rattle.std.proofs.lemmas.List.FromFn.{get_or-enumerate_from, length-enumerate_from}
 use Rattle.byte_output.proofs.Public.{flat_map_taken}
-use Rattle.table_rows.specs.Cells.{Cell, percent}
+use Rattle.table_rows.specs.Cells.{Cell, json_cell, percent}
 use Rattle.table_rows.specs.Table.{member}
 
 -- a percentage from its digits, given as texts
@@ -38,21 +38,24 @@ zipped (x ∷ xs) (y ∷ ys) (suc i) d l m =
     let p = zipped xs ys i d (omega (arith, l)) (omega (arith, m)) in (omega (arith, p.0), p.1)
 
 -- the member of the next place
-pub member_added : (names : List (List ℕ)) (cells : List Cell) (i : ℕ) (d : List ℕ) (e : Cell)
-    → i < length names → i < length cells
-    → flat_map member (take (i + 1) (enumerate_from 0 (zip names cells)))
-    ≡ flat_map member (take i (enumerate_from 0 (zip names cells)))
-    ++ member (i, (get_or names i d, get_or cells i e))
-member_added names cells i d e l m =
-    let pairs = zip names cells in
-    let at = zipped names cells i (d, e) l m in
-    let all = length-enumerate_from 0 pairs in
-    let own : get_or (enumerate_from 0 pairs) i (i, (d, e))
-    ≡ (i, (get_or names i d, get_or cells i e)) =
-    get_or-enumerate_from 0 pairs i (i, (d, e)) at.0
-    ∙ (ap (λ k. (k, get_or pairs i (d, e))) (omega arith) ∙ ap (λ p. (i, p)) at.1) in
-    flat_map_taken member (enumerate_from 0 pairs) i (i, (d, e)) _ (omega (arith, all, at.0))
-    (ap member (sym own))
+pub member_added : (keys : List (List ℕ)) (cells : List Cell) (i : ℕ) (d : List ℕ) (e : Cell)
+    → i < length keys → i < length cells
+    → flat_map member (take (i + 1) (zip keys cells))
+    ≡ flat_map member (take i (zip keys cells)) ++ (get_or keys i d ++ json_cell (get_or cells i e))
+member_added keys cells i d e l m =
+    let at = zipped keys cells i (d, e) l m in
+    flat_map_taken member (zip keys cells) i (d, e) _ at.0 (ap member (sym at.1))
+
+-- two texts, added in turn
+pub added_both : (old x y r s : List ℕ) → r ≡ old ++ x → s ≡ r ++ y → s ≡ old ++ (x ++ y)
+added_both old x y r s e f = f ∙ (ap (λ u. u ++ y) e ∙ append_assoc old x y)
+
+-- three texts, added in turn
+pub added_in_turn : (old x y z r s t : List ℕ) → r ≡ old ++ x → s ≡ r ++ y → t ≡ s ++ z
+    → t ≡ old ++ (x ++ (y ++ z))
+added_in_turn old x y z r s t e f g =
+    g ∙ (ap (λ u. u ++ z) (f ∙ ap (λ u. u ++ y) e)
+    ∙ (append_assoc (old ++ x) y z ∙ append_assoc old x (y ++ z)))
 
 -- a map of a map
 pub mapped_twice : {A B C : Type 0} (g : B → C) (f : A → B) (xs : List A)

@@ -1,5 +1,5 @@
 -- The bytes of a table.
-use Rattle.std.specs.Prelude.{ℕ, List, [], ◌∷◌, ◌++◌, ◌==◌, codes, if◌then◌else◌, map, zip}
+use Rattle.std.specs.Prelude.{ℕ, List, [], ◌++◌, ◌==◌, codes, if◌then◌else◌, map, zip}
 use Rattle.std.specs.Prelude.{get_or}
 use Rattle.std.specs.List.{enumerate_from, flat_map}
 use Rattle.csv.specs.Writing.{default_writer, row_text}
@@ -7,7 +7,7 @@ use Rattle.threaded_lines.specs.Texts.{joined}
 use Rattle.table_rows.specs.declared.rows.Format.{Format}
 use Rattle.table_rows.specs.declared.rows.Format.TheVariants.{Csv, Json}
 use Rattle.table_rows.specs.declared.rows.Heading.{Heading}
-use Rattle.table_rows.specs.Cells.{Cell, Empty, cell_in, csv_cell, json_cell}
+use Rattle.table_rows.specs.Cells.{Cell, cell_in, csv_cell, json_cell}
 
 -- what a table has beside its rows: the names of its columns, and for JSON the name of the array of
 -- the rows and the sums with their names
@@ -25,22 +25,31 @@ pub record Table : Type 0 where
 abbrev pub row_at : Table → ℕ → List Cell
 row_at table row = get_or table.rows row []
 
--- what stands before a member of a JSON object, and a member
+-- the comma before a member of a JSON object, or before an object; the first has none
 abbrev pub separator : ℕ → List ℕ
 separator place = if place == 0 then [] else codes ","
 
-abbrev pub member : ℕ × (List ℕ × Cell) → List ℕ
-member at = separator at.0
-    ++ (codes "\"" ++ (at.1.0 ++ (codes "\":" ++ json_cell at.1.1)))
+-- what stands before the value of each member of a JSON object with these names
+abbrev pub key : ℕ × List ℕ → List ℕ
+key at = separator at.0 ++ (codes "\"" ++ (at.1 ++ codes "\":"))
+
+abbrev pub keys : List (List ℕ) → List (List ℕ)
+keys names = map key (enumerate_from 0 names)
+
+-- a member: what stands before its value, and the value
+abbrev pub member : List ℕ × Cell → List ℕ
+member m = m.0 ++ json_cell m.1
+
+abbrev pub keyed_object : List (List ℕ) → List Cell → List ℕ
+keyed_object keys cells = codes "{" ++ (flat_map member (zip keys cells) ++ codes "}")
 
 -- the JSON object whose members have these names and values
 abbrev pub object : List (List ℕ) → List Cell → List ℕ
-object names cells = codes "{" ++ (flat_map member (enumerate_from 0 (zip names cells))
-    ++ codes "}")
+object names cells = keyed_object (keys names) cells
 
 -- what stands before a row in JSON: each is on a line of its own
 abbrev pub opening : ℕ → List ℕ
-opening row = if row == 0 then codes "\n" else codes ",\n"
+opening row = separator row ++ codes "\n"
 
 -- a row as a record, and as an object, by its number
 abbrev pub csv_row : List Cell → List ℕ

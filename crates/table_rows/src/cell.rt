@@ -1,8 +1,9 @@
 //! Cells.
 
-ghost use Rattle.std.specs.Prelude.{◌≡◌, ◌++◌, OnOk, map};
+ghost use Rattle.std.specs.Prelude.{◌≡◌, ◌++◌, OnOk, decimal, map};
 ghost use Rattle.std.specs.List.{flat_map};
 ghost use Rattle.table_rows.specs.Cells.{cell_in, number_cell, percent};
+ghost use Rattle.table_rows.specs.Table.{separator};
 
 use itoa::Buffer;
 use std::alloc::AllocError;
@@ -30,6 +31,25 @@ impl Cell<'_> {
             None => Cell::Empty,
         }
     }
+}
+
+/// Adds the comma before what stands at a place. There is none before the first.
+pub(crate) fn add_separator(text: &mut Vec<u8>, place: usize) -> Result<(), AllocError>
+    ensures { OnOk result (text.new.items ≡ text.old.items ++ separator place) }
+{
+    if place > 0 {
+        text.push(b',')?;
+    }
+    Ok(())
+}
+
+/// Adds a number.
+#[inline(always)]
+pub(crate) fn add_number(text: &mut Vec<u8>, number: u64) -> Result<(), AllocError>
+    ensures { OnOk result (text.new.items ≡ text.old.items ++ decimal number) }
+{
+    let mut buffer = Buffer::new();
+    text.extend_from_slice(buffer.format(number).as_bytes())
 }
 
 /// Adds a part of a whole in percent, rounded down to two decimals.
@@ -62,12 +82,10 @@ pub fn add_pieces(text: &mut Vec<u8>, pieces: &[&str]) -> Result<(), AllocError>
 }
 
 /// Adds cells.
+#[inline(always)]
 pub fn add_cells<'a>(cells: &mut Vec<Cell<'a>>, more: &[Cell<'a>]) -> Result<(), AllocError>
     ensures { OnOk result (map cell_in cells.new.items
         ≡ map cell_in cells.old.items ++ map cell_in more.now) }
 {
-    for cell in more {
-        cells.push(*cell)?;
-    }
-    Ok(())
+    cells.extend_from_slice(more)
 }

@@ -1,32 +1,32 @@
 //! Rows as comma-separated values (RFC 4180).
 
-ghost use Rattle.std.specs.Prelude.{◌≡◌, ◌≤◌, ◌++◌, ◌∷◌, [], ℕ, List, IfOk, OnOk, length, map};
-ghost use Rattle.csv.specs.Records.{fields_of, partial_of};
-ghost use Rattle.csv.specs.Writing.{default_writer, row_text};
+ghost use Rattle.std.specs.Prelude.{◌≡◌, ◌≤◌, ◌++◌, ◌∷◌, [], IfOk, OnOk, length, map};
+ghost use Rattle.csv.specs.Writing.{default_writer, escaped, field_text, needs_byte, needs_quotes};
+ghost use Rattle.csv.specs.Writing.{quoted, row_text};
 ghost use Rattle.threaded_lines.specs.Texts.{text_between};
 ghost use Rattle.table_rows.specs.Cells.{cell_in, csv_cell};
-ghost use Rattle.table_rows.specs.Records.{HasTaken};
 ghost use Rattle.table_rows.specs.Table.{csv_row, row_texts};
 ghost use Rattle.table_rows.specs.declared.rows.Format.TheVariants as format;
 
-use crate::cell::{Cell, add_percent};
+use crate::cell::{Cell, add_number, add_percent, add_pieces, add_separator};
 use crate::rows::Rows;
-use csv::{ByteRecord, Writer, WriterBuilder};
-use itoa::Buffer;
 use std::alloc::{AllocError, Global};
+
+/// The number of bytes for each record that a text gets room for at first. Most are shorter.
+const BYTES_OF_A_RECORD: usize = 48;
 
 /// Returns the header: the names of the columns.
 pub(crate) fn csv_header(alloc: Global, names: &[&str]) -> Result<Vec<u8>, AllocError>
     ensures { IfOk result (λ text. text.items
         ≡ row_text default_writer (map (λ name. name.now) names.now)) }
 {
-    let mut fields = ByteRecord::new(alloc);
+    let mut cells = Vec::new(alloc);
     for name in names {
-        fields.push_field(name.as_bytes())?;
+        cells.push(Cell::Words(name))?;
     }
-    let mut writer = WriterBuilder::new().from_writer(Vec::new(alloc));
-    put_record(&mut writer, &fields)?;
-    text_of(writer)
+    let mut text = Vec::new(alloc);
+    add_record(&mut text, &cells)?;
+    Ok(text)
 }
 
 /// Returns the records of the rows from one number up to another.
@@ -41,77 +41,96 @@ pub(crate) fn csv_stretch<T: Rows>(
     ensures { IfOk result (λ text. text.items
         ≡ text_between (row_texts format.Csv (T.table rows.now)) start end) }
 {
-    let mut writer = WriterBuilder::new().from_writer(Vec::new(alloc));
-    let mut fields = ByteRecord::new(alloc);
+    let mut text = Vec::with_capacity(alloc, BYTES_OF_A_RECORD.saturating_mul(end - start))?;
     let mut cells = Vec::new(alloc);
     for row in start..end {
         cells.clear();
         rows.put_row(row, &mut cells)?;
-        put_cells(alloc, &mut writer, &mut fields, &cells)?;
+        add_record(&mut text, &cells)?;
     }
-    text_of(writer)
+    Ok(text)
 }
 
-/// Writes the record of some cells. The record that is passed is used again.
-fn put_cells(
-    alloc: Global,
-    writer: &mut Writer<Vec<u8>>,
-    fields: &mut ByteRecord,
-    cells: &[Cell<'_>],
-) -> Result<(), AllocError>
-    ensures { (taken : List ℕ) → HasTaken writer.old taken
-        → OnOk result (HasTaken writer.new (taken ++ csv_row (map cell_in cells.now))) }
+/// Adds the record of some cells. In place of a record without a byte it adds two quotes.
+fn add_record(text: &mut Vec<u8>, cells: &[Cell<'_>]) -> Result<(), AllocError>
+    ensures { OnOk result (text.new.items ≡ text.old.items ++ csv_row (map cell_in cells.now)) }
 {
-    fields.clear();
-    for cell in cells {
-        push_cell(alloc, fields, *cell)?;
+    let before = text.len();
+    for place in 0..cells.len() {
+        add_separator(text, place)?;
+        add_field(text, cells[place])?;
     }
-    put_record(writer, fields)
+    if text.len() == before {
+        return add_pieces(text, &["\"\"\n"]);
+    }
+    text.push(b'\n')?;
+    Ok(())
 }
 
-/// Adds a cell to a record.
-fn push_cell(alloc: Global, fields: &mut ByteRecord, cell: Cell<'_>) -> Result<(), AllocError>
-    requires { partial_of fields.old ≡ [] }
-    ensures fields { OnOk result (fields_of fields.new
-        ≡ fields_of fields.old ++ csv_cell (cell_in cell.entry) ∷ []) }
-    ensures partial { OnOk result (partial_of fields.new ≡ []) }
+/// Adds the field of a cell. Numbers have no byte that needs quotes.
+fn add_field(text: &mut Vec<u8>, cell: Cell<'_>) -> Result<(), AllocError>
+    ensures { OnOk result (text.new.items
+        ≡ text.old.items ++ field_text default_writer (csv_cell (cell_in cell.entry))) }
 {
     match cell {
-        Cell::Empty => fields.push_field("".as_bytes()),
-        Cell::Number(number) => {
-            let mut buffer = Buffer::new();
-            fields.push_field(buffer.format(number).as_bytes())
-        }
-        Cell::Words(words) => fields.push_field(words.as_bytes()),
-        Cell::Percent { part, whole } => {
-            let mut text = Vec::new(alloc);
-            add_percent(&mut text, part, whole)?;
-            fields.push_field(&text)
-        }
+        Cell::Empty => Ok(()),
+        Cell::Number(number) => add_number(text, number),
+        Cell::Words(words) => add_words(text, words.as_bytes()),
+        Cell::Percent { part, whole } => add_percent(text, part, whole),
     }
 }
 
-/// Writes a record.
-fn put_record(writer: &mut Writer<Vec<u8>>, fields: &ByteRecord) -> Result<(), AllocError>
-    ensures { (taken : List ℕ) → HasTaken writer.old taken
-        → OnOk result (HasTaken writer.new
-        (taken ++ row_text default_writer (fields_of fields.now))) }
+/// Adds the field of some words.
+fn add_words(text: &mut Vec<u8>, words: &[u8]) -> Result<(), AllocError>
+    ensures { OnOk result (text.new.items
+        ≡ text.old.items ++ field_text default_writer words.now) }
 {
-    match writer.write_byte_record(fields) {
-        Ok(()) => Ok(()),
-        // A vector only refuses bytes if there is no memory.
-        Err(_) => Err(AllocError),
+    if needs_quotes(words) {
+        return add_quoted(text, words);
     }
+    text.extend_from_slice(words)
 }
 
-/// Returns the text that a writer has taken, between two records.
-fn text_of(writer: Writer<Vec<u8>>) -> Result<Vec<u8>, AllocError>
-    ensures { (taken : List ℕ) → HasTaken writer taken
-        → IfOk result (λ text. text.items ≡ taken) }
+/// Returns whether a field stands between quotes.
+fn needs_quotes(field: &[u8]) -> bool
+    ensures { result ≡ needs_quotes default_writer field.now }
 {
-    match writer.into_inner() {
-        Ok(text) => Ok(text),
-        // A vector only refuses bytes if there is no memory.
-        Err(_) => Err(AllocError),
+    for byte in field {
+        if is_special(*byte) {
+            return true;
+        }
     }
+    false
+}
+
+/// Returns whether a field with this byte stands between quotes.
+fn is_special(byte: u8) -> bool
+    ensures { result ≡ needs_byte default_writer byte }
+{
+    // Most bytes are above all of these.
+    byte <= b',' && (byte == b',' || byte == b'"' || byte == b'\r' || byte == b'\n')
+}
+
+/// Adds a field between quotes.
+fn add_quoted(text: &mut Vec<u8>, field: &[u8]) -> Result<(), AllocError>
+    ensures { OnOk result (text.new.items ≡ text.old.items ++ quoted default_writer field.now) }
+{
+    text.push(b'"')?;
+    for byte in field {
+        add_byte(text, *byte)?;
+    }
+    text.push(b'"')?;
+    Ok(())
+}
+
+/// Adds a byte that stands between quotes: a quote twice.
+fn add_byte(text: &mut Vec<u8>, byte: u8) -> Result<(), AllocError>
+    ensures { OnOk result (text.new.items
+        ≡ text.old.items ++ escaped default_writer (byte ∷ [])) }
+{
+    if byte == b'"' {
+        return add_pieces(text, &["\"\""]);
+    }
+    text.push(byte)?;
+    Ok(())
 }

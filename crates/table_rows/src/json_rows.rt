@@ -1,19 +1,20 @@
 //! Rows as JSON (RFC 8259).
 
-ghost use Rattle.std.specs.Prelude.{◌≡◌, ◌≤◌, ◌++◌, true, IfOk, OnOk, codes, length, map, zip};
+ghost use Rattle.std.specs.Prelude.{◌≡◌, ◌≤◌, ◌++◌, true, IfOk, OnOk, length, map};
 ghost use Rattle.json.specs.Print.{escape, quoted};
 ghost use Rattle.threaded_lines.specs.Texts.{text_between};
 ghost use Rattle.table_rows.specs.Cells.{cell_in, json_cell};
-ghost use Rattle.table_rows.specs.Table.{head_in, json_front, object, opening, row_texts};
-ghost use Rattle.table_rows.specs.Table.{separator};
+ghost use Rattle.table_rows.specs.Table.{head_in, json_front, keyed_object, keys, object, row_texts};
 ghost use Rattle.table_rows.specs.declared.rows.Format.TheVariants as format;
 
-use crate::cell::{Cell, add_percent, add_pieces};
+use crate::cell::{Cell, add_number, add_percent, add_pieces, add_separator};
 use crate::rows::{Heading, Rows};
-use itoa::Buffer;
 use json::Writer;
 use std::alloc::{AllocError, Global};
 use std::mem;
+
+/// The number of bytes for each row that a text gets room for at first. Most are shorter.
+const BYTES_OF_AN_OBJECT: usize = 112;
 
 /// Returns the object of a table up to its rows.
 pub(crate) fn json_header(alloc: Global, heading: Heading<'_>) -> Result<Vec<u8>, AllocError>
@@ -39,23 +40,17 @@ pub(crate) fn json_stretch<T: Rows>(
     ensures { IfOk result (λ text. text.items
         ≡ text_between (row_texts format.Json (T.table rows.now)) start end) }
 {
-    let columns = rows.heading().columns;
-    let mut text = Vec::new(alloc);
+    let keys = keys_of(alloc, rows.heading().columns)?;
+    let mut text = Vec::with_capacity(alloc, BYTES_OF_AN_OBJECT.saturating_mul(end - start))?;
     let mut cells = Vec::new(alloc);
     for row in start..end {
         cells.clear();
         rows.put_row(row, &mut cells)?;
-        add_pieces(&mut text, &[opening(row)])?;
-        add_object(alloc, &mut text, columns, &cells)?;
+        add_separator(&mut text, row)?;
+        text.push(b'\n')?;
+        add_members(alloc, &mut text, &keys, &cells)?;
     }
     Ok(text)
-}
-
-/// Returns what stands before a row.
-fn opening(row: usize) -> &'static str
-    ensures { result.now ≡ opening row }
-{
-    if row == 0 { "\n" } else { ",\n" }
 }
 
 /// Adds the object whose members have these names and values.
@@ -68,34 +63,42 @@ pub fn add_object(
     ensures { OnOk result (text.new.items ≡ text.old.items
         ++ object (map (λ name. name.now) names.now) (map cell_in cells.now)) }
 {
-    add_pieces(text, &["{"])?;
-    for place in 0..names.len().min(cells.len()) {
-        add_member(alloc, text, separator(place), names[place], cells[place])?;
-    }
-    add_pieces(text, &["}"])
+    let keys = keys_of(alloc, names)?;
+    add_members(alloc, text, &keys, cells)
 }
 
-/// Adds a member of an object, after what stands before it.
-fn add_member(
+/// Returns what stands before the value of each member of an object, from the names of the members.
+fn keys_of(alloc: Global, names: &[&str]) -> Result<Vec<Vec<u8>>, AllocError>
+    ensures { IfOk result (λ made. map (λ key. key.items) made.items
+        ≡ keys (map (λ name. name.now) names.now)) }
+{
+    let mut keys = Vec::with_capacity(alloc, names.len())?;
+    for place in 0..names.len() {
+        let mut key = Vec::new(alloc);
+        add_separator(&mut key, place)?;
+        add_pieces(&mut key, &["\"", names[place], "\":"])?;
+        keys.push(key)?;
+    }
+    Ok(keys)
+}
+
+/// Adds the object with these values, from what stands before each.
+fn add_members(
     alloc: Global,
     text: &mut Vec<u8>,
-    before: &'static str,
-    name: &str,
-    cell: Cell<'_>,
+    keys: &[Vec<u8>],
+    cells: &[Cell<'_>],
 ) -> Result<(), AllocError>
-    ensures { OnOk result (text.new.items ≡ text.old.items ++ (before.now
-        ++ (codes "\"" ++ (name.now ++ (codes "\":" ++ json_cell (cell_in cell.entry)))))) }
+    ensures { OnOk result (text.new.items ≡ text.old.items
+        ++ keyed_object (map (λ key. key.items) keys.now) (map cell_in cells.now)) }
 {
-    let pieces = [before, "\"", name, "\":"];
-    add_pieces(text, &pieces)?;
-    add_cell(alloc, text, cell)
-}
-
-/// Returns what stands before a member.
-fn separator(place: usize) -> &'static str
-    ensures { result.now ≡ separator place }
-{
-    if place == 0 { "" } else { "," }
+    text.push(b'{')?;
+    for place in 0..keys.len().min(cells.len()) {
+        text.extend_from_slice(&keys[place])?;
+        add_cell(alloc, text, cells[place])?;
+    }
+    text.push(b'}')?;
+    Ok(())
 }
 
 /// Adds the text of a cell.
@@ -103,12 +106,8 @@ fn add_cell(alloc: Global, text: &mut Vec<u8>, cell: Cell<'_>) -> Result<(), All
     ensures { OnOk result (text.new.items ≡ text.old.items ++ json_cell (cell_in cell.entry)) }
 {
     match cell {
-        Cell::Empty => add_pieces(text, &["null"]),
-        Cell::Number(number) => {
-            let mut buffer = Buffer::new();
-            let pieces = [buffer.format(number)];
-            add_pieces(text, &pieces)
-        }
+        Cell::Empty => text.extend_from_slice("null".as_bytes()),
+        Cell::Number(number) => add_number(text, number),
         Cell::Words(words) => add_quoted(alloc, text, words),
         Cell::Percent { part, whole } => add_percent(text, part, whole),
     }
@@ -119,7 +118,10 @@ fn add_quoted(alloc: Global, text: &mut Vec<u8>, words: &str) -> Result<(), Allo
     ensures { OnOk result (text.new.items ≡ text.old.items ++ quoted words.now) }
 {
     if is_plain(words.as_bytes()) {
-        return add_pieces(text, &["\"", words, "\""]);
+        text.push(b'"')?;
+        text.extend_from_slice(words.as_bytes())?;
+        text.push(b'"')?;
+        return Ok(());
     }
     add_escaped(alloc, text, words)
 }

@@ -19,6 +19,10 @@ use std::thread::{Promise, Threads};
 /// The least number of rows for which a thread starts.
 const ROWS_OF_A_THREAD: usize = 1 << 12;
 
+/// The greatest number of rows of a text if one thread makes the table. These take less than a
+/// megabyte, so they fit where other memory was freed.
+const ROWS_OF_A_TEXT: usize = 1 << 12;
+
 /// The greatest number of threads.
 const MAX_THREADS: usize = 64;
 
@@ -49,8 +53,14 @@ pub fn table_texts<T: Rows>(
     ensures { IfOk result (λ texts. flat_map (λ text. text.items) texts.items
         ≡ table_text format (T.table rows.now)) }
 {
+    let count = rows.count();
     let mut texts = Vec::new(alloc);
-    texts.push(stretch_text(alloc, rows, format, 0, rows.count())?)?;
+    let mut start = 0;
+    while start < count {
+        let end = start + ROWS_OF_A_TEXT.min(count - start);
+        texts.push(stretch_text(alloc, rows, format, start, end)?)?;
+        start = end;
+    }
     whole_table(alloc, rows, format, texts)
 }
 

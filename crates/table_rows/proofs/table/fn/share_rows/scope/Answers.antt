@@ -1,4 +1,4 @@
-use Rattle.std.proofs.Common.{◌≡◌, ◌<◌, ◌≤◌, ◌∙◌, ◌*◌, ◌+◌, ◌++◌, ◌∷◌, [], ℕ, Global, List, Vec, ap}
+use Rattle.std.proofs.Common.{◌≡◌, ◌<◌, ◌∙◌, ◌*◌, ◌+◌, ◌++◌, ◌∷◌, [], ℕ, Global, List, Vec, ap}
 use Rattle.std.proofs.Common.{arith, get_or, length, map, subst, sym, vec_len}
 use Rattle.std.proofs.Math.Nat.{add-mul}
 use Rattle.std.specs.Prelude.{Err, IfOk, Ok, Result, flat_map, min}
