@@ -37,6 +37,9 @@ static double now(void) {
 }
 
 static void set(void) { done(fs_set_words(&job, tests, words, n.sources, &fault)); }
+static void set_next(void) {
+    done(fs_next_words(&job, tests, words, n.sources, &fault));
+}
 static void simulate(void) { done(fs_simulate(&job, list, count, firsts, count)); }
 static void find_lanes(void) { done(fs_lanes(&job, 0, list, count, lanes, count)); }
 static void add_counts(void) { done(fs_count(&job, 0, list, count, 1000, firsts, count)); }
@@ -87,7 +90,8 @@ static uint32_t break_even(uint32_t most) {
 }
 
 static void time_all(uint32_t left) {
-    printf("64 tests: set %.0f, values %.0f\n", timed(set, ROUNDS), timed(values, ROUNDS));
+    printf("64 tests: set %.0f, values %.0f, ", timed(set, ROUNDS), timed(values, ROUNDS));
+    printf("set after the last test %.0f\n", timed(set_next, ROUNDS));
     uint32_t *classes = list;
     list = all;
     count = n.signals;
