@@ -15,7 +15,7 @@ use bench_net::{BenchFault, Circuit, Limit, LineError, Stated, read_bench, read_
 use indexmap::IndexSet;
 use std::alloc::{AllocError, Global};
 use std::fmt::Write;
-use text_lines::without_carriage_return;
+use text_lines::FileLines;
 
 /// The result of checking a bench file.
 #[derive(Drop)]
@@ -73,9 +73,9 @@ fn read_netlist<'a>(search: &mut Search<'a>) -> Result<Netlist<'a>, AllocError> 
     let text = search.text;
     let mut netlist = Netlist::new(search.alloc);
     let mut number: u64 = 0;
-    for line in text.split(|byte| *byte == b'\n') {
+    for line in FileLines::new(text) {
         number = number.saturating_add(1);
-        netlist.read(number, without_carriage_return(line), search)?;
+        netlist.read(number, line, search)?;
     }
     Ok(netlist)
 }

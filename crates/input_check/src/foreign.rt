@@ -1,6 +1,7 @@
 //! Files of other kinds, known by their first bytes.
 
 use std::fmt::{self, Display, Formatter};
+use text_lines::FileLines;
 
 /// A kind of file that is neither a bench file nor a test file.
 #[derive(Clone, Copy)]
@@ -43,7 +44,7 @@ pub fn foreign_kind(text: &[u8]) -> Option<Foreign> {
 
 /// Returns whether a text begins with a module of Verilog, after comments and directives.
 fn is_verilog(text: &[u8]) -> bool {
-    for line in text.split(|byte| *byte == b'\n') {
+    for line in FileLines::new(text) {
         match line.trim_ascii_start() {
             [] | [b'/', b'/' | b'*', ..] | [b'*', ..] | [b'(', b'*', ..] | [b'`', ..] => continue,
             first => return first.starts_with(b"module "),

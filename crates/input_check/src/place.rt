@@ -2,7 +2,7 @@
 
 use bench_net::{Front, next_token};
 use std::fmt::{self, Display, Formatter};
-use text_lines::without_carriage_return;
+use text_lines::FileLines;
 
 /// A place on a line.
 #[derive(Clone, Copy)]
@@ -98,9 +98,6 @@ pub(crate) fn word_place(line: &[u8], number: usize) -> Place {
 /// Returns the line of this number, from 1, of a file, without its end.
 pub(crate) fn line_at<'a>(text: &'a [u8], number: u64) -> &'a [u8] {
     let place = usize::try_from(number).unwrap_or(0);
-    let mut lines = text.split(|byte| *byte == b'\n');
-    match lines.nth(place.saturating_sub(1)) {
-        Some(line) => without_carriage_return(line),
-        None => &[],
-    }
+    let line = FileLines::new(text).nth(place.saturating_sub(1));
+    line.unwrap_or(&[])
 }
